@@ -1,0 +1,39 @@
+-- "The unlimited lists are those of the rules above for every code but kind 0, unread ones too, with no limit on matches or strings; the complete
+-- AllMatches of a selection is that of its last code."
+use Prim.Native.Nat.{ℕ}
+use mathlib.Core.List.{List, flatMap}
+use Rattle.model.specs.declared.Filter.{Filter}
+use Rattle.model.specs.declared.Filter.the-variants.{Ordered, Window, Distance, SameSentence, SameParagraph, DifferentSentence, DifferentParagraph, AtStart, AtEnd, EntireContent}
+use Rattle.model.specs.declared.Pair.{Pair}
+use Rattle.model.specs.declared.Pair.the-variants.{Or, And, MildNot}
+use Rattle.model.specs.Matches.{Match}
+use Rattle.model.specs.Rules.{phraseList, orList, andList, notList, mildNotList, ordered, window, distance, same, different, atStart, atEnd, entireContent}
+use Rattle.model.specs.Section.{Section}
+use Rattle.model.specs.Trees.{Tree, phrase, pair, negation, filter}
+
+abbrev pub pairList : Pair → List Match → List Match → List Match
+pairList Or = orList
+pairList And = andList
+pairList MildNot = mildNotList
+
+-- what a filter gives of one match
+abbrev pub filterMatch : Section → Filter → Match → List Match
+filterMatch s Ordered = ordered
+filterMatch s (Window n) = window n
+filterMatch s (Distance a b) = distance a b
+filterMatch s SameSentence = same (s .sentence)
+filterMatch s SameParagraph = same (s .paragraph)
+filterMatch s DifferentSentence = different (s .sentence)
+filterMatch s DifferentParagraph = different (s .paragraph)
+filterMatch s AtStart = atStart s
+filterMatch s AtEnd = atEnd s
+filterMatch s EntireContent = entireContent s
+
+unfoldable pub filterList : Section → Filter → List Match → List Match
+filterList s f ms = flatMap (filterMatch s f) ms
+
+unfoldable pub allMatches : Section → Tree → List Match
+allMatches s (phrase c rank ws) = phraseList s rank ws
+allMatches s (pair k c t u) = pairList k (allMatches s t) (allMatches s u)
+allMatches s (negation c t) = notList (allMatches s t)
+allMatches s (filter f c t) = filterList s f (allMatches s t)

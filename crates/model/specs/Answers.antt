@@ -1,0 +1,98 @@
+-- What each call returns and leaves, as a function of the lent slices' numbers and lengths.
+use Prim.Native.Nat.{ℕ, _+_, _*_, _-_}
+use mathlib.Core.Bool.{Bool, true, false, _&&_, cond}
+use mathlib.Core.List.{List, [], _∷_, _++_, map, flatMap}
+use mathlib.Core.Option.{Option, some, none, Option·map}
+use lib.Dec.{leb}
+use lib.ListN.{length, take, drop}
+use Rattle.model.specs.declared.Checked.{Checked}
+use Rattle.model.specs.declared.Checked.the-variants.{Accepted, Refused as CheckedRefused}
+use Rattle.model.specs.declared.Listing.{Listing}
+use Rattle.model.specs.declared.Listing.the-variants.{Listed, Refused as ListingRefused}
+use Rattle.model.specs.declared.Quick.{Quick}
+use Rattle.model.specs.declared.Quick.the-variants.{Answered, Refused as QuickRefused}
+use Rattle.model.specs.AllMatches.{allMatches}
+use Rattle.model.specs.Checks.{Refusal, refusal, otherwise, sectionRefusal, selectionRefusal, listingChecks, quickChecks}
+use Rattle.model.specs.Limits.{radix}
+use Rattle.model.specs.Matches.{Str, Match, hasFree, stringsIn, strings}
+use Rattle.model.specs.Section.{size, sectionOf}
+use Rattle.model.specs.Trees.{Tree, treeOf, parts}
+use Rattle.model.specs.Walk.{firstTooLong, walk}
+
+-- a refusal, or none, as the checks' answer
+abbrev pub checkedOf : Option Refusal → Checked
+checkedOf (some r) = CheckedRefused (r .number) (r .place)
+checkedOf none = Accepted
+
+-- The complete AllMatches of lent slices.
+abbrev pub completeList : List ℕ → List ℕ → List Match
+completeList section selection = allMatches (sectionOf section) (treeOf selection)
+
+-- The full listing: refusals 1 to 8, then 9 at "the first such code built", which for the listing is the first of all its codes.
+unfoldable pub listingRefusal : List ℕ → List ℕ → ℕ → ℕ → Option Refusal
+listingRefusal section selection work buffer =
+    let nine = Option·map (refusal 9) (firstTooLong (sectionOf section) (parts (treeOf selection))) in
+    otherwise (listingChecks section selection work buffer) nine
+
+-- "It answers M, S and yes or no, or a refusal with its place."
+abbrev pub listed : List Match → Listing
+listed ms = Listed (length ms) (strings ms) (hasFree ms)
+
+abbrev pub answerUnless : Option Refusal → List Match → Listing
+answerUnless (some r) ms = ListingRefused (r .number) (r .place)
+answerUnless none ms = listed ms
+
+unfoldable pub listingAnswer : List ℕ → List ℕ → ℕ → ℕ → Listing
+listingAnswer section selection work buffer =
+    let ms = completeList section selection in
+    answerUnless (listingRefusal section selection work buffer) ms
+
+-- "The buffer then holds M, S, the M string counts, then two parallel arrays of S: spans (start × 65,536 + end) and tags (query position × 4, plus
+-- 2 if contiguous, plus 1 if an exclude), includes before excludes in each match."
+abbrev pub spanOf : Str → ℕ
+spanOf s = s .start * radix + s .end
+
+-- sort: 0 for an include, 1 for an exclude
+abbrev pub tagOf : ℕ → Str → ℕ
+tagOf sort s = s .query * 4 + cond (s .contiguous) 2 0 + sort
+
+abbrev pub spansIn : Match → List ℕ
+spansIn m = map spanOf (m .includes) ++ map spanOf (m .excludes)
+
+abbrev pub tagsIn : Match → List ℕ
+tagsIn m = map (tagOf 0) (m .includes) ++ map (tagOf 1) (m .excludes)
+
+unfoldable pub listingNumbers : List Match → List ℕ
+listingNumbers ms = length ms ∷ strings ms ∷ (map stringsIn ms ++ flatMap spansIn ms ++ flatMap tagsIn ms)
+
+-- "The rest of it is unchanged." A refusal leaves all of it unchanged.
+abbrev pub bufferUnless : Option Refusal → List ℕ → List ℕ → List ℕ
+bufferUnless (some r) numbers buffer = buffer
+bufferUnless none numbers buffer = numbers ++ drop (length numbers) buffer
+
+unfoldable pub listingBuffer : List ℕ → List ℕ → ℕ → List ℕ → List ℕ
+listingBuffer section selection work buffer =
+    let numbers = listingNumbers (completeList section selection) in
+    bufferUnless (listingRefusal section selection work (length buffer)) numbers buffer
+
+-- The quick answer: refusals 1 to 8, then the walk.
+abbrev pub walkUnless : Option Refusal → Quick → Quick
+walkUnless (some r) walked = QuickRefused (r .number) (r .place)
+walkUnless none walked = walked
+
+unfoldable pub quickAnswer : List ℕ → List ℕ → ℕ → Quick
+quickAnswer section selection work =
+    let walked = walk (sectionOf section) (treeOf selection) in
+    walkUnless (quickChecks section selection work) walked
+
+-- "The snippet. Section, from, to: the word numbers of those positions, as a part of the lent section. An empty part if the section isn't accepted
+-- or 1 ≤ from ≤ to ≤ n fails."
+abbrev pub isAccepted : Option Refusal → Bool
+isAccepted (some r) = false
+isAccepted none = true
+
+unfoldable pub snippetOf : List ℕ → ℕ → ℕ → List ℕ
+snippetOf section from to =
+    cond (isAccepted (sectionRefusal section) && leb 1 from && leb from to && leb to (size section))
+    (take (to + 1 - from) (drop from section))
+    []

@@ -1,0 +1,125 @@
+-- "Refusals of the two calls": 1 to 8, "tried in this order, each over the whole input before the next".
+use Prim.Native.Nat.{ℕ, _-_, _/_, _%_}
+use mathlib.Core.Bool.{Bool, true, false, not, _&&_, _||_, cond, xor}
+use mathlib.Core.List.{List, [], _∷_}
+use mathlib.Core.Option.{Option, some, none, Option·map}
+use lib.Dec.{leb, ltb, eqb}
+use Rattle.model.specs.declared.Pair.{Pair}
+use Rattle.model.specs.declared.Pair.the-variants.{Or, And, MildNot}
+use Rattle.model.specs.Limits.{maxTokens, maxCodes, maxWaiting, maxWindow, maxDistance, workLength, bufferLength, radix}
+use Rattle.model.specs.Lists.{any, first, range}
+use Rattle.model.specs.Section.{size, wellSized, sentenceAt, paragraphAt}
+use Rattle.model.specs.Selection.{kindAt, operandAt, codesOf}
+use Rattle.model.specs.Waiting.{break}
+use Rattle.model.specs.Trees.{Tree, phrase, pair, negation, filter, placeOf, treeOf, parts}
+
+-- a refusal by number and place
+pub record Refusal : Type 0 where
+  pub number : ℕ
+  pub place : ℕ
+
+abbrev pub refusal : ℕ → ℕ → Refusal
+refusal number place = record { number = number; place = place }
+
+-- the first of two that refuses
+abbrev pub otherwise : Option Refusal → Option Refusal → Option Refusal
+otherwise (some r) later = some r
+otherwise none later = later
+
+-- A check of a lent slice has a refusal's number, and finds the place where the slice fails, if it does.
+pub record Check : Type 0 where
+  pub number : ℕ
+  pub fails : List ℕ → Option ℕ
+
+unfoldable pub tried : List Check → List ℕ → Option Refusal
+tried [] lent = none
+tried (c ∷ cs) lent = let later = tried cs lent in otherwise (Option·map (refusal (c .number)) (c .fails lent)) later
+
+-- 1, place 0: "section empty, n > 4,096, or length wrong"
+unfoldable pub wrongSection : List ℕ → Option ℕ
+wrongSection section = cond (wellSized 0 maxTokens section) none (some 0)
+
+-- 2, first faulty position: "In rule 2 a position is faulty if its sentence or its paragraph number is below that of the position before it, or
+-- just one of the two is zero." Position 1 has none before it.
+abbrev pub faultyIn : (ℕ → ℕ) → ℕ → Bool
+faultyIn unit p = ltb (unit p) (unit (p - 1)) || xor (eqb (unit p) 0) (eqb (unit (p - 1)) 0)
+
+unfoldable pub faultyAt : List ℕ → ℕ → Bool
+faultyAt section p = faultyIn (sentenceAt section) p || faultyIn (paragraphAt section) p
+
+unfoldable pub faultyPosition : List ℕ → Option ℕ
+faultyPosition section = first (faultyAt section) (range 2 (size section))
+
+-- 3, place 0: "selection empty, m not 1 to 64, or length wrong"
+unfoldable pub wrongSelection : List ℕ → Option ℕ
+wrongSelection selection = cond (wellSized 1 maxCodes selection) none (some 0)
+
+-- 4, first such code: "kind unknown"; "16 and up are unknown"
+unfoldable pub unknownKind : List ℕ → Option ℕ
+unknownKind selection = first (λ c. leb 16 (kindAt selection c)) (range 1 (size selection))
+
+-- 5, first such code: "operand outside the table"
+unfoldable pub operandFits : ℕ → ℕ → Bool
+operandFits kind operand =
+    cond (eqb kind 0) true
+    (cond (eqb kind 1) (leb 1 operand && leb operand maxWaiting)
+    (cond (eqb kind 7) (leb 1 operand && leb operand maxWindow)
+    (cond (eqb kind 8) (leb (operand / radix) (operand % radix) && leb (operand % radix) maxDistance)
+    (eqb operand 0))))
+
+unfoldable pub wrongOperand : List ℕ → Option ℕ
+wrongOperand selection = first (λ c. not (operandFits (kindAt selection c) (operandAt selection c))) (range 1 (size selection))
+
+-- 6, "first code breaking the waiting rule (m if only the end does)": "shape wrong"
+unfoldable pub wrongShape : List ℕ → Option ℕ
+wrongShape selection = break (codesOf selection)
+
+-- 7, the first such kind 5: "a not under a mild not"; "No kind 4 may stand in either side of a kind 5."
+abbrev pub isNot : Tree → Bool
+isNot (phrase c r ws) = false
+isNot (pair k c t u) = false
+isNot (negation c t) = true
+isNot (filter f c t) = false
+
+abbrev pub hasNot : Tree → Bool
+hasNot t = any isNot (parts t)
+
+abbrev pub mildOverNot : Tree → Bool
+mildOverNot (phrase c r ws) = false
+mildOverNot (pair Or c t u) = false
+mildOverNot (pair And c t u) = false
+mildOverNot (pair MildNot c t u) = hasNot t || hasNot u
+mildOverNot (negation c t) = false
+mildOverNot (filter f c t) = false
+
+unfoldable pub notUnderMildNot : List ℕ → Option ℕ
+notUnderMildNot selection = Option·map placeOf (first mildOverNot (parts (treeOf selection)))
+
+unfoldable pub sectionRefusal : List ℕ → Option Refusal
+sectionRefusal = tried (record { number = 1; fails = wrongSection } ∷ record { number = 2; fails = faultyPosition } ∷ [])
+
+unfoldable pub selectionRefusal : List ℕ → Option Refusal
+selectionRefusal =
+    tried
+    (record { number = 3; fails = wrongSelection }
+    ∷ record { number = 4; fails = unknownKind }
+    ∷ record { number = 5; fails = wrongOperand }
+    ∷ record { number = 6; fails = wrongShape }
+    ∷ record { number = 7; fails = notUnderMildNot }
+    ∷ [])
+
+-- 8, place 0: "a lent buffer too short"
+abbrev pub roomRefusal : Bool → Option Refusal
+roomRefusal enough = cond enough none (some (refusal 8 0))
+
+-- "Section and selection pass the checks where no refusal other than 8 falls on them before any list is built."
+unfoldable pub inputRefusal : List ℕ → List ℕ → Option Refusal
+inputRefusal section selection = let later = selectionRefusal selection in otherwise (sectionRefusal section) later
+
+-- "Takes section, selection, working memory (at least 12,800 u32) and a listing buffer (at least 1,282 u32)."
+unfoldable pub listingChecks : List ℕ → List ℕ → ℕ → ℕ → Option Refusal
+listingChecks section selection work buffer = otherwise (inputRefusal section selection) (roomRefusal (leb workLength work && leb bufferLength buffer))
+
+-- "Takes section, selection and working memory (at least 12,800 u32)."
+unfoldable pub quickChecks : List ℕ → List ℕ → ℕ → Option Refusal
+quickChecks section selection work = otherwise (inputRefusal section selection) (roomRefusal (leb workLength work))

@@ -1,0 +1,147 @@
+-- Document 01's starred examples, "proved of the definitions jointly, as entries of one list checked by one fact". Each is put to the calls'
+-- definitions as lent numbers, with everything that the paper says of it.
+use Prim.Native.Nat.{ℕ, _+_, _*_}
+use mathlib.Core.Path.{_≡_, refl}
+use mathlib.Core.Bool.{Bool, true, false, _&&_, Bool·beq, xor}
+use mathlib.Core.List.{List, [], _∷_, _++_, map, flatMap}
+use lib.Dec.{eqb}
+use lib.ListN.{length}
+use Rattle.model.specs.declared.Listing.{Listing}
+use Rattle.model.specs.declared.Listing.the-variants.{Listed, Refused as ListingRefused}
+use Rattle.model.specs.declared.Quick.{Quick}
+use Rattle.model.specs.declared.Quick.the-variants.{Answered, Refused as QuickRefused}
+use Rattle.model.specs.AllMatches.{filterList, allMatches}
+use Rattle.model.specs.Answers.{completeList, listingRefusal, listingAnswer, quickAnswer}
+use Rattle.model.specs.Checks.{tried, wrongSection, faultyAt, faultyPosition, wrongSelection, unknownKind, operandFits, wrongOperand, wrongShape, notUnderMildNot, sectionRefusal, selectionRefusal, inputRefusal, listingChecks, quickChecks}
+use Rattle.model.specs.Limits.{workLength, bufferLength, radix}
+use Rattle.model.specs.Lists.{all, any, isEmpty, keep, first, allPairs, neighbours, insert, sort, upFrom, range}
+use Rattle.model.specs.Matches.{Str, Match, strings}
+use Rattle.model.specs.Rules.{standFrom, phraseList, noStrings, andList, notList, mildNotList, ordered, leastStart, greatestEnd, join, windowEnds, window, distance, inUnitOf, same, different, atStart, atEnd, entireContent}
+use Rattle.model.specs.Section.{wellSized}
+use Rattle.model.specs.Selection.{upTo, codesOf}
+use Rattle.model.specs.Trees.{placeOf, combine, wrap, read, readAll, last, treeOf, parts}
+use Rattle.model.specs.Waiting.{breakFrom}
+use Rattle.model.specs.Walk.{firstTooLong, build, walk}
+
+-- What the paper says of a selection.
+pub data Claim : Type 0 where
+  hasMatches : ℕ → Claim
+  hasStrings : ℕ → Claim
+  lists : List Match → Claim
+  answers : Bool → Claim
+
+pub record Example : Type 0 where
+  pub section : List ℕ
+  pub selection : List ℕ
+  pub claims : List Claim
+
+-- ---- do the definitions say so?
+
+eachSame : {A : Type 0} → (A → A → Bool) → List A → List A → Bool
+eachSame same [] [] = true
+eachSame same [] (y ∷ ys) = false
+eachSame same (x ∷ xs) [] = false
+eachSame same (x ∷ xs) (y ∷ ys) = same x y && eachSame same xs ys
+
+sameStr : Str → Str → Bool
+sameStr s t = eqb (s .start) (t .start) && eqb (s .end) (t .end) && eqb (s .query) (t .query) && Bool·beq (s .contiguous) (t .contiguous)
+
+sameMatch : Match → Match → Bool
+sameMatch l m = eachSame sameStr (l .includes) (m .includes) && eachSame sameStr (l .excludes) (m .excludes)
+
+countsMatches : Listing → ℕ → Bool
+countsMatches (Listed m s y) m' = eqb m m'
+countsMatches (ListingRefused n c) m' = false
+
+countsStrings : Listing → ℕ → Bool
+countsStrings (Listed m s y) s' = eqb s s'
+countsStrings (ListingRefused n c) s' = false
+
+listingSays : Listing → Bool → Bool
+listingSays (Listed m s y) b = Bool·beq y b
+listingSays (ListingRefused n c) b = false
+
+quickSays : Quick → Bool → Bool
+quickSays (Answered y n) b = Bool·beq y b
+quickSays (QuickRefused n c) b = false
+
+holds : List ℕ → List ℕ → Claim → Bool
+holds section selection (hasMatches m) = countsMatches (listingAnswer section selection workLength bufferLength) m
+holds section selection (hasStrings s) = countsStrings (listingAnswer section selection workLength bufferLength) s
+holds section selection (lists ms) = eachSame sameMatch (completeList section selection) ms
+holds section selection (answers b) =
+    listingSays (listingAnswer section selection workLength bufferLength) b && quickSays (quickAnswer section selection workLength) b
+
+pub right : Example → Bool
+right e = all (holds (e .section) (e .selection)) (e .claims)
+
+-- ---- sections, selections and matches, as the paper writes them
+
+-- words with their sentence numbers, in one paragraph
+inParagraph : ℕ → List ℕ → List ℕ → List ℕ
+inParagraph paragraph words sentences = length words ∷ (words ++ map (λ s. paragraph * radix + s) sentences)
+
+select : List ℕ → List ℕ → List ℕ
+select kinds operands = length kinds ∷ (kinds ++ operands)
+
+-- +a-b q c: a match of one contiguous include; n: one that is not
+one : Bool → ℕ → ℕ → ℕ → Match
+one c q a b = record { includes = record { start = a; end = b; query = q; contiguous = c } ∷ []; excludes = [] }
+
+-- "Words 10 20 30 10 40 20; sentences 1 1 1 2 2 2; paragraph 1."
+six : List ℕ
+six = inParagraph 1 (10 ∷ 20 ∷ 30 ∷ 10 ∷ 40 ∷ 20 ∷ []) (1 ∷ 1 ∷ 1 ∷ 2 ∷ 2 ∷ 2 ∷ [])
+
+none' : List ℕ
+none' = 0 ∷ []
+
+-- "Words 1 2 3 4"
+four : List ℕ
+four = inParagraph 0 (1 ∷ 2 ∷ 3 ∷ 4 ∷ []) (0 ∷ 0 ∷ 0 ∷ 0 ∷ [])
+
+pub entries : List Example
+entries =
+    -- "10: spans 1-1, 4-4."
+    record { section = six; selection = select (0 ∷ 1 ∷ []) (10 ∷ 1 ∷ []); claims = lists (one true 1 1 1 ∷ one true 1 4 4 ∷ []) ∷ [] }
+    -- "10 and 20: four matches."
+    ∷ record { section = six; selection = select (0 ∷ 1 ∷ 0 ∷ 1 ∷ 3 ∷ []) (10 ∷ 1 ∷ 20 ∷ 1 ∷ 0 ∷ []); claims = hasMatches 4 ∷ [] }
+    -- "Ordered: three."
+    ∷ record { section = six; selection = select (0 ∷ 1 ∷ 0 ∷ 1 ∷ 3 ∷ 6 ∷ []) (10 ∷ 1 ∷ 20 ∷ 1 ∷ 0 ∷ 0 ∷ []); claims = hasMatches 3 ∷ [] }
+    -- "Distance 1 to 1: 2-4 and 4-6."
+    ∷ record { section = six; selection = select (0 ∷ 1 ∷ 0 ∷ 1 ∷ 3 ∷ 8 ∷ []) (10 ∷ 1 ∷ 20 ∷ 1 ∷ 0 ∷ (1 * radix + 1) ∷ []); claims = lists (one false 1 2 4 ∷ one false 1 4 6 ∷ []) ∷ [] }
+    -- "10 and not 40: no."
+    ∷ record { section = six; selection = select (0 ∷ 1 ∷ 0 ∷ 1 ∷ 4 ∷ 3 ∷ []) (10 ∷ 1 ∷ 40 ∷ 1 ∷ 0 ∷ 0 ∷ []); claims = answers false ∷ [] }
+    -- "The same in the same sentence: yes."
+    ∷ record { section = six; selection = select (0 ∷ 1 ∷ 0 ∷ 1 ∷ 4 ∷ 3 ∷ 9 ∷ []) (10 ∷ 1 ∷ 40 ∷ 1 ∷ 0 ∷ 0 ∷ 0 ∷ []); claims = answers true ∷ [] }
+    -- "not 99: one match without strings, yes."
+    ∷ record { section = six; selection = select (0 ∷ 1 ∷ 4 ∷ []) (99 ∷ 1 ∷ 0 ∷ []); claims = lists (noStrings ∷ []) ∷ answers true ∷ [] }
+    -- "not not 10: two matches."
+    ∷ record { section = six; selection = select (0 ∷ 1 ∷ 4 ∷ 4 ∷ []) (10 ∷ 1 ∷ 0 ∷ 0 ∷ []); claims = hasMatches 2 ∷ [] }
+    -- "not (10 and 20): 16 matches, 64 strings, no."
+    ∷ record { section = six; selection = select (0 ∷ 1 ∷ 0 ∷ 1 ∷ 3 ∷ 4 ∷ []) (10 ∷ 1 ∷ 20 ∷ 1 ∷ 0 ∷ 0 ∷ []); claims = hasMatches 16 ∷ hasStrings 64 ∷ answers false ∷ [] }
+    -- "10 mild not the phrase 10 20: only 4-4."
+    ∷ record { section = six; selection = select (0 ∷ 1 ∷ 0 ∷ 0 ∷ 1 ∷ 5 ∷ []) (10 ∷ 1 ∷ 10 ∷ 20 ∷ 2 ∷ 0 ∷ []); claims = lists (one true 1 4 4 ∷ []) ∷ [] }
+    -- "Empty section, not 10, entire content: yes; at start: no."
+    ∷ record { section = none'; selection = select (0 ∷ 1 ∷ 4 ∷ 15 ∷ []) (10 ∷ 1 ∷ 0 ∷ 0 ∷ []); claims = answers true ∷ [] }
+    ∷ record { section = none'; selection = select (0 ∷ 1 ∷ 4 ∷ 13 ∷ []) (10 ∷ 1 ∷ 0 ∷ 0 ∷ []); claims = answers false ∷ [] }
+    -- "Words 1 2 3 4: ((1 and 3) window 3) and ((2 and 4) window 3), entire content: no."
+    ∷ record {
+      section = four;
+      selection = select (0 ∷ 1 ∷ 0 ∷ 1 ∷ 3 ∷ 7 ∷ 0 ∷ 1 ∷ 0 ∷ 1 ∷ 3 ∷ 7 ∷ 3 ∷ 15 ∷ []) (1 ∷ 1 ∷ 3 ∷ 1 ∷ 0 ∷ 3 ∷ 2 ∷ 1 ∷ 4 ∷ 1 ∷ 0 ∷ 3 ∷ 0 ∷ 0 ∷ []);
+      claims = answers false ∷ [];
+    }
+    -- "For 10 and 20, window 3 (kinds 0 1 0 1 3 7, operands 10 1 20 1 0 3)": "yes 4 4", and a line a match
+    ∷ record {
+      section = six;
+      selection = select (0 ∷ 1 ∷ 0 ∷ 1 ∷ 3 ∷ 7 ∷ []) (10 ∷ 1 ∷ 20 ∷ 1 ∷ 0 ∷ 3 ∷ []);
+      claims = answers true ∷ hasMatches 4 ∷ hasStrings 4 ∷ lists (one true 1 1 2 ∷ one true 1 1 2 ∷ one false 1 2 4 ∷ one false 1 4 6 ∷ []) ∷ [];
+    }
+    ∷ []
+
+pub examples-hold : all right entries ≡ true
+unfolding eachSame sameStr sameMatch countsMatches countsStrings listingSays quickSays holds right inParagraph select one six none' four entries
+    xor all any isEmpty keep first allPairs neighbours insert sort upFrom range flatMap wellSized upTo codesOf breakFrom placeOf combine wrap read readAll last treeOf parts strings
+    standFrom phraseList andList notList mildNotList ordered leastStart greatestEnd join windowEnds window distance inUnitOf same different atStart atEnd entireContent filterList allMatches
+    tried wrongSection faultyAt faultyPosition wrongSelection unknownKind operandFits wrongOperand wrongShape notUnderMildNot sectionRefusal selectionRefusal inputRefusal listingChecks quickChecks
+    firstTooLong build walk listingRefusal listingAnswer quickAnswer
+examples-hold = refl

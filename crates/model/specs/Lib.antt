@@ -1,0 +1,13 @@
+pub mod Limits
+pub mod Lists
+pub mod Section
+pub mod Selection
+pub mod Waiting
+pub mod Trees
+pub mod Matches
+pub mod Rules
+pub mod AllMatches
+pub mod Checks
+pub mod Walk
+pub mod Answers
+pub mod Examples

@@ -1,0 +1,40 @@
+-- Document 01's limits, with the sentence that sets each. src/lib.rt has the same numbers for the code.
+use Prim.Native.Nat.{ℕ}
+
+-- "A section is n (0 to 4,096)"
+abbrev pub maxTokens : ℕ
+maxTokens = 4096
+
+-- "A selection is m (1 to 64)"
+abbrev pub maxCodes : ℕ
+maxCodes = 64
+
+-- "k, 1 to 8"; "Kind 0 needs p < 8 .. Kind 1 needs p = k and w < 8": the words of a phrase, the loose words and the lists that may wait
+abbrev pub maxWaiting : ℕ
+maxWaiting = 8
+
+-- "N, 1 to 4,096"
+abbrev pub maxWindow : ℕ
+maxWindow = 4096
+
+-- "a ≤ b ≤ 4,095"
+abbrev pub maxDistance : ℕ
+maxDistance = 4095
+
+-- "its list has over 256 matches or 512 strings"
+abbrev pub maxMatches : ℕ
+maxMatches = 256
+
+abbrev pub maxStrings : ℕ
+maxStrings = 512
+
+-- "working memory (at least 12,800 u32) and a listing buffer (at least 1,282 u32)"
+abbrev pub workLength : ℕ
+workLength = 12800
+
+abbrev pub bufferLength : ℕ
+bufferLength = 1282
+
+-- "A place is paragraph × 65,536 + sentence"; a span and the operand of kind 8 hold two numbers in the same way
+abbrev pub radix : ℕ
+radix = 65536

@@ -1,0 +1,56 @@
+-- Functions on lists that the definitions use. What the library has (map, flatMap, take, drop) is the library's.
+use Prim.Native.Nat.{ℕ, zero, suc, _+_, _-_}
+use mathlib.Core.Bool.{Bool, true, false, _&&_, _||_, cond}
+use mathlib.Core.List.{List, [], _∷_}
+use mathlib.Core.Option.{Option, some, none}
+
+module _ {A : Type 0} where
+  unfoldable pub all : (A → Bool) → List A → Bool
+  all p [] = true
+  all p (x ∷ xs) = p x && all p xs
+
+  unfoldable pub any : (A → Bool) → List A → Bool
+  any p [] = false
+  any p (x ∷ xs) = p x || any p xs
+
+  unfoldable pub isEmpty : List A → Bool
+  isEmpty [] = true
+  isEmpty (x ∷ xs) = false
+
+  -- the elements that pass, in order
+  unfoldable pub keep : (A → Bool) → List A → List A
+  keep p [] = []
+  keep p (x ∷ xs) = cond (p x) (x ∷ keep p xs) (keep p xs)
+
+  -- the first element that passes
+  unfoldable pub first : (A → Bool) → List A → Option A
+  first p [] = none
+  first p (x ∷ xs) = let later = first p xs in cond (p x) (some x) later
+
+  -- every pair of an earlier and a later element
+  unfoldable pub allPairs : (A → A → Bool) → List A → Bool
+  allPairs r [] = true
+  allPairs r (x ∷ xs) = all (r x) xs && allPairs r xs
+
+  -- each element and the next
+  unfoldable pub neighbours : (A → A → Bool) → List A → Bool
+  neighbours r [] = true
+  neighbours r (x ∷ []) = true
+  neighbours r (x ∷ y ∷ ys) = r x y && neighbours r (y ∷ ys)
+
+  unfoldable pub insert : (A → A → Bool) → A → List A → List A
+  insert le x [] = x ∷ []
+  insert le x (y ∷ ys) = cond (le x y) (x ∷ y ∷ ys) (y ∷ insert le x ys)
+
+  unfoldable pub sort : (A → A → Bool) → List A → List A
+  sort le [] = []
+  sort le (x ∷ xs) = insert le x (sort le xs)
+
+-- n numbers, rising from a
+unfoldable pub upFrom : ℕ → ℕ → List ℕ
+upFrom a zero = []
+upFrom a (suc n) = a ∷ upFrom (a + 1) n
+
+-- the numbers from a to b; none where b is below a
+unfoldable pub range : ℕ → ℕ → List ℕ
+range a b = upFrom a (b + 1 - a)

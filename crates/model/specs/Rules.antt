@@ -1,0 +1,190 @@
+-- "The lists", rule by rule in document 01's order. L is the left list, R the right. No rule knows a limit.
+use Prim.Native.Nat.{ℕ, _+_, _-_, min, max}
+use mathlib.Core.Bool.{Bool, true, false, not, _&&_, _||_, cond}
+use mathlib.Core.List.{List, [], _∷_, _++_, map, flatMap}
+use lib.Dec.{leb, ltb, eqb}
+use lib.ListN.{length}
+use Rattle.model.specs.Lists.{all, any, keep, allPairs, neighbours, sort, range}
+use Rattle.model.specs.Matches.{Str, Match}
+use Rattle.model.specs.Section.{Section}
+
+-- Phrase: "one match per start where the k words stand in a row, ascending, holding one contiguous include. Its query position is its rank"
+
+unfoldable pub standFrom : Section → List ℕ → ℕ → Bool
+standFrom s [] p = true
+standFrom s (w ∷ ws) p = leb p (s .tokens) && eqb (s .word p) w && standFrom s ws (p + 1)
+
+abbrev pub found : ℕ → ℕ → ℕ → Match
+found rank k p = record { includes = record { start = p; end = p + k - 1; query = rank; contiguous = true } ∷ []; excludes = [] }
+
+unfoldable pub phraseList : Section → ℕ → List ℕ → List Match
+phraseList s rank ws = map (found rank (length ws)) (keep (standFrom s ws) (range 1 (s .tokens)))
+
+-- Or: "L's matches, then R's."
+
+abbrev pub orList : List Match → List Match → List Match
+orList ls rs = ls ++ rs
+
+-- And: "for each of L, for each of R, includes joined left then right, excludes likewise."
+
+abbrev pub joined : Match → Match → Match
+joined l r = record { includes = l .includes ++ r .includes; excludes = l .excludes ++ r .excludes }
+
+unfoldable pub andList : List Match → List Match → List Match
+andList ls rs = flatMap (λ l. map (joined l) rs) ls
+
+-- Not: "of an empty list: one match with no strings. Otherwise, for each string of the first match (includes, then excludes), for each match
+-- of the not of the remaining list: that string turned to the other sort and put ahead in its list."
+
+abbrev pub noStrings : Match
+noStrings = record { includes = []; excludes = [] }
+
+abbrev pub withInclude : Str → Match → Match
+withInclude s m = record { includes = s ∷ m .includes; excludes = m .excludes }
+
+abbrev pub withExclude : Str → Match → Match
+withExclude s m = record { includes = m .includes; excludes = s ∷ m .excludes }
+
+unfoldable pub notList : List Match → List Match
+notList [] = noStrings ∷ []
+notList (m ∷ ms) =
+    flatMap (λ s. map (withExclude s) (notList ms)) (m .includes) ++ flatMap (λ s. map (withInclude s) (notList ms)) (m .excludes)
+
+-- Mild not: "L's matches in which, for every match of R, some position covered by an include isn't covered by R's includes."
+
+abbrev pub covers : Str → ℕ → Bool
+covers s p = leb (s .start) p && leb p (s .end)
+
+abbrev pub covered : List Str → ℕ → Bool
+covered ss p = any (λ s. covers s p) ss
+
+abbrev pub positions : Str → List ℕ
+positions s = range (s .start) (s .end)
+
+abbrev pub reachesBeyond : Match → Match → Bool
+reachesBeyond l r = any (λ s. any (λ p. not (covered (r .includes) p)) (positions s)) (l .includes)
+
+unfoldable pub mildNotList : List Match → List Match → List Match
+mildNotList ls rs = keep (λ l. all (reachesBeyond l) rs) ls
+
+-- A filter works on one match: the matches that it gives, in order.
+
+abbrev pub keptIf : Bool → Match → List Match
+keptIf test m = cond test (m ∷ []) []
+
+-- Ordered: "two strings agree if start and query position both do not fall, or both do not rise, from one to the other. Kept if all pairs of
+-- includes agree; an exclude stays if it agrees with every include."
+
+abbrev pub agree : Str → Str → Bool
+agree a b = leb (a .start) (b .start) && leb (a .query) (b .query) || leb (b .start) (a .start) && leb (b .query) (a .query)
+
+unfoldable pub ordered : Match → List Match
+ordered m = keptIf (allPairs agree (m .includes)) (record { includes = m .includes; excludes = keep (λ e. all (agree e) (m .includes)) (m .excludes) })
+
+-- Join: "no includes give none. Otherwise one include from least start to greatest end, with the first include's query position; contiguous if
+-- every position in it is covered and all were contiguous."
+
+unfoldable pub leastStart : Str → List Str → ℕ
+leastStart s [] = s .start
+leastStart s (t ∷ ts) = min (s .start) (leastStart t ts)
+
+unfoldable pub greatestEnd : Str → List Str → ℕ
+greatestEnd s [] = s .end
+greatestEnd s (t ∷ ts) = max (s .end) (greatestEnd t ts)
+
+unfoldable pub join : List Str → List Str
+join [] = []
+join (s ∷ ss) =
+    record {
+      start = leastStart s ss;
+      end = greatestEnd s ss;
+      query = s .query;
+      contiguous = all (covered (s ∷ ss)) (range (leastStart s ss) (greatestEnd s ss)) && all (λ t. t .contiguous) (s ∷ ss);
+    } ∷ []
+
+-- Window: "for each match with includes and each W from (greatest end − N + 1) up to least start, one match: the join, and the excludes inside
+-- W to W + N − 1. W may be zero or negative. Equal copies are all listed. A match without includes is dropped."
+-- W to W + N − 1 is named here by its last position, W + N − 1, which is never negative: it runs from greatest end up to least start + N − 1.
+
+abbrev pub insideWindow : ℕ → ℕ → Str → Bool
+insideWindow n last e = ltb last (e .start + n) && leb (e .end) last
+
+abbrev pub windowTo : ℕ → Match → ℕ → Match
+windowTo n m last = record { includes = join (m .includes); excludes = keep (insideWindow n last) (m .excludes) }
+
+unfoldable pub windowEnds : ℕ → List Str → List ℕ
+windowEnds n [] = []
+windowEnds n (s ∷ ss) = range (greatestEnd s ss) (leastStart s ss + n - 1)
+
+unfoldable pub window : ℕ → Match → List Match
+window n m = map (windowTo n m) (windowEnds n (m .includes))
+
+-- Distance "of two spans, sorted by start then end: second start − first end − 1, or 0 where that is negative. Kept if all neighbours among the
+-- sorted includes lie in a to b; the result holds the join and the excludes whose distance to every include lies in a to b. Zero or one include
+-- passes."
+
+abbrev pub notAfter : Str → Str → Bool
+notAfter s t = ltb (s .start) (t .start) || eqb (s .start) (t .start) && leb (s .end) (t .end)
+
+abbrev pub between : Str → Str → ℕ
+between s t = t .start - s .end - 1
+
+abbrev pub distanceOf : Str → Str → ℕ
+distanceOf s t = cond (notAfter s t) (between s t) (between t s)
+
+abbrev pub within : ℕ → ℕ → ℕ → Bool
+within a b d = leb a d && leb d b
+
+unfoldable pub distance : ℕ → ℕ → Match → List Match
+distance a b m =
+    keptIf (neighbours (λ s t. within a b (distanceOf s t)) (sort notAfter (m .includes)))
+    (record { includes = join (m .includes); excludes = keep (λ e. all (λ s. within a b (distanceOf e s)) (m .includes)) (m .excludes) })
+
+-- "A sentence or paragraph of a span's start or end is that of the token there." A unit is either, as the number at a position.
+
+abbrev pub inUnit : (ℕ → ℕ) → ℕ → Str → Bool
+inUnit unit u s = not (eqb u 0) && eqb (unit (s .start)) u && eqb (unit (s .end)) u
+
+-- Same: "kept if each include starts and ends in one nonzero unit, the same for all (none passes). An exclude stays if it does so in the
+-- includes' unit; without includes, in any one nonzero unit."
+
+abbrev pub inOneUnit : (ℕ → ℕ) → Str → Bool
+inOneUnit unit s = inUnit unit (unit (s .start)) s
+
+-- the unit that an exclude is held to, as a test
+unfoldable pub inUnitOf : (ℕ → ℕ) → List Str → Str → Bool
+inUnitOf unit [] = inOneUnit unit
+inUnitOf unit (s ∷ ss) = inUnit unit (unit (s .start))
+
+unfoldable pub same : (ℕ → ℕ) → Match → List Match
+same unit m = keptIf (all (inUnitOf unit (m .includes)) (m .includes)) (record { includes = m .includes; excludes = keep (inUnitOf unit (m .includes)) (m .excludes) })
+
+-- Different: "at least two includes, all units nonzero, and no two includes' unit ranges overlapping. An exclude stays if its units are nonzero
+-- and overlap no include's."
+
+abbrev pub hasUnits : (ℕ → ℕ) → Str → Bool
+hasUnits unit s = not (eqb (unit (s .start)) 0) && not (eqb (unit (s .end)) 0)
+
+abbrev pub apart : (ℕ → ℕ) → Str → Str → Bool
+apart unit s t = ltb (unit (s .end)) (unit (t .start)) || ltb (unit (t .end)) (unit (s .start))
+
+unfoldable pub different : (ℕ → ℕ) → Match → List Match
+different unit m =
+    keptIf (leb 2 (length (m .includes)) && all (hasUnits unit) (m .includes) && allPairs (apart unit) (m .includes))
+    (record { includes = m .includes; excludes = keep (λ e. hasUnits unit e && all (apart unit e) (m .includes)) (m .excludes) })
+
+-- "At start, at end: some include covers position 1, or n. With n = 0 none does."
+
+abbrev pub atPosition : Section → ℕ → Match → List Match
+atPosition s p m = keptIf (leb 1 (s .tokens) && covered (m .includes) p) m
+
+unfoldable pub atStart : Section → Match → List Match
+atStart s m = atPosition s 1 m
+
+unfoldable pub atEnd : Section → Match → List Match
+atEnd s m = atPosition s (s .tokens) m
+
+-- "Entire content: every position 1 to n is covered by some contiguous include."
+
+unfoldable pub entireContent : Section → Match → List Match
+entireContent s m = keptIf (all (covered (keep (λ i. i .contiguous) (m .includes))) (range 1 (s .tokens))) m

@@ -1,0 +1,95 @@
+-- "A selection is m (1 to 64), m kinds, m operands, in postfix order. Length is 1 + 2m." Its numbers as codes.
+use Prim.Native.Nat.{ℕ, zero, suc, _+_, _*_, _/_, _%_}
+use mathlib.Core.Bool.{Bool, cond}
+use mathlib.Core.List.{List, [], _∷_, _++_}
+use lib.Dec.{leb, eqb}
+use Rattle.model.specs.declared.Code.{Code}
+use Rattle.model.specs.declared.Code.the-variants.{Word, Phrase, Combine, Not, Filter as Filtered}
+use Rattle.model.specs.declared.Filter.{Filter}
+use Rattle.model.specs.declared.Filter.the-variants.{Ordered, Window, Distance, SameSentence, SameParagraph, DifferentSentence, DifferentParagraph, AtStart, AtEnd, EntireContent}
+use Rattle.model.specs.declared.Pair.{Pair}
+use Rattle.model.specs.declared.Pair.the-variants.{Or, And, MildNot}
+use Rattle.model.specs.Limits.{radix}
+use Rattle.model.specs.Section.{size, firstAt, secondAt}
+
+-- "codes count from 1"
+abbrev pub kindAt : List ℕ → ℕ → ℕ
+kindAt selection c = firstAt selection c
+
+abbrev pub operandAt : List ℕ → ℕ → ℕ
+operandAt selection c = secondAt selection c
+
+-- The table of kinds: the kind number and the operand of each code.
+abbrev pub filterKind : Filter → ℕ
+filterKind Ordered = 6
+filterKind (Window n) = 7
+filterKind (Distance a b) = 8
+filterKind SameSentence = 9
+filterKind SameParagraph = 10
+filterKind DifferentSentence = 11
+filterKind DifferentParagraph = 12
+filterKind AtStart = 13
+filterKind AtEnd = 14
+filterKind EntireContent = 15
+
+abbrev pub filterOperand : Filter → ℕ
+filterOperand Ordered = 0
+filterOperand (Window n) = n
+filterOperand (Distance a b) = a * radix + b
+filterOperand SameSentence = 0
+filterOperand SameParagraph = 0
+filterOperand DifferentSentence = 0
+filterOperand DifferentParagraph = 0
+filterOperand AtStart = 0
+filterOperand AtEnd = 0
+filterOperand EntireContent = 0
+
+abbrev pub kindOf : Code → ℕ
+kindOf (Word w) = 0
+kindOf (Phrase k) = 1
+kindOf (Combine Or) = 2
+kindOf (Combine And) = 3
+kindOf Not = 4
+kindOf (Combine MildNot) = 5
+kindOf (Filtered f) = filterKind f
+
+abbrev pub operandOf : Code → ℕ
+operandOf (Word w) = w
+operandOf (Phrase k) = k
+operandOf (Combine k) = 0
+operandOf Not = 0
+operandOf (Filtered f) = filterOperand f
+
+-- And back: "Kinds 0 and 1 are words, 2 to 5 combine, 6 to 15 filter". Kinds 16 and up are refused before their code is asked for.
+abbrev pub filterOf : ℕ → ℕ → Filter
+filterOf kind operand =
+    cond (eqb kind 6) Ordered
+    (cond (eqb kind 7) (Window operand)
+    (cond (eqb kind 8) (Distance (operand / radix) (operand % radix))
+    (cond (eqb kind 9) SameSentence
+    (cond (eqb kind 10) SameParagraph
+    (cond (eqb kind 11) DifferentSentence
+    (cond (eqb kind 12) DifferentParagraph
+    (cond (eqb kind 13) AtStart
+    (cond (eqb kind 14) AtEnd EntireContent))))))))
+
+abbrev pub codeOf : ℕ → ℕ → Code
+codeOf kind operand =
+    cond (eqb kind 0) (Word operand)
+    (cond (eqb kind 1) (Phrase operand)
+    (cond (eqb kind 2) (Combine Or)
+    (cond (eqb kind 3) (Combine And)
+    (cond (eqb kind 4) Not
+    (cond (eqb kind 5) (Combine MildNot)
+    (Filtered (filterOf kind operand)))))))
+
+abbrev pub codeAt : List ℕ → ℕ → Code
+codeAt selection c = codeOf (kindAt selection c) (operandAt selection c)
+
+-- the first n codes of a row of codes
+unfoldable pub upTo : (ℕ → Code) → ℕ → List Code
+upTo at zero = []
+upTo at (suc n) = upTo at n ++ at (suc n) ∷ []
+
+unfoldable pub codesOf : List ℕ → List Code
+codesOf selection = upTo (codeAt selection) (size selection)

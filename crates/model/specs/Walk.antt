@@ -1,0 +1,91 @@
+-- "The quick answer": its walk from the last code.
+use Prim.Native.Nat.{ℕ, _+_}
+use mathlib.Core.Bool.{Bool, true, false, not, _&&_, _||_, cond}
+use mathlib.Core.List.{List, [], _∷_, _++_}
+use mathlib.Core.Option.{Option, some, none, Option·map}
+use lib.Dec.{leb}
+use lib.ListN.{length}
+use Rattle.model.specs.declared.Pair.{Pair}
+use Rattle.model.specs.declared.Pair.the-variants.{Or, And, MildNot}
+use Rattle.model.specs.declared.Quick.{Quick}
+use Rattle.model.specs.declared.Quick.the-variants.{Answered, Refused}
+use Rattle.model.specs.AllMatches.{allMatches}
+use Rattle.model.specs.Lists.{first, isEmpty, keep, range}
+use Rattle.model.specs.Matches.{hasFree, tooLong}
+use Rattle.model.specs.Rules.{phraseList}
+use Rattle.model.specs.Section.{Section, size}
+use Rattle.model.specs.Selection.{kindAt}
+use Rattle.model.specs.Trees.{Tree, phrase, pair, negation, filter, placeOf, parts}
+
+-- 9, "the first such code built": "its list has over 256 matches or 512 strings". "Building makes one list for each code of the part but kind 0,
+-- in postfix order; a list is measured complete, and the steps inside a rule are not."
+unfoldable pub firstTooLong : Section → List Tree → Option ℕ
+firstTooLong s built = Option·map placeOf (first (λ t. tooLong (allMatches s t)) built)
+
+-- "At kinds 5 to 15 it builds that code's whole part by the rules above, left to right, and looks for a match without excludes." "a built part,
+-- which is its code and every code below it, counts all its codes but those of kind 0."
+abbrev pub unlessTooLong : Option ℕ → Bool → ℕ → Quick
+unlessTooLong (some place) answer codes = Refused 9 place
+unlessTooLong none answer codes = Answered answer codes
+
+unfoldable pub build : Section → Tree → Quick
+build s t = unlessTooLong (firstTooLong s (parts t)) (hasFree (allMatches s t)) (length (parts t))
+
+-- "not turns the answer round"; "each walked code counts once"; "The walk ends at its first refusal."
+abbrev pub turned : Quick → Quick
+turned (Answered answer n) = Answered (not answer) (n + 1)
+turned (Refused number place) = Refused number place
+
+-- "`or` walks its left side, then its right only after a no"
+abbrev pub orWalk : Quick → Quick → Quick
+orWalk (Answered true n) right = Answered true (n + 1)
+orWalk (Answered false n) (Answered answer k) = Answered answer (n + k + 1)
+orWalk (Answered false n) (Refused number place) = Refused number place
+orWalk (Refused number place) right = Refused number place
+
+-- "`and` its left side, then its right only after a yes"
+abbrev pub andWalk : Quick → Quick → Quick
+andWalk (Answered false n) right = Answered false (n + 1)
+andWalk (Answered true n) (Answered answer k) = Answered answer (n + k + 1)
+andWalk (Answered true n) (Refused number place) = Refused number place
+andWalk (Refused number place) right = Refused number place
+
+-- "a phrase is yes if its list isn't empty"
+unfoldable pub walk : Section → Tree → Quick
+walk s (phrase c rank ws) = Answered (not (isEmpty (phraseList s rank ws))) 1
+walk s (negation c t) = turned (walk s t)
+walk s (pair Or c t u) = let right = walk s u in orWalk (walk s t) right
+walk s (pair And c t u) = let right = walk s u in andWalk (walk s t) right
+walk s (pair MildNot c t u) = build s (pair MildNot c t u)
+walk s (filter f c t) = build s (filter f c t)
+
+-- What demand 3 holds the walk to: the answer that it comes to where no list is too long ..
+unfoldable pub says : Section → Tree → Bool
+says s (phrase c rank ws) = not (isEmpty (phraseList s rank ws))
+says s (negation c t) = not (says s t)
+says s (pair Or c t u) = says s t || says s u
+says s (pair And c t u) = says s t && says s u
+says s (pair MildNot c t u) = hasFree (allMatches s (pair MildNot c t u))
+says s (filter f c t) = hasFree (allMatches s (filter f c t))
+
+-- .. the codes that it builds, in order ..
+unfoldable pub built : Section → Tree → List Tree
+built s (phrase c rank ws) = []
+built s (negation c t) = built s t
+built s (pair Or c t u) = built s t ++ cond (says s t) [] (built s u)
+built s (pair And c t u) = built s t ++ cond (says s t) (built s u) []
+built s (pair MildNot c t u) = parts (pair MildNot c t u)
+built s (filter f c t) = parts (filter f c t)
+
+-- .. and the codes that it walks or builds.
+unfoldable pub reached : Section → Tree → List Tree
+reached s (phrase c rank ws) = phrase c rank ws ∷ []
+reached s (negation c t) = reached s t ++ negation c t ∷ []
+reached s (pair Or c t u) = reached s t ++ cond (says s t) [] (reached s u) ++ pair Or c t u ∷ []
+reached s (pair And c t u) = reached s t ++ cond (says s t) (reached s u) [] ++ pair And c t u ∷ []
+reached s (pair MildNot c t u) = parts (pair MildNot c t u)
+reached s (filter f c t) = parts (filter f c t)
+
+-- "The selection's own count is that of all its codes but those of kind 0."
+unfoldable pub ownCount : List ℕ → ℕ
+ownCount selection = length (keep (λ c. leb 1 (kindAt selection c)) (range 1 (size selection)))

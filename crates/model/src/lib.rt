@@ -1,0 +1,85 @@
+// The types that the meaning of sections, selections and answers speaks of. Document 01's terms; what each means is in specs/.
+
+// "A section is n (0 to 4,096)"
+pub const MAX_TOKENS: u32 = 4096;
+// "A selection is m (1 to 64)"
+pub const MAX_CODES: u32 = 64;
+// "Kind 0 needs p < 8", "Kind 1 needs p = k and w < 8": loose words and lists that may wait
+pub const MAX_WAITING: u32 = 8;
+// "its list has over 256 matches or 512 strings"
+pub const MAX_MATCHES: u32 = 256;
+
+pub const MAX_STRINGS: u32 = 512;
+// "working memory (at least 12,800 u32) and a listing buffer (at least 1,282 u32)"
+pub const WORK_LENGTH: usize = 12800;
+
+pub const BUFFER_LENGTH: usize = 1282;
+// "A place is paragraph × 65,536 + sentence"; a span and the operand of kind 8 hold two numbers in the same way
+pub const RADIX: u32 = 65536;
+
+// Three countings, none of which stands for another.
+pub struct Position(pub u32);
+
+pub struct Sentence(pub u32);
+
+pub struct Paragraph(pub u32);
+
+// A combination of the last two lists: kinds 2, 3 and 5.
+pub enum Pair {
+    Or,
+    And,
+    MildNot,
+}
+
+// Kinds 6 to 15, window and distance with their numbers.
+pub enum Filter {
+    Ordered,
+    Window(u32),
+    Distance { least: u32, most: u32 },
+    SameSentence,
+    SameParagraph,
+    DifferentSentence,
+    DifferentParagraph,
+    AtStart,
+    AtEnd,
+    EntireContent,
+}
+
+// One code of a selection.
+pub enum Code {
+    // kind 0: a word of a phrase
+    Word(u32),
+    // kind 1: the phrase of so many words just before it
+    Phrase(u32),
+    // kinds 2, 3 and 5
+    Combine(Pair),
+    // kind 4
+    Not,
+    // kinds 6 to 15
+    Filter(Filter),
+}
+
+// What the checks say of lent slices.
+pub enum Checked {
+    Accepted,
+    Refused { number: u32, place: u32 },
+}
+
+// The full listing's answer.
+pub enum Listing {
+    Listed {
+        matches: u32,
+        strings: u32,
+        yes: bool,
+    },
+    Refused {
+        number: u32,
+        place: u32,
+    },
+}
+
+// The quick answer, with how many codes of kind 1 to 15 were walked or built.
+pub enum Quick {
+    Answered { yes: bool, codes: u32 },
+    Refused { number: u32, place: u32 },
+}
