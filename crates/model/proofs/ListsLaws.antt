@@ -31,11 +31,11 @@ any-append p (x ∷ xs) ys = ap (λ b. p x || b) (any-append p xs ys) ∙ sym (o
 pub length-keep : {A : Type 0} (p : A → Bool) (xs : List A) → length (keep p xs) ≤ length xs
 unfolding keep
 length-keep p [] = omega arith
-length-keep p (x ∷ xs) = at (p x)
+length-keep p (x ∷ xs) = at (p x) (length-keep p xs)
   where
-    at : (b : Bool) → length (cond b (x ∷ keep p xs) (keep p xs)) ≤ suc (length xs)
-    at true = omega (arith, length-keep p xs)
-    at false = omega (arith, length-keep p xs)
+    at : (b : Bool) → length (keep p xs) ≤ length xs → length (cond b (x ∷ keep p xs) (keep p xs)) ≤ suc (length xs)
+    at true h = omega arith
+    at false h = omega arith
 
 -- ---- upFrom, range
 
