@@ -10,4 +10,5 @@ pub mod AllMatches
 pub mod Checks
 pub mod Walk
 pub mod Answers
+pub mod Accepted
 pub mod Examples
