@@ -7,6 +7,8 @@ use lib.Dec.{leb}
 use lib.ListN.{length, take, drop}
 use Rattle.model.specs.declared.Checked.{Checked}
 use Rattle.model.specs.declared.Checked.the-variants.{Accepted, Refused as CheckedRefused}
+use Rattle.model.specs.declared.Fault.{Fault}
+use Rattle.model.specs.declared.Fault.the-variants.{At, Nowhere}
 use Rattle.model.specs.declared.Listing.{Listing}
 use Rattle.model.specs.declared.Listing.the-variants.{Listed, Refused as ListingRefused}
 use Rattle.model.specs.declared.Quick.{Quick}
@@ -18,6 +20,11 @@ use Rattle.model.specs.Matches.{Str, Match, hasFree, stringsIn, strings}
 use Rattle.model.specs.Section.{size, sectionOf}
 use Rattle.model.specs.Trees.{Tree, treeOf, parts}
 use Rattle.model.specs.Walk.{firstTooLong, walk}
+
+-- the place of a fault, or none
+abbrev pub faultOf : Option ℕ → Fault
+faultOf (some place) = At place
+faultOf none = Nowhere
 
 -- a refusal, or none, as the checks' answer
 abbrev pub checkedOf : Option Refusal → Checked

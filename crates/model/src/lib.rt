@@ -59,6 +59,12 @@ pub enum Code {
     Filter(Filter),
 }
 
+// The place of the first fault that a check finds.
+pub enum Fault {
+    At(u32),
+    Nowhere,
+}
+
 // What the checks say of lent slices.
 pub enum Checked {
     Accepted,

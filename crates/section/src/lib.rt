@@ -1,0 +1,116 @@
+// A section: what its slice says at a position, its check, and the snippet. Every function takes any slice.
+use model::Checked;
+use model::Fault;
+use model::MAX_TOKENS;
+use model::Paragraph;
+use model::Position;
+use model::RADIX;
+use model::Sentence;
+ghost use mathlib.Core.Path.{_≡_};
+ghost use mathlib.Core.Bool.{_||_, xor};
+ghost use Prim.Native.Nat.{_+_, _*_, _≤_};
+ghost use lib.Dec.{eqb, ltb};
+ghost use lib.ListN.{length};
+ghost use Rattle.model.specs.Answers.{checkedOf, faultOf, snippetOf};
+ghost use Rattle.model.specs.Checks.{faultyAt, faultyPosition, sectionRefusal};
+ghost use Rattle.model.specs.Section.{paragraphAt, sentenceAt, size, wordAt};
+
+// The word at a position.
+pub fn word_at(section: &[u32], p: Position) -> u32
+    ensures { λ r. ⌜ r ≡ wordAt (now (section .entry)) (p .0) ⌝ }
+{
+    lent::number_at(section, p.0 as usize)
+}
+
+// The sentence of the token at a position.
+pub fn sentence_at(section: &[u32], p: Position) -> Sentence
+    ensures { λ r. ⌜ r .0 ≡ sentenceAt (now (section .entry)) (p .0) ⌝ }
+{
+    Sentence(lent::second_at(section, p.0) % RADIX)
+}
+
+// The paragraph of the token at a position.
+pub fn paragraph_at(section: &[u32], p: Position) -> Paragraph
+    ensures { λ r. ⌜ r .0 ≡ paragraphAt (now (section .entry)) (p .0) ⌝ }
+{
+    Paragraph(lent::second_at(section, p.0) / RADIX)
+}
+
+// "below that of the position before it, or just one of the two is zero"
+fn breaks_order(before: u32, here: u32) -> bool
+    ensures { λ r. ⌜ r ≡ (ltb here before || xor (eqb here 0) (eqb before 0)) ⌝ }
+{
+    if before == 0 {
+        return here != 0;
+    }
+    here < before
+}
+
+// Is a position after the first faulty?
+fn is_faulty(section: &[u32], n: usize, p: usize) -> bool
+    requires { ⌜ n ≡ size (now section) ⌝ }
+    requires { ⌜ (2 ≤ p) × (p ≤ n) × (length (now section) ≡ 1 + 2 * n) ⌝ }
+    ensures { λ r. ⌜ r ≡ faultyAt (now (section .entry)) p ⌝ }
+{
+    let here = section[n + p];
+    let before = section[n + (p - 1)];
+    if breaks_order(before % RADIX, here % RADIX) {
+        return true;
+    }
+    breaks_order(before / RADIX, here / RADIX)
+}
+
+// The first faulty position.
+fn first_faulty(section: &[u32], n: usize) -> Fault
+    requires { ⌜ n ≡ size (now section) ⌝ }
+    requires { ⌜ (n ≤ 4096) × (length (now section) ≡ 1 + 2 * n) ⌝ }
+    ensures { λ r. ⌜ r ≡ faultOf (faultyPosition (now (section .entry))) ⌝ }
+{
+    let mut p: usize = 2;
+    while p <= n {
+        if is_faulty(section, n, p) {
+            return Fault::At(p as u32);
+        }
+        p += 1;
+    }
+    Fault::Nowhere
+}
+
+// Refusals 1 and 2, with their places.
+pub fn check_section(section: &[u32]) -> Checked
+    ensures { λ r. ⌜ r ≡ checkedOf (sectionRefusal (now (section .entry))) ⌝ }
+{
+    if !lent::well_sized(section, 0, MAX_TOKENS) {
+        return Checked::Refused {
+            number: 1,
+            place: 0,
+        };
+    }
+    let fault = first_faulty(section, section[0] as usize);
+    match fault {
+        Fault::At(place) => Checked::Refused { number: 2, place },
+        Fault::Nowhere => Checked::Accepted,
+    }
+}
+
+// The words of the positions from `from` to `to`, as a part of the section; an empty part where it isn't accepted or has no such positions.
+pub fn snippet(section: &[u32], from: Position, to: Position) -> &[u32]
+    ensures { λ r. ⌜ now r ≡ snippetOf (now (section .entry)) (from .0) (to .0) ⌝ }
+{
+    let checked = check_section(section);
+    let Checked::Accepted = checked else {
+        return &section[..0];
+    };
+    if from.0 < 1 {
+        return &section[..0];
+    }
+    if to.0 < from.0 {
+        return &section[..0];
+    }
+    if section[0] < to.0 {
+        return &section[..0];
+    }
+    let start = from.0 as usize;
+    let end = to.0 as usize + 1;
+    &section[start..end]
+}
