@@ -13,6 +13,7 @@ ghost use lib.Dec.{eqb, ltb};
 ghost use lib.ListN.{length};
 ghost use Rattle.model.specs.Answers.{checkedOf, faultOf, snippetOf};
 ghost use Rattle.model.specs.Checks.{faultyAt, faultyPosition, sectionRefusal};
+ghost use Rattle.model.specs.Limits.{maxTokens};
 ghost use Rattle.model.specs.Section.{paragraphAt, sentenceAt, size, wordAt};
 
 // The word at a position.
@@ -63,7 +64,7 @@ fn is_faulty(section: &[u32], n: usize, p: usize) -> bool
 // The first faulty position.
 fn first_faulty(section: &[u32], n: usize) -> Fault
     requires { ⌜ n ≡ size (now section) ⌝ }
-    requires { ⌜ (n ≤ 4096) × (length (now section) ≡ 1 + 2 * n) ⌝ }
+    requires { ⌜ (n ≤ maxTokens) × (length (now section) ≡ 1 + 2 * n) ⌝ }
     ensures { λ r. ⌜ r ≡ faultOf (faultyPosition (now (section .entry))) ⌝ }
 {
     let mut p: usize = 2;

@@ -1,3 +1,4 @@
+-- Past the end a list gives its default.
 use lib.ListN.{List·getD-eq-default}
 use mathlib.Core.Path.{sym}
 use borrow.Author.Needs.{needs}

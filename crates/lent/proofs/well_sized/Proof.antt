@@ -1,3 +1,4 @@
+-- The three tests of the definition, in its order; each return knows how those before it went.
 use borrow.Author.Needs.{needs}
 use borrow.Author.Tests.{le-leb, lt-leb}
 use Rattle.model.specs.Section.{wellSized}

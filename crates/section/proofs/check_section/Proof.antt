@@ -1,3 +1,4 @@
+-- Each return is one case of the check (Checking); a well sized slice has its size, and two arrays as long.
 use borrow.Author.Needs.{needs}
 use borrow.Author.Tests.{not-true, not-false}
 use native.Mathlib.Omega.{arith}

@@ -1,3 +1,4 @@
+-- Invariant: the search from p on finds what the whole search finds. Measure: the positions left.
 use Prim.Native.Nat.{_<_, _≤_, _+_, _-_}
 use native.Mathlib.Omega.{arith}
 use borrow.Author.Needs.{needs}

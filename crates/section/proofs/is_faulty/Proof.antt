@@ -1,3 +1,4 @@
+-- Both countings of the two places, each held to breaks_order.
 use borrow.Author.Needs.{needs}
 use mathlib.Core.Path.{sym, _∙_}
 use Rattle.model.specs.Checks.{faultyAt}

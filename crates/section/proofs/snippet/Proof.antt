@@ -1,3 +1,4 @@
+-- Each empty part is one way in which the paper's condition fails (Checking); an accepted section holds the positions 1 to n.
 use borrow.Author.Needs.{needs}
 use native.Mathlib.Omega.{arith}
 use mathlib.Core.Path.{sym, _∙_}
