@@ -1,2 +1,13 @@
+-- The demands over the definitions ..
+pub mod Demand2
+pub mod Demand3
+-- .. and the laws that they and the code rest on, a file for each module of specs/.
+pub mod TestsLaws
 pub mod ListsLaws
+pub mod EveryLaws
 pub mod SectionLaws
+pub mod RulesLaws
+pub mod AllStringsLaws
+pub mod FreeLaws
+pub mod WalkLaws
+pub mod AnswersLaws

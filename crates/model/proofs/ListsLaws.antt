@@ -2,13 +2,13 @@
 use Prim.Native.Nat.{ℕ, zero, suc, _+_, _-_, _≤_, _<_}
 use native.Mathlib.Nat.{eq-or-lt-of-le}
 use native.Mathlib.Omega.{arith}
-use mathlib.Core.Logic.{⊎-elim}
 use mathlib.Core.Path.{_≡_, refl, ap, sym, _∙_}
-use mathlib.Core.Bool.{Bool, true, false, _&&_, _||_, cond, and-assoc, or-assoc}
-use mathlib.Core.List.{List, [], _∷_, _++_, append-assoc, flatMap}
-use mathlib.Core.Option.{Option, some, none}
+use mathlib.Core.Bool.{Bool, true, false, not, _&&_, _||_, cond, and-assoc, or-assoc, false≢true}
+use mathlib.Core.List.{List, [], _∷_, _++_, append-assoc, flatMap, Sublistᴰ, Sublistᴰ·slnil, Sublistᴰ·cons, Sublistᴰ·cons-cons, Sublistᴰ·nil-sublist}
+use mathlib.Core.Logic.{_↔_, ⊎-elim}
+use mathlib.Core.Option.{some, none, orElse, Option·none-ne-some, Option·some-ne-none}
 use lib.ListN.{length}
-use Rattle.model.specs.Lists.{all, any, keep, first, upFrom, range}
+use Rattle.model.specs.Lists.{all, any, isEmpty, keep, first, upFrom, range}
 
 -- ---- flatMap
 
@@ -29,6 +29,13 @@ unfolding any
 any-append p [] ys = refl
 any-append p (x ∷ xs) ys = ap (λ b. p x || b) (any-append p xs ys) ∙ sym (or-assoc (p x) (any p xs) (any p ys))
 
+-- ---- isEmpty
+
+pub isEmpty-append : {A : Type 0} (xs ys : List A) → isEmpty (xs ++ ys) ≡ (isEmpty xs && isEmpty ys)
+unfolding isEmpty
+isEmpty-append [] ys = refl
+isEmpty-append (x ∷ xs) ys = refl
+
 -- ---- keep
 
 pub length-keep : {A : Type 0} (p : A → Bool) (xs : List A) → length (keep p xs) ≤ length xs
@@ -39,6 +46,61 @@ length-keep p (x ∷ xs) = at (p x) (length-keep p xs)
     at : (b : Bool) → length (keep p xs) ≤ length xs → length (cond b (x ∷ keep p xs) (keep p xs)) ≤ suc (length xs)
     at true h = omega arith
     at false h = omega arith
+
+-- ---- first
+
+pub first-append : {A : Type 0} (p : A → Bool) (xs ys : List A) → first p (xs ++ ys) ≡ orElse (first p xs) (first p ys)
+unfolding first orElse
+first-append p [] ys = refl
+first-append p (x ∷ xs) ys = at (p x) (first-append p xs ys)
+  where
+    at : (b : Bool) → first p (xs ++ ys) ≡ orElse (first p xs) (first p ys) → cond b (some x) (first p (xs ++ ys)) ≡ orElse (cond b (some x) (first p xs)) (first p ys)
+    at true e = refl
+    at false e = e
+
+-- x is the first element that passes: it does, and none before it
+pub record FirstIn {A : Type 0} (p : A → Bool) (xs : List A) (x : A) : Type 0 where
+  pub before : List A
+  pub after : List A
+  pub split : xs ≡ before ++ x ∷ after
+  pub none-before : all (λ y. not (p y)) before ≡ true
+  pub passes : p x ≡ true
+
+module _ {A : Type 0} (p : A → Bool) where
+  first-found : (xs : List A) (x : A) → first p xs ≡ some x → FirstIn p xs x
+  unfolding first all
+  first-found [] x e = absurd (Option·none-ne-some x e)
+  first-found (y ∷ xs) x e = at (p y) refl e (first-found xs x)
+    where
+      at : (b : Bool) → p y ≡ b → cond b (some y) (first p xs) ≡ some x → (first p xs ≡ some x → FirstIn p xs x) → FirstIn p (y ∷ xs) x
+      at true h e' later =
+          let same : y ≡ x = cc in
+          record { before = []; after = xs; split = ap (λ z. z ∷ xs) same; none-before = refl; passes = cc }
+      at false h e' later =
+          let f = later e' in
+          record { before = y ∷ f .before; after = f .after; split = ap (λ zs. y ∷ zs) (f .split); none-before = rw h (f .none-before); passes = f .passes }
+
+  first-is : (before after : List A) (x : A) → all (λ y. not (p y)) before ≡ true → p x ≡ true → first p (before ++ x ∷ after) ≡ some x
+  unfolding first all
+  first-is [] after x h e = rw e
+  first-is (y ∷ before) after x h e = at (p y) h (first-is before after x)
+    where
+      at : (b : Bool) → (not b && all (λ z. not (p z)) before) ≡ true
+          → (all (λ z. not (p z)) before ≡ true → p x ≡ true → first p (before ++ x ∷ after) ≡ some x)
+          → cond b (some y) (first p (before ++ x ∷ after)) ≡ some x
+      at true h' later = absurd (false≢true h')
+      at false h' later = later h' e
+
+  pub first-none : (x : A) (xs : List A) → first p (x ∷ xs) ≡ none → (p x ≡ false) × (first p xs ≡ none)
+  unfolding first
+  first-none x xs e = at (p x) e
+    where
+      at : (b : Bool) → cond b (some x) (first p xs) ≡ none → (b ≡ false) × (first p xs ≡ none)
+      at true e' = absurd (Option·some-ne-none x e')
+      at false e' = (refl, e')
+
+  pub first-some : (xs : List A) (x : A) → (first p xs ≡ some x) ↔ FirstIn p xs x
+  first-some xs x = (first-found xs x, λ f. ap (first p) (f .split) ∙ first-is (f .before) (f .after) x (f .none-before) (f .passes))
 
 -- ---- upFrom, range
 
@@ -75,11 +137,7 @@ module _ (p : ℕ → Bool) where
   first-range-later a b h e = rw (range-cons a b h, e)
 
   none-here : (a b : ℕ) → a ≤ b → first p (range a b) ≡ none → p a ≡ false
-  none-here a b h e = at (p a) refl
-    where
-      at : (t : Bool) → p a ≡ t → p a ≡ false
-      at true q = let z : some a ≡ none = sym (first-range-here a b h q) ∙ e in absurd (let z : _≡_ {A = ℕ} 0 1 = cc in omega arith)
-      at false q = q
+  none-here a b h e = first-none p a (range (a + 1) b) (ap (first p) (sym (range-cons a b h)) ∙ e) .0
 
   -- where the search finds nothing, nothing passes
   pub first-range-none : (a b : ℕ) → first p (range a b) ≡ none → (i : ℕ) → a ≤ i → i ≤ b → p i ≡ false
@@ -90,3 +148,22 @@ module _ (p : ℕ → Bool) where
       go (suc n) a m e h =
           let here = none-here a b (omega arith) e in
           ⊎-elim (λ q. ap p (sym q) ∙ here) (λ q. go n (a + 1) (omega arith) (sym (first-range-later a b (omega arith) here) ∙ e) (omega arith)) (eq-or-lt-of-le h)
+
+-- ---- Sublistᴰ xs ys: xs is ys with some elements left out
+
+pub length-sublist : {A : Type 0} {xs ys : List A} → Sublistᴰ xs ys → length xs ≤ length ys
+length-sublist Sublistᴰ·slnil = omega arith
+length-sublist (Sublistᴰ·cons d) = let h = length-sublist d in omega arith
+length-sublist (Sublistᴰ·cons-cons e d) = let h = length-sublist d in omega arith
+
+pub sublist-append : {A : Type 0} {xs ys : List A} (zs : List A) → Sublistᴰ xs ys → Sublistᴰ xs (ys ++ zs)
+sublist-append zs Sublistᴰ·slnil = Sublistᴰ·nil-sublist zs
+sublist-append zs (Sublistᴰ·cons d) = Sublistᴰ·cons (sublist-append zs d)
+sublist-append zs (Sublistᴰ·cons-cons e d) = Sublistᴰ·cons-cons e (sublist-append zs d)
+
+-- where none of a list passes, none of a sublist does
+pub first-sublist : {A : Type 0} {xs ys : List A} (p : A → Bool) → Sublistᴰ xs ys → first p ys ≡ none → first p xs ≡ none
+unfolding first
+first-sublist p Sublistᴰ·slnil h = h
+first-sublist p (Sublistᴰ·cons {a = y} {l₂ = ys} d) h = first-sublist p d (first-none p y ys h .1)
+first-sublist p (Sublistᴰ·cons-cons {b = y} {l₂ = ys} e d) h = let at = first-none p y ys h in rw (e, at .0) (first-sublist p d (at .1))

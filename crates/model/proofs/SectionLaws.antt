@@ -6,7 +6,7 @@ use mathlib.Core.Logic.{⊎-elim}
 use mathlib.Core.Path.{_≡_, refl, ap, sym, _∙_}
 use mathlib.Core.Bool.{Bool, true, false, not, _&&_, _||_, cond, xor, Bool·beq}
 use mathlib.Core.List.{List, [], _∷_}
-use mathlib.Core.Option.{Option, some, none, Option·map}
+use mathlib.Core.Option.{Option, some, none, Option·map, Option·some-ne-none, map-eq-none-iff}
 use lib.Dec.{leb, ltb, eqb}
 use lib.ListN.{length}
 use borrow.Author.Tests.{leb-true, ltb-false, eqb-true, eq-eqb}
@@ -15,36 +15,19 @@ use Rattle.model.specs.Checks.{Refusal, refusal, otherwise, Check, tried
 use Rattle.model.specs.Limits.{maxTokens}
 use Rattle.model.specs.Section.{size, wellSized, sentenceAt, paragraphAt}
 use Rattle.model.proofs.ListsLaws.{first-range-none}
-
--- ---- Booleans and options
-
-pub both : (a b : Bool) → (a && b) ≡ true → (a ≡ true) × (b ≡ true)
-both true b h = (refl, h)
-both false b h = absurd (let z : _≡_ {A = ℕ} 0 1 = cc in omega arith)
-
-pub neither : (a b : Bool) → (a || b) ≡ false → (a ≡ false) × (b ≡ false)
-neither true b h = absurd (let z : _≡_ {A = ℕ} 0 1 = cc in omega arith)
-neither false b h = (refl, h)
+use Rattle.model.proofs.TestsLaws.{both-true, both-false, xor-false, cond-none}
 
 -- ---- tried: no check refuses where all of them together do not
 
 pub otherwise-none : (a b : Option Refusal) → otherwise a b ≡ none → (a ≡ none) × (b ≡ none)
-otherwise-none (some r) b h = absurd (let z : _≡_ {A = ℕ} 0 1 = cc in omega arith)
+otherwise-none (some r) b h = absurd (Option·some-ne-none r h)
 otherwise-none none b h = (refl, h)
-
-pub map-none : {A B : Type 0} (f : A → B) (o : Option A) → Option·map f o ≡ none → o ≡ none
-map-none f (some a) h = absurd (let z : _≡_ {A = ℕ} 0 1 = cc in omega arith)
-map-none f none h = refl
 
 pub tried-cons : (c : Check) (cs : List Check) (lent : List ℕ) → tried (c ∷ cs) lent ≡ none → (c .fails lent ≡ none) × (tried cs lent ≡ none)
 unfolding tried
 tried-cons c cs lent h =
     let b = otherwise-none (Option·map (refusal (c .number)) (c .fails lent)) (tried cs lent) h in
-    (map-none (refusal (c .number)) (c .fails lent) (b .0), b .1)
-
-pub cond-none : {A : Type 0} (t : Bool) (a : A) → cond t none (some a) ≡ none → t ≡ true
-cond-none true a h = refl
-cond-none false a h = absurd (let z : _≡_ {A = ℕ} 0 1 = cc in omega arith)
+    (map-eq-none-iff (refusal (c .number)) (c .fails lent) .0 (b .0), b .1)
 
 -- ---- wellSized
 
@@ -56,25 +39,18 @@ pub record WellSized (least most : ℕ) (lent : List ℕ) : Type 0 where
 pub well-sized : (least most : ℕ) (lent : List ℕ) → wellSized least most lent ≡ true → WellSized least most lent
 unfolding wellSized
 well-sized least most lent h =
-    let a = both (leb least (size lent) && leb (size lent) most) (eqb (length lent) (1 + 2 * size lent)) h in
-    let b = both (leb least (size lent)) (leb (size lent) most) (a .0) in
+    let a = both-true (leb least (size lent) && leb (size lent) most) (eqb (length lent) (1 + 2 * size lent)) h in
+    let b = both-true (leb least (size lent)) (leb (size lent) most) (a .0) in
     record { at-least = leb-true _ _ (b .0); at-most = leb-true _ _ (b .1); long = eqb-true _ _ (a .1) }
 
 -- ---- faultyIn: a counting without a faulty position is steady
-
-not-xor : (a b : Bool) → xor a b ≡ false → a ≡ b
-unfolding xor
-not-xor true true h = refl
-not-xor true false h = absurd (let z : _≡_ {A = ℕ} 0 1 = cc in omega arith)
-not-xor false true h = absurd (let z : _≡_ {A = ℕ} 0 1 = cc in omega arith)
-not-xor false false h = refl
 
 module _ (unit : ℕ → ℕ) (n : ℕ) (fine : (p : ℕ) → 2 ≤ p → p ≤ n → faultyIn unit p ≡ false) where
   next : (p : ℕ) → 1 ≤ p → p + 1 ≤ n → (unit p ≤ unit (p + 1)) × (eqb (unit (p + 1)) 0 ≡ eqb (unit p) 0)
   next p h k =
       let e : p + 1 - 1 ≡ p = omega arith in
-      let f = neither (ltb (unit (p + 1)) (unit p)) (xor (eqb (unit (p + 1)) 0) (eqb (unit p) 0)) (rw e at (fine (p + 1) (omega arith) k)) in
-      (ltb-false (unit (p + 1)) (unit p) (f .0), not-xor (eqb (unit (p + 1)) 0) (eqb (unit p) 0) (f .1))
+      let f = both-false (ltb (unit (p + 1)) (unit p)) (xor (eqb (unit (p + 1)) 0) (eqb (unit p) 0)) (rw e at (fine (p + 1) (omega arith) k)) in
+      (ltb-false (unit (p + 1)) (unit p) (f .0), xor-false (eqb (unit (p + 1)) 0) (eqb (unit p) 0) (f .1))
 
   -- from p up by d positions
   rises : (d p : ℕ) → 1 ≤ p → p + d ≤ n → (unit p ≤ unit (p + d)) × (eqb (unit (p + d)) 0 ≡ eqb (unit p) 0)
@@ -106,7 +82,7 @@ accepted-section section h =
     let b = tried-cons _ _ section (a .1) in
     let w = well-sized 0 maxTokens section (cond-none (wellSized 0 maxTokens section) 0 (a .0)) in
     let f : (p : ℕ) → 2 ≤ p → p ≤ size section → (faultyIn (sentenceAt section) p ≡ false) × (faultyIn (paragraphAt section) p ≡ false) =
-    λ p h k. neither (faultyIn (sentenceAt section) p) (faultyIn (paragraphAt section) p) (first-range-none (faultyAt section) 2 (size section) (b .0) p h k) in
+    λ p h k. both-false (faultyIn (sentenceAt section) p) (faultyIn (paragraphAt section) p) (first-range-none (faultyAt section) 2 (size section) (b .0) p h k) in
     record {
       sized = w .long;
       few = w .at-most;

@@ -1,3 +1,4 @@
+-- The meaning of document 01, in its order ..
 pub mod Limits
 pub mod Lists
 pub mod Section
@@ -10,5 +11,10 @@ pub mod AllMatches
 pub mod Checks
 pub mod Walk
 pub mod Answers
-pub mod Accepted
+-- .. its worked examples ..
 pub mod Examples
+-- .. and what the laws and the code's contracts say besides: no part of the meaning.
+pub mod Accepted
+pub mod AllStrings
+pub mod Choices
+pub mod Demand3

@@ -1,0 +1,118 @@
+-- What the calls' answers come to where the checks pass, and what a given listing tells of the checks.
+use Prim.Native.Nat.{ℕ, _+_, _*_, _≤_}
+use native.Mathlib.Omega.{arith}
+use mathlib.Core.Path.{_≡_, refl, ap₂, _∙_}
+use mathlib.Core.Bool.{Bool, true, false, _&&_, _||_}
+use mathlib.Core.List.{List, [], _∷_, _++_, map, flatMap}
+use mathlib.Core.Logic.{_↔_}
+use mathlib.Core.Option.{Option, some, none, Option·map, map-eq-none-iff}
+use lib.Dec.{leb, ltb}
+use lib.ListN.{length, length-append, length-map}
+use borrow.Author.Tests.{leb-true, le-leb, ltb-false}
+use Rattle.model.specs.declared.Listing.the-variants.{Listed, Refused}
+use Rattle.model.specs.Answers.{completeList, listingRefusal, answerUnless, listingAnswer, spansIn, tagsIn, spanOf, tagOf, listingNumbers, quickAnswer}
+use Rattle.model.specs.Checks.{Refusal, refusal, otherwise, roomRefusal, inputRefusal, listingChecks, quickChecks}
+use Rattle.model.specs.Demand3.{Passes, walkBuilds, walkReaches}
+use Rattle.model.specs.Limits.{maxMatches, maxStrings, workLength, bufferLength}
+use Rattle.model.specs.Matches.{Str, Match, hasFree, stringsIn, strings, tooLong}
+use Rattle.model.specs.Section.{sectionOf}
+use Rattle.model.specs.Trees.{treeOf, parts}
+use Rattle.model.specs.Walk.{firstTooLong, unlessTooLong}
+use Rattle.model.proofs.SectionLaws.{otherwise-none}
+use Rattle.model.proofs.TestsLaws.{both-true, both-false, cond-none}
+use Rattle.model.proofs.WalkLaws.{firstTooLong-whole, walk-is, says-free}
+
+-- ---- tooLong
+
+pub fits-limits : (ms : List Match) → tooLong ms ≡ false → (length ms ≤ maxMatches) × (strings ms ≤ maxStrings)
+fits-limits ms e =
+    let both = both-false (ltb maxMatches (length ms)) (ltb maxStrings (strings ms)) e in
+    (ltb-false maxMatches (length ms) (both .0), ltb-false maxStrings (strings ms) (both .1))
+
+-- ---- listingRefusal, listingAnswer
+
+-- what holds where the listing does not refuse
+pub record ListingPasses (section selection : List ℕ) (work buffer : ℕ) : Type 0 where
+  pub passes : Passes section selection work
+  pub room : bufferLength ≤ buffer
+  pub fits : firstTooLong (sectionOf section) (parts (treeOf selection)) ≡ none
+
+answerUnless-listed : (r : Option Refusal) (ms : List Match) (m k : ℕ) (y : Bool) → answerUnless r ms ≡ Listed m k y
+    → (r ≡ none) × (m ≡ length ms) × (k ≡ strings ms) × (y ≡ hasFree ms)
+answerUnless-listed none ms m k y e = (refl, cc, cc, cc)
+answerUnless-listed (some r) ms m k y e = let z : _≡_ {A = ℕ} 0 1 = cc in absurd (omega arith)
+
+pub answerUnless-nine : (f : Option ℕ) (ms : List Match) (c : ℕ) → (answerUnless (Option·map (refusal 9) f) ms ≡ Refused 9 c) ↔ (f ≡ some c)
+answerUnless-nine none ms c = (λ e. cc, λ e. cc)
+answerUnless-nine (some d) ms c = (λ e. cc, λ e. cc)
+
+pub answerUnless-refused : (o : Option Refusal) (ms : List Match) (n c : ℕ) → answerUnless o ms ≡ Refused n c → (r : Refusal) × (o ≡ some r)
+answerUnless-refused none ms n c e = let z : _≡_ {A = ℕ} 0 1 = cc in absurd (omega arith)
+answerUnless-refused (some r) ms n c e = (r, refl)
+
+module _ (section selection : List ℕ) (work buffer : ℕ) where
+  pub listingRefusal-passes : Passes section selection work → bufferLength ≤ buffer
+      → listingRefusal section selection work buffer ≡ Option·map (refusal 9) (firstTooLong (sectionOf section) (parts (treeOf selection)))
+  unfolding listingRefusal listingChecks
+  listingRefusal-passes p room = rw (p .checks, le-leb workLength work (p .enough), le-leb bufferLength buffer room)
+
+  pub listingRefusal-none : listingRefusal section selection work buffer ≡ none → ListingPasses section selection work buffer
+  unfolding listingRefusal listingChecks
+  listingRefusal-none e =
+      let long = firstTooLong (sectionOf section) (parts (treeOf selection)) in
+      let first = otherwise-none (listingChecks section selection work buffer) (Option·map (refusal 9) long) e in
+      let checks = otherwise-none (inputRefusal section selection) (roomRefusal (leb workLength work && leb bufferLength buffer)) (first .0) in
+      let rooms = both-true (leb workLength work) (leb bufferLength buffer) (cond-none (leb workLength work && leb bufferLength buffer) (refusal 8 0) (checks .1)) in
+      record {
+        passes = record { checks = checks .0; enough = leb-true workLength work (rooms .0) };
+        room = leb-true bufferLength buffer (rooms .1);
+        fits = map-eq-none-iff (refusal 9) long .0 (first .1);
+      }
+
+  -- Where nothing refuses, the complete list is within the limits.
+  pub complete-fits : listingRefusal section selection work buffer ≡ none
+      → (length (completeList section selection) ≤ maxMatches) × (strings (completeList section selection) ≤ maxStrings)
+  complete-fits e =
+      let passed = listingRefusal-none e in
+      fits-limits (completeList section selection) (firstTooLong-whole (sectionOf section) (treeOf selection) (passed .fits))
+
+  -- A given listing tells that nothing refuses, and its three numbers are the complete list's.
+  pub listingAnswer-listed : (m k : ℕ) (y : Bool) → listingAnswer section selection work buffer ≡ Listed m k y
+      → (listingRefusal section selection work buffer ≡ none)
+      × (m ≡ length (completeList section selection))
+      × (k ≡ strings (completeList section selection))
+      × (y ≡ hasFree (completeList section selection))
+  unfolding listingAnswer
+  listingAnswer-listed m k y e = answerUnless-listed (listingRefusal section selection work buffer) (completeList section selection) m k y e
+
+-- ---- listingNumbers
+
+-- a number for each string
+length-flatMap : (f : Match → List ℕ) → ((m : Match) → length (f m) ≡ stringsIn m) → (ms : List Match) → length (flatMap f ms) ≡ strings ms
+unfolding flatMap strings
+length-flatMap f h [] = refl
+length-flatMap f h (m ∷ ms) = length-append (f m) (flatMap f ms) ∙ ap₂ _+_ (h m) (length-flatMap f h ms)
+
+length-columns : {A : Type 0} (f g : Str → A) (m : Match) → length (map f (m .includes) ++ map g (m .excludes)) ≡ stringsIn m
+length-columns f g m = length-append (map f (m .includes)) (map g (m .excludes)) ∙ ap₂ _+_ (length-map (m .includes) f) (length-map (m .excludes) g)
+
+pub length-listingNumbers : (ms : List Match) → length (listingNumbers ms) ≡ 2 + length ms + 2 * strings ms
+unfolding listingNumbers
+length-listingNumbers ms =
+    simp (length-append, length-map, length-flatMap spansIn (length-columns spanOf spanOf), length-flatMap tagsIn (length-columns (tagOf 0) (tagOf 1))) (omega arith)
+
+-- ---- quickAnswer
+
+module _ (section selection : List ℕ) (work : ℕ) where
+  pub quickChecks-passes : Passes section selection work → quickChecks section selection work ≡ none
+  unfolding quickChecks
+  quickChecks-passes p = rw (p .checks, le-leb workLength work (p .enough))
+
+  -- Where the checks pass, the quick answer refuses at the first list too long that its walk builds; where none is, it answers whether the
+  -- complete list has a match without excludes, and counts what its walk reaches.
+  pub quickAnswer-is : Passes section selection work
+      → quickAnswer section selection work
+      ≡ unlessTooLong (firstTooLong (sectionOf section) (walkBuilds section selection)) (hasFree (completeList section selection))
+      (length (walkReaches section selection))
+  unfolding quickAnswer
+  quickAnswer-is p = rw (quickChecks-passes p, walk-is (sectionOf section) (treeOf selection), says-free (sectionOf section) (treeOf selection))

@@ -1,0 +1,64 @@
+-- What holds of every element of a list holds of every element of the lists that the functions on lists make of it.
+use Prim.Native.Nat.{ℕ, zero, suc, _+_, _-_, _≤_, _<_}
+use native.Mathlib.Omega.{arith}
+use mathlib.Core.Path.{_≡_, refl}
+use mathlib.Core.Bool.{Bool, true, false, cond}
+use mathlib.Core.List.{List, [], _∷_, _++_, map, flatMap}
+use lib.ListN.{length, getD}
+use Rattle.model.specs.Lists.{keep, upFrom, range}
+use Rattle.model.specs.AllStrings.{Every}
+
+pub every-weaker : {A : Type 0} (P Q : A → Type 0) → ((x : A) → P x → Q x) → (xs : List A) → Every P xs → Every Q xs
+unfolding Every
+every-weaker P Q h [] a = tt
+every-weaker P Q h (x ∷ xs) a = (h x (a .0), every-weaker P Q h xs (a .1))
+
+module _ {A : Type 0} (P : A → Type 0) where
+  pub every-append : (xs ys : List A) → Every P xs → Every P ys → Every P (xs ++ ys)
+  unfolding Every
+  every-append [] ys a b = b
+  every-append (x ∷ xs) ys a b = (a .0, every-append xs ys (a .1) b)
+
+  pub every-map : {B : Type 0} (Q : B → Type 0) (f : B → A) → ((x : B) → Q x → P (f x)) → (xs : List B) → Every Q xs → Every P (map f xs)
+  unfolding Every
+  every-map Q f h [] a = tt
+  every-map Q f h (x ∷ xs) a = (h x (a .0), every-map Q f h xs (a .1))
+
+  -- P holds of all that f gives
+  pub every-value : {B : Type 0} (f : B → A) → ((x : B) → P (f x)) → (xs : List B) → Every P (map f xs)
+  unfolding Every
+  every-value f h [] = tt
+  every-value f h (x ∷ xs) = (h x, every-value f h xs)
+
+  pub every-flatMap : {B : Type 0} (Q : B → Type 0) (f : B → List A) → ((x : B) → Q x → Every P (f x)) → (xs : List B) → Every Q xs → Every P (flatMap f xs)
+  unfolding Every flatMap
+  every-flatMap Q f h [] a = tt
+  every-flatMap Q f h (x ∷ xs) a = every-append (f x) (flatMap f xs) (h x (a .0)) (every-flatMap Q f h xs (a .1))
+
+  -- what is kept has passed
+  pub every-kept : (p : A → Bool) (xs : List A) → Every P xs → Every (λ x. P x × (p x ≡ true)) (keep p xs)
+  unfolding Every keep
+  every-kept p [] a = tt
+  every-kept p (x ∷ xs) a = at (p x) refl (every-kept p xs (a .1))
+    where
+      at : (b : Bool) → p x ≡ b → Every (λ x. P x × (p x ≡ true)) (keep p xs) → Every (λ x. P x × (p x ≡ true)) (cond b (x ∷ keep p xs) (keep p xs))
+      at true e h = ((a .0, e), h)
+      at false e h = h
+
+  pub every-keep : (p : A → Bool) (xs : List A) → Every P xs → Every P (keep p xs)
+  every-keep p xs a = every-weaker _ P (λ x h. h .0) (keep p xs) (every-kept p xs a)
+
+  pub every-getD : (xs : List A) (d : A) (i : ℕ) → i < length xs → Every P xs → P (getD xs i d)
+  unfolding Every
+  every-getD [] d i h a = absurd (omega arith)
+  every-getD (x ∷ xs) d zero h a = a .0
+  every-getD (x ∷ xs) d (suc i) h a = every-getD xs d i (omega arith) (a .1)
+
+pub every-upFrom : (a n : ℕ) → Every (λ p. (a ≤ p) × (p < a + n)) (upFrom a n)
+unfolding Every upFrom
+every-upFrom a zero = tt
+every-upFrom a (suc n) = (omega arith, every-weaker _ _ (λ p h. omega arith) (upFrom (a + 1) n) (every-upFrom (a + 1) n))
+
+pub every-range : (a b : ℕ) → Every (λ p. (a ≤ p) × (p ≤ b)) (range a b)
+unfolding range
+every-range a b = every-weaker _ _ (λ p h. omega arith) (upFrom a (b + 1 - a)) (every-upFrom a (b + 1 - a))

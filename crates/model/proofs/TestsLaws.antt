@@ -1,0 +1,25 @@
+-- Booleans and options taken apart.
+use Prim.Native.Nat.{ℕ}
+use native.Mathlib.Omega.{arith}
+use mathlib.Core.Path.{_≡_, refl}
+use mathlib.Core.Bool.{Bool, true, false, _&&_, _||_, cond, xor, false≢true, true≢false}
+use mathlib.Core.Option.{Option, some, none, Option·some-ne-none}
+
+pub both-true : (a b : Bool) → (a && b) ≡ true → (a ≡ true) × (b ≡ true)
+both-true true b e = (refl, e)
+both-true false b e = absurd (false≢true e)
+
+pub both-false : (a b : Bool) → (a || b) ≡ false → (a ≡ false) × (b ≡ false)
+both-false true b e = absurd (true≢false e)
+both-false false b e = (refl, e)
+
+pub xor-false : (a b : Bool) → xor a b ≡ false → a ≡ b
+unfolding xor
+xor-false true true e = refl
+xor-false true false e = absurd (true≢false e)
+xor-false false true e = absurd (true≢false e)
+xor-false false false e = refl
+
+pub cond-none : {A : Type 0} (t : Bool) (a : A) → cond t none (some a) ≡ none → t ≡ true
+cond-none true a e = refl
+cond-none false a e = absurd (Option·some-ne-none a e)
