@@ -1,0 +1,16 @@
+use borrow.Author.Tests.{le-leb, lt-leb}
+use Rattle.selection.proofs.table.is_within.Statement.{statement}
+use Rattle.selection.proofs.table.is_within.Tie as tie
+use Rattle.selection.proofs.table.is_within.Reads as reads
+use Rattle.selection.proofs.table.is_within.Lts as lts
+
+-- src/table.rt:23:9
+returns : tie.Need-returns
+returns c = simp (lt-leb _ _ (c .if1 .taken))
+
+-- src/table.rt:19:1
+returns-2 : tie.Need-returns-2
+returns-2 c = simp (le-leb _ _ (c .if1 .left))
+
+pub is-within-spec : {M : Type 1} → statement M
+is-within-spec = tie.close (tie.spec returns returns-2)

@@ -1,0 +1,70 @@
+// Kinds and operands against document 01's table.
+use model::{Fault, MAX_WAITING, RADIX};
+ghost use mathlib.Core.Bool.{_&&_};
+ghost use mathlib.Core.Path.{_≡_};
+ghost use lib.Dec.{leb};
+ghost use Rattle.model.specs.Answers.{faultOf};
+ghost use Rattle.model.specs.Checks.{operandFits, unknownKind, wrongOperand};
+
+// "16 and up are unknown"
+fn is_unknown(kind: u32) -> bool
+    ensures { λ r. ⌜ r ≡ leb 16 kind ⌝ }
+{
+    match kind {
+        0..=15 => false,
+        _ => true,
+    }
+}
+
+fn is_within(least: u32, number: u32, most: u32) -> bool
+    ensures { λ r. ⌜ r ≡ (leb least number && leb number most) ⌝ }
+{
+    if number < least {
+        return false;
+    }
+    number <= most
+}
+
+// "operand outside the table", told by the kind
+fn operand_fits(kind: u32, operand: u32) -> bool
+    ensures { λ r. ⌜ r ≡ operandFits kind operand ⌝ }
+{
+    match kind {
+        0 => true,
+        1 => is_within(1, operand, MAX_WAITING),
+        2..=6 => operand == 0,
+        7 => is_within(1, operand, 4096),
+        8 => is_within(operand / RADIX, operand % RADIX, 4095),
+        _ => operand == 0,
+    }
+}
+
+// Refusal 4: the first code whose kind is unknown.
+pub fn unknown_kind(selection: &[u32]) -> Fault
+    ensures { λ r. ⌜ r ≡ faultOf (unknownKind (now (selection .entry))) ⌝ }
+{
+    let m = lent::number_at(selection, 0) as usize;
+    let mut c: usize = 1;
+    while c <= m {
+        if is_unknown(lent::number_at(selection, c)) {
+            return Fault::At(c as u32);
+        }
+        c += 1;
+    }
+    Fault::Nowhere
+}
+
+// Refusal 5: the first code whose operand is outside the table.
+pub fn wrong_operand(selection: &[u32]) -> Fault
+    ensures { λ r. ⌜ r ≡ faultOf (wrongOperand (now (selection .entry))) ⌝ }
+{
+    let m = lent::number_at(selection, 0) as usize;
+    let mut c: usize = 1;
+    while c <= m {
+        if !operand_fits(lent::number_at(selection, c), lent::number_at(selection, m + c)) {
+            return Fault::At(c as u32);
+        }
+        c += 1;
+    }
+    Fault::Nowhere
+}

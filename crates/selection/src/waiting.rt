@@ -1,0 +1,91 @@
+// The waiting rule: lists and loose words wait while codes are read from left to right.
+use model::{Code, Fault};
+ghost use mathlib.Core.Bool.{_&&_};
+ghost use mathlib.Core.Path.{_≡_};
+ghost use Prim.Native.Nat.{_<_};
+ghost use lib.Dec.{eqb, leb};
+ghost use Rattle.model.specs.Answers.{faultOf};
+ghost use Rattle.model.specs.Checks.{wrongShape};
+ghost use Rattle.model.specs.Waiting.{fits, listsBehind, wordsBehind};
+
+// "Other kinds need p = 0", and so many lists
+fn takes(needed: usize, lists: usize, words: usize) -> bool
+    ensures { λ r. ⌜ r ≡ (eqb words 0 && leb needed lists) ⌝ }
+{
+    if words != 0 {
+        return false;
+    }
+    needed <= lists
+}
+
+// Does a code fit where so many lists and words wait?
+fn code_fits(code: Code, lists: usize, words: usize) -> bool
+    ensures { λ r. ⌜ r ≡ fits code lists words ⌝ }
+{
+    match code {
+        Code::Word(_) => words < 8,
+        Code::Phrase(k) => {
+            if words != k as usize {
+                return false;
+            }
+            lists < 8
+        }
+        Code::Combine(_) => takes(2, lists, words),
+        Code::Not => takes(1, lists, words),
+        Code::Filter(_) => takes(1, lists, words),
+    }
+}
+
+// The lists that wait behind a code.
+fn lists_behind(code: Code, lists: usize) -> usize
+    requires { ⌜ lists < 4294967296 ⌝ }
+    ensures { λ r. ⌜ r ≡ listsBehind code lists ⌝ }
+{
+    match code {
+        Code::Word(_) => lists,
+        Code::Phrase(_) => lists + 1,
+        Code::Combine(_) => if 0 < lists { lists - 1 } else { 0 },
+        Code::Not => lists,
+        Code::Filter(_) => lists,
+    }
+}
+
+// The loose words that wait behind a code.
+fn words_behind(code: Code, words: usize) -> usize
+    requires { ⌜ words < 4294967296 ⌝ }
+    ensures { λ r. ⌜ r ≡ wordsBehind code words ⌝ }
+{
+    match code {
+        Code::Word(_) => words + 1,
+        Code::Phrase(_) => 0,
+        Code::Combine(_) => words,
+        Code::Not => words,
+        Code::Filter(_) => words,
+    }
+}
+
+// Refusal 6: the first code breaking the rule, the last code if only the end does.
+pub fn wrong_shape(selection: &[u32]) -> Fault
+    ensures { λ r. ⌜ r ≡ faultOf (wrongShape (now (selection .entry))) ⌝ }
+{
+    let m = lent::number_at(selection, 0);
+    let mut lists: usize = 0;
+    let mut words: usize = 0;
+    let mut c: u32 = 0;
+    while c < m {
+        let code = crate::codes::code_at(selection, c + 1);
+        if !code_fits(code, lists, words) {
+            return Fault::At(c + 1);
+        }
+        lists = lists_behind(code, lists);
+        words = words_behind(code, words);
+        c += 1;
+    }
+    if lists != 1 {
+        return Fault::At(m);
+    }
+    if words != 0 {
+        return Fault::At(m);
+    }
+    Fault::Nowhere
+}
