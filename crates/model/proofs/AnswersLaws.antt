@@ -18,7 +18,7 @@ use Rattle.model.specs.Matches.{Str, Match, hasFree, stringsIn, strings,
 use Rattle.model.specs.Section.{sectionOf}
 use Rattle.model.specs.Trees.{treeOf, parts}
 use Rattle.model.specs.Walk.{firstTooLong, unlessTooLong}
-use Rattle.model.proofs.SectionLaws.{otherwise-none}
+use Rattle.model.proofs.ChecksLaws.{otherwise-none}
 use Rattle.model.proofs.TestsLaws.{both-true, both-false, cond-none}
 use Rattle.model.proofs.WalkLaws.{firstTooLong-whole, walk-is, says-free}
 

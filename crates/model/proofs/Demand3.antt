@@ -11,14 +11,16 @@ use borrow.Author.Tests.{lt-leb}
 use Rattle.model.specs.declared.Listing.the-variants.{Listed}
 use Rattle.model.specs.declared.Quick.the-variants.{Answered, Refused}
 use Rattle.model.specs.Answers.{completeList, listingAnswer, quickAnswer}
-use Rattle.model.specs.Checks.{Refusal, inputRefusal, quickChecks}
+use Rattle.model.specs.Checks.{Refusal, sectionRefusal, selectionRefusal, inputRefusal, quickChecks}
 use Rattle.model.specs.Demand3.{Passes, walkBuilds, walkReaches, TooLongFirst}
 use Rattle.model.specs.Limits.{workLength}
 use Rattle.model.specs.Matches.{hasFree}
 use Rattle.model.specs.Section.{sectionOf}
-use Rattle.model.specs.Trees.{treeOf, parts}
-use Rattle.model.specs.Walk.{firstTooLong, unlessTooLong}
+use Rattle.model.specs.Trees.{treeOf}
+use Rattle.model.specs.Walk.{firstTooLong, unlessTooLong, ownCount}
 use Rattle.model.proofs.AnswersLaws.{quickAnswer-is, listingRefusal-none, listingAnswer-listed}
+use Rattle.model.proofs.ChecksLaws.{otherwise-none, accepted-selection}
+use Rattle.model.proofs.PartsLaws.{parts-own}
 use Rattle.model.proofs.WalkLaws.{firstTooLong-some, unlessTooLong-refused, unlessTooLong-nine, unlessTooLong-answered, unlessTooLong-either, built-none, length-reached}
 
 module _ (section selection : List ℕ) (work : ℕ) where
@@ -89,7 +91,11 @@ module _ (section selection : List ℕ) (work : ℕ) where
       → n ≡ length (walkReaches section selection)
   counts-its-walk p y n e = unlessTooLong-answered long answer y count n (sym (is p) ∙ e) .1
 
-  -- It is at most the count of all the selection's codes but those of kind 0.
+  -- "The selection's own count is that of all its codes but those of kind 0": the walk's is at most that.
   pub counts-at-most-own : Passes section selection work → (y : Bool) (n : ℕ) → quickAnswer section selection work ≡ Answered y n
-      → n ≤ length (parts (treeOf selection))
-  counts-at-most-own p y n e = rw (counts-its-walk p y n e) (length-reached (sectionOf section) (treeOf selection))
+      → n ≤ ownCount selection
+  unfolding inputRefusal
+  counts-at-most-own p y n e =
+      let passed = otherwise-none (sectionRefusal section) (selectionRefusal selection) (p .checks) in
+      let own = parts-own selection (accepted-selection selection (passed .1) .spelt) in
+      rw (counts-its-walk p y n e, ← own) (length-reached (sectionOf section) (treeOf selection))

@@ -6,8 +6,14 @@ pub mod TestsLaws
 pub mod ListsLaws
 pub mod EveryLaws
 pub mod SectionLaws
+pub mod SelectionLaws
+pub mod WaitingLaws
+pub mod TreesLaws
+pub mod PartsLaws
+pub mod BuildLaws
 pub mod RulesLaws
 pub mod AllStringsLaws
 pub mod FreeLaws
+pub mod ChecksLaws
 pub mod WalkLaws
 pub mod AnswersLaws

@@ -9,6 +9,7 @@ use mathlib.Core.Logic.{_↔_, ⊎-elim}
 use mathlib.Core.Option.{some, none, orElse, Option·none-ne-some, Option·some-ne-none}
 use lib.ListN.{length}
 use Rattle.model.specs.Lists.{all, any, isEmpty, keep, first, upFrom, range}
+use Rattle.model.proofs.TestsLaws.{both-true}
 
 -- ---- flatMap
 
@@ -23,6 +24,9 @@ pub all-append : {A : Type 0} (p : A → Bool) (xs ys : List A) → all p (xs ++
 unfolding all
 all-append p [] ys = refl
 all-append p (x ∷ xs) ys = ap (λ b. p x && b) (all-append p xs ys) ∙ sym (and-assoc (p x) (all p xs) (all p ys))
+
+pub all-split : {A : Type 0} (p : A → Bool) (xs ys : List A) → all p (xs ++ ys) ≡ true → (all p xs ≡ true) × (all p ys ≡ true)
+all-split p xs ys e = both-true (all p xs) (all p ys) (sym (all-append p xs ys) ∙ e)
 
 pub any-append : {A : Type 0} (p : A → Bool) (xs ys : List A) → any p (xs ++ ys) ≡ (any p xs || any p ys)
 unfolding any
@@ -108,6 +112,13 @@ pub length-upFrom : (a n : ℕ) → length (upFrom a n) ≡ n
 unfolding upFrom
 length-upFrom a zero = refl
 length-upFrom a (suc n) = ap suc (length-upFrom (a + 1) n)
+
+pub upFrom-snoc : (a n : ℕ) → upFrom a (suc n) ≡ upFrom a n ++ (a + n) ∷ []
+unfolding upFrom
+upFrom-snoc a zero = let e : a ≡ a + 0 = omega arith in ap (λ k. k ∷ []) e
+upFrom-snoc a (suc n) =
+    let e : a + 1 + n ≡ a + suc n = omega arith in
+    ap (λ l. a ∷ l) (upFrom-snoc (a + 1) n ∙ ap (λ k. upFrom (a + 1) n ++ k ∷ []) e)
 
 pub length-range : (a b : ℕ) → length (range a b) ≡ b + 1 - a
 unfolding range

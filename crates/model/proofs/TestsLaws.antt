@@ -1,13 +1,17 @@
 -- Booleans and options taken apart.
-use Prim.Native.Nat.{ℕ}
-use native.Mathlib.Omega.{arith}
 use mathlib.Core.Path.{_≡_, refl}
 use mathlib.Core.Bool.{Bool, true, false, _&&_, _||_, cond, xor, false≢true, true≢false}
 use mathlib.Core.Option.{Option, some, none, Option·some-ne-none}
 
+pub false-true : {A : Type 0} → false ≡ true → A
+false-true e = absurd (false≢true e)
+
 pub both-true : (a b : Bool) → (a && b) ≡ true → (a ≡ true) × (b ≡ true)
 both-true true b e = (refl, e)
 both-true false b e = absurd (false≢true e)
+
+pub and-join : {a b : Bool} → a ≡ true → b ≡ true → (a && b) ≡ true
+and-join h k = rw (h, k)
 
 pub both-false : (a b : Bool) → (a || b) ≡ false → (a ≡ false) × (b ≡ false)
 both-false true b e = absurd (true≢false e)

@@ -1,10 +1,18 @@
 -- What the checks guarantee, as facts that callers cite. No part of the meaning.
 use Prim.Native.Nat.{ℕ, _+_, _*_, _≤_}
-use mathlib.Core.Path.{_≡_}
+use mathlib.Core.Bool.{true}
 use mathlib.Core.List.{List}
+use mathlib.Core.Option.{none}
+use mathlib.Core.Path.{_≡_}
 use lib.ListN.{length}
-use Rattle.model.specs.Limits.{maxTokens}
+use Rattle.model.specs.AllStrings.{RanksUpTo}
+use Rattle.model.specs.Checks.{operandFits, mildOverNot}
+use Rattle.model.specs.Limits.{maxTokens, maxCodes}
+use Rattle.model.specs.Lists.{first}
+use Rattle.model.specs.Parts.{postfix, placed, wellFormed}
 use Rattle.model.specs.Section.{size, sentenceAt, paragraphAt}
+use Rattle.model.specs.Selection.{kindAt, operandAt, codesOf}
+use Rattle.model.specs.Trees.{treeOf, parts}
 
 -- "Sentence numbers are all zero (not reported) or all nonzero and never falling; paragraph numbers likewise."
 pub record Steady (unit : ℕ → ℕ) (n : ℕ) : Type 0 where
@@ -16,3 +24,19 @@ pub record AcceptedSection (section : List ℕ) : Type 0 where
   pub few : size section ≤ maxTokens
   pub sentences : Steady (sentenceAt section) (size section)
   pub paragraphs : Steady (paragraphAt section) (size section)
+
+-- A phrase has a word and a code of its own, so there are at most half as many phrases as codes.
+abbrev pub maxPhrases : ℕ
+maxPhrases = 32
+
+pub record AcceptedSelection (selection : List ℕ) : Type 0 where
+  pub sized : length selection ≡ 1 + 2 * size selection
+  pub at-least : 1 ≤ size selection
+  pub few : size selection ≤ maxCodes
+  pub known : (c : ℕ) → 1 ≤ c → c ≤ size selection → kindAt selection c ≤ 15
+  pub operands : (c : ℕ) → 1 ≤ c → c ≤ size selection → operandFits (kindAt selection c) (operandAt selection c) ≡ true
+  pub well : wellFormed (codesOf selection) ≡ true
+  pub spelt : postfix (treeOf selection) ≡ codesOf selection
+  pub numbered : placed 1 1 (treeOf selection) ≡ treeOf selection
+  pub ranks : RanksUpTo maxPhrases (treeOf selection)
+  pub no-not : first mildOverNot (parts (treeOf selection)) ≡ none

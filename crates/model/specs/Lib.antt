@@ -14,7 +14,8 @@ pub mod Answers
 -- .. its worked examples ..
 pub mod Examples
 -- .. and what the laws and the code's contracts say besides: no part of the meaning.
-pub mod Accepted
+pub mod Parts
 pub mod AllStrings
 pub mod Choices
+pub mod Accepted
 pub mod Demand3

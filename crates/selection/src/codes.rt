@@ -1,5 +1,8 @@
 // The codes of a selection: kinds and operands as `Code`.
-use model::{Code, Filter, Pair, RADIX};
+use model::Code;
+use model::Filter;
+use model::Pair;
+use model::RADIX;
 ghost use mathlib.Core.Path.{_≡_};
 ghost use Rattle.model.specs.Selection.{codeAt, codeOf, filterOf};
 

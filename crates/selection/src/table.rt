@@ -1,5 +1,7 @@
 // Kinds and operands against document 01's table.
-use model::{Fault, MAX_WAITING, RADIX};
+use model::Fault;
+use model::MAX_WAITING;
+use model::RADIX;
 ghost use mathlib.Core.Bool.{_&&_};
 ghost use mathlib.Core.Path.{_≡_};
 ghost use lib.Dec.{leb};
@@ -61,7 +63,10 @@ pub fn wrong_operand(selection: &[u32]) -> Fault
     let m = lent::number_at(selection, 0) as usize;
     let mut c: usize = 1;
     while c <= m {
-        if !operand_fits(lent::number_at(selection, c), lent::number_at(selection, m + c)) {
+        if !operand_fits(
+            lent::number_at(selection, c),
+            lent::number_at(selection, m + c),
+        ) {
             return Fault::At(c as u32);
         }
         c += 1;

@@ -1,5 +1,6 @@
 // The waiting rule: lists and loose words wait while codes are read from left to right.
-use model::{Code, Fault};
+use model::Code;
+use model::Fault;
 ghost use mathlib.Core.Bool.{_&&_};
 ghost use mathlib.Core.Path.{_≡_};
 ghost use Prim.Native.Nat.{_<_};

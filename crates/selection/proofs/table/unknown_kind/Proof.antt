@@ -52,7 +52,7 @@ cast-t8 c = search needs
 
 -- src/table.rt:50:13
 returns : tie.Need-returns Inv-loop μ-loop
-returns c = 
+returns c =
     let l = c .before .before .before .before in
     let s = l .before .before .before .args .selection .now in
     let e = l .before .number-at .ensures in
@@ -69,7 +69,7 @@ loop-less c = search needs
 
 -- src/table.rt:48:5
 loop-again : tie.Need-loop-again Inv-loop μ-loop
-loop-again c = 
+loop-again c =
     let l = c .before .before .before .before in
     let s = l .before .before .before .args .selection .now in
     let e = l .before .number-at .ensures in
@@ -78,7 +78,7 @@ loop-again c =
 
 -- src/table.rt:43:1
 returns-2 : tie.Need-returns-2 Inv-loop μ-loop
-returns-2 c = 
+returns-2 c =
     let l = c .before in
     let s = l .before .before .before .args .selection .now in
     let e = l .before .number-at .ensures in

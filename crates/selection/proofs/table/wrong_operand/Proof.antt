@@ -60,7 +60,7 @@ cast-t10 c = search needs
 
 -- src/table.rt:65:13
 returns : tie.Need-returns Inv-loop μ-loop
-returns c = 
+returns c =
     let l = c .before .before .before .before .before in
     let s = l .before .before .before .args .selection .now in
     let e = l .before .number-at .ensures in
@@ -77,7 +77,7 @@ loop-less c = search needs
 
 -- src/table.rt:63:5
 loop-again : tie.Need-loop-again Inv-loop μ-loop
-loop-again c = 
+loop-again c =
     let l = c .before .before .before .before .before in
     let s = l .before .before .before .args .selection .now in
     let e = l .before .number-at .ensures in
@@ -86,7 +86,7 @@ loop-again c =
 
 -- src/table.rt:58:1
 returns-2 : tie.Need-returns-2 Inv-loop μ-loop
-returns-2 c = 
+returns-2 c =
     let l = c .before in
     let s = l .before .before .before .args .selection .now in
     let e = l .before .number-at .ensures in

@@ -1,0 +1,124 @@
+-- A part is built alone: its codes, read from nothing, give its tree with the places and ranks that it has in the whole, and each of them fits where
+-- it stands, because a part of codes that pass the waiting rule passes it alone.
+use Prim.Native.Nat.{ℕ, zero, suc, _+_, _-_, _≤_, _<_}
+use native.Mathlib.Omega.{arith}
+use mathlib.Core.Path.{_≡_, refl, sym, ap, ap₂, _∙_}
+use mathlib.Core.Bool.{true}
+use mathlib.Core.List.{List, [], _∷_, _++_}
+use lib.ListN.{length, drop}
+use lib.Seq.{drop-at}
+use Rattle.model.specs.declared.Code.{Code}
+use Rattle.model.specs.declared.Code.the-variants.{Word, Phrase, Combine, Not, Filter as Filtered}
+use Rattle.model.specs.Limits.{maxWaiting}
+use Rattle.model.specs.Selection.{upTo}
+use Rattle.model.specs.Waiting.{fits}
+use Rattle.model.specs.Trees.{Tree, State, read, readAll, fresh, parts}
+use Rattle.model.specs.Parts.{heads, postfix, phrases, placed, state, spelled, placeAfter, rankAfter}
+use Rattle.model.specs.Parts.{waitingParts, fitsAll, listsAll, wordsAll, wellFormed, partStart, PartAt, stateAt}
+use Rattle.model.proofs.SelectionLaws.{length-upTo, upTo-split, upTo-front}
+use Rattle.model.proofs.TreesLaws.{readAll-append, readAll-snoc, read-part, heads-append, length-parts}
+use Rattle.model.proofs.WaitingLaws.{fitsAll-split, listsAll-few, wordsAll-few, formed, steps}
+use Rattle.model.proofs.PartsLaws.{part-start, part-length, fits-at}
+
+-- ---- stateAt
+
+place-read : (c : Code) (s : State) → read c s .place ≡ s .place + 1
+unfolding read
+place-read (Word w) s = refl
+place-read (Phrase k) s = refl
+place-read (Combine k) s = refl
+place-read Not s = refl
+place-read (Filtered f) s = refl
+
+module _ (at : ℕ → Code) (lo rank : ℕ) where
+  -- the place that comes next
+  pub place-state : (n : ℕ) → stateAt at lo rank n .place ≡ lo + suc n
+  unfolding stateAt
+  place-state zero = omega arith
+  place-state (suc n) = place-read (at (lo + suc n)) (stateAt at lo rank n) ∙ omega (arith, place-state n)
+
+  -- reading code by code is reading the codes
+  state-read : (n : ℕ) → stateAt at lo rank n ≡ readAll (upTo (λ i. at (lo + i)) n) (fresh (lo + 1) rank)
+  unfolding stateAt readAll upTo
+  state-read zero = refl
+  state-read (suc n) = ap (read (at (lo + suc n))) (state-read n) ∙ sym (readAll-snoc (upTo (λ i. at (lo + i)) n) (at (lo + suc n)) (fresh (lo + 1) rank))
+
+-- ---- a part built alone
+
+-- A code fits where it is read, and no more trees and words wait than may.
+pub record Fits (c : Code) (s : State) : Type 0 where
+  pub here : fits c (length (s .trees)) (length (s .words)) ≡ true
+  pub few-trees : length (s .trees) ≤ maxWaiting
+  pub few-words : length (s .words) ≤ maxWaiting
+
+module _ (at : ℕ → Code) (hi lo : ℕ) (w : PartAt at hi) (e : lo ≡ partStart at hi) where
+  abbrev own : ℕ → Code
+  own i = at (lo + i)
+
+  abbrev rank : ℕ
+  rank = rankAfter (w .below)
+
+  pub part-below : lo ≡ length (spelled (w .below))
+  part-below = e ∙ part-start at (w .below) (w .tree) hi (w .spells)
+
+  part-ends : lo + length (postfix (w .tree)) ≡ hi
+  part-ends = omega (arith, part-below, part-length at hi w)
+
+  pub part-size : hi - lo ≡ length (postfix (w .tree))
+  part-size = omega (arith, part-ends)
+
+  -- the part's own codes are those behind lo
+  pub part-codes : upTo (λ i. at (lo + i)) (hi - lo) ≡ postfix (w .tree)
+  unfolding spelled
+  part-codes =
+      sym (drop-at (upTo at lo) (upTo own (hi - lo)) lo (length-upTo at lo)) ∙ ap (drop lo) (sym (upTo-split at lo hi (omega (arith, part-ends))) ∙ w .spells)
+      ∙ drop-at (spelled (w .below)) (postfix (w .tree)) lo (sym part-below)
+
+  -- it has as many parts as codes but words
+  pub part-heads : heads (upTo at lo) + length (parts (w .tree)) ≡ heads (upTo at hi)
+  unfolding spelled
+  part-heads =
+      let front-is : upTo at lo ≡ spelled (w .below) = ap (upTo at) part-below ∙ upTo-front at hi (spelled (w .below)) (postfix (w .tree)) (w .spells) in
+      ap₂ (λ (a b : ℕ). a + b) (ap heads front-is) (length-parts (w .tree)) ∙ sym (ap heads (w .spells) ∙ heads-append (spelled (w .below)) (postfix (w .tree)))
+
+  -- behind its last code the part's tree waits alone, with the places and ranks that it has in the whole
+  pub built-tree : stateAt at lo (rankAfter (w .below)) (hi - lo) ≡ state (w .tree ∷ []) [] (hi + 1) (rankAfter (w .below) + phrases (w .tree))
+  built-tree =
+      let p : lo + 1 ≡ placeAfter (w .below) = omega (arith, part-below) in
+      let q : lo + 1 + length (postfix (w .tree)) ≡ hi + 1 = omega (arith, part-ends) in
+      state-read at lo rank (hi - lo) ∙ ap (λ (l : List Code). readAll l (fresh (lo + 1) rank)) part-codes ∙ read-part (w .tree) [] (lo + 1) rank
+      ∙ ap₂ (λ (t : Tree) (k : ℕ). state (t ∷ []) [] k (rank + phrases (w .tree))) (ap (λ (k : ℕ). placed k rank (w .tree)) p ∙ w .numbered) q
+
+  module _ (fine : wellFormed (postfix (w .tree)) ≡ true) where
+    alone : wellFormed (upTo own (hi - lo)) ≡ true
+    alone = ap wellFormed part-codes ∙ fine
+
+    -- each of its codes fits where it stands
+    pub built-fits : (n : ℕ) → n < hi - lo → Fits (at (lo + suc n)) (stateAt at lo (rankAfter (w .below)) n)
+    built-fits n h =
+        let f = fits-at own (hi - lo) alone n h in
+        let F = upTo own n in
+        let s = state-read at lo rank n in
+        let g = steps F (fresh (lo + 1) rank) (f .before) in
+        let t : length (stateAt at lo rank n .trees) ≡ listsAll F 0 = ap (λ (z : State). length (z .trees)) s ∙ g .lists in
+        let v : length (stateAt at lo rank n .words) ≡ wordsAll F 0 = ap (λ (z : State). length (z .words)) s ∙ g .loose in
+        record {
+          here = rw (t, v) (f .here);
+          few-trees = rw t (listsAll-few F 0 0 (f .before) (omega arith));
+          few-words = rw v (wordsAll-few F 0 0 (f .before) (omega arith));
+        }
+
+    -- the parts that its first codes end are the first of its parts
+    pub built-parts : (n : ℕ) → n ≤ hi - lo → (more : List Tree) × (parts (w .tree) ≡ waitingParts (stateAt at lo (rankAfter (w .below)) n .trees) ++ more)
+    unfolding waitingParts
+    built-parts n h =
+        let F = upTo own n in
+        let R = upTo (λ i. own (n + i)) (hi - lo - n) in
+        let s = fresh (lo + 1) rank in
+        let all : upTo own (hi - lo) ≡ F ++ R = upTo-split own n (hi - lo) h in
+        let f = fitsAll-split F R 0 0 (ap (λ (l : List Code). fitsAll l 0 0) (sym all) ∙ formed (upTo own (hi - lo)) alone .fit) in
+        let g = steps F s (f .0) in
+        let r = steps R (readAll F s) (rw (g .lists, g .loose) (f .1)) in
+        let whole = sym (readAll-append F R s) ∙ ap (λ (l : List Code). readAll l s) (sym all) ∙ sym (state-read at lo rank (hi - lo)) ∙ built-tree in
+        let here = ap (λ (z : State). waitingParts (z .trees) ++ r .newer) (sym (state-read at lo rank n)) in
+        (r .newer, ap (λ (z : State). waitingParts (z .trees)) (sym whole) ∙ r .adds ∙ here)

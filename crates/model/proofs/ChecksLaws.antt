@@ -1,0 +1,175 @@
+-- What the checks guarantee: where none of a list of checks refuses, each of them passes. In an accepted section each counting rises from one
+-- position to the next, and is zero at the one exactly where it is at the other; an accepted selection is one tree that spells its codes.
+use Prim.Native.Nat.{ℕ, zero, suc, _+_, _-_, _*_, _≤_}
+use native.Mathlib.Omega.{arith}
+use mathlib.Core.Path.{_≡_, refl, sym, ap, ap₂, _∙_}
+use mathlib.Core.Bool.{Bool, true, false, not, _&&_, _||_, cond, xor}
+use mathlib.Core.List.{List, [], _∷_, _++_, map}
+use mathlib.Core.Option.{Option, some, none, Option·map, Option·some-ne-none, map-eq-none-iff}
+use lib.Dec.{eqb, leb, ltb}
+use lib.ListN.{length}
+use borrow.Author.Tests.{eqb-true, eq-eqb, ltb-false, leb-false, not-false}
+use Rattle.model.specs.declared.Code.{Code}
+use Rattle.model.specs.declared.Code.the-variants.{Word, Phrase, Combine, Not, Filter as Filtered}
+use Rattle.model.specs.Limits.{maxTokens, maxCodes, maxWaiting}
+use Rattle.model.specs.Lists.{all, any, first}
+use Rattle.model.specs.Section.{size, wellSized, sentenceAt, paragraphAt}
+use Rattle.model.specs.Selection.{kindAt, operandAt, codeOf, codeAt, codesOf}
+use Rattle.model.specs.Trees.{Tree, phrase, pair, negation, filter, placeOf, last, treeOf, parts}
+use Rattle.model.specs.Parts.{isNotCode, hasWords, postfix, placed, wellFormed, PartAt, spelled, phrasesAll}
+use Rattle.model.specs.Checks.{Refusal, refusal, otherwise, Check, tried, wrongSection, faultyIn, faultyAt, faultyPosition, sectionRefusal, wrongSelection, unknownKind}
+use Rattle.model.specs.Checks.{operandFits, wrongOperand, wrongShape, isNot, hasNot, mildOverNot, notUnderMildNot, selectionRefusal}
+use Rattle.model.specs.Accepted.{Steady, AcceptedSection, maxPhrases, AcceptedSelection}
+use Rattle.model.proofs.ListsLaws.{any-append, first-range-none}
+use Rattle.model.proofs.SectionLaws.{WellSized, well-sized}
+use Rattle.model.proofs.TestsLaws.{both-true, both-false, xor-false, cond-none}
+use Rattle.model.proofs.SelectionLaws.{codeOf-cases, length-upTo, all-upTo}
+use Rattle.model.proofs.TreesLaws.{phrases-few, ranks-to}
+use Rattle.model.proofs.WaitingLaws.{break-none, parsed}
+
+-- ---- otherwise, tried: no check refuses where all of them together do not
+
+pub otherwise-none : (a b : Option Refusal) → otherwise a b ≡ none → (a ≡ none) × (b ≡ none)
+otherwise-none (some r) b h = absurd (Option·some-ne-none r h)
+otherwise-none none b h = (refl, h)
+
+pub tried-cons : (c : Check) (cs : List Check) (lent : List ℕ) → tried (c ∷ cs) lent ≡ none → (c .fails lent ≡ none) × (tried cs lent ≡ none)
+unfolding tried
+tried-cons c cs lent h =
+    let b = otherwise-none (Option·map (refusal (c .number)) (c .fails lent)) (tried cs lent) h in
+    (map-eq-none-iff (refusal (c .number)) (c .fails lent) .0 (b .0), b .1)
+
+-- ---- faultyIn: a counting without a faulty position is steady
+
+module _ (unit : ℕ → ℕ) (n : ℕ) (fine : (p : ℕ) → 2 ≤ p → p ≤ n → faultyIn unit p ≡ false) where
+  next : (p : ℕ) → 1 ≤ p → p + 1 ≤ n → (unit p ≤ unit (p + 1)) × (eqb (unit (p + 1)) 0 ≡ eqb (unit p) 0)
+  next p h k =
+      let e : p + 1 - 1 ≡ p = omega arith in
+      let f = both-false (ltb (unit (p + 1)) (unit p)) (xor (eqb (unit (p + 1)) 0) (eqb (unit p) 0)) (rw e at (fine (p + 1) (omega arith) k)) in
+      (ltb-false (unit (p + 1)) (unit p) (f .0), xor-false (eqb (unit (p + 1)) 0) (eqb (unit p) 0) (f .1))
+
+  -- from p up by d positions
+  rises : (d p : ℕ) → 1 ≤ p → p + d ≤ n → (unit p ≤ unit (p + d)) × (eqb (unit (p + d)) 0 ≡ eqb (unit p) 0)
+  rises zero p h k = let e : p + 0 ≡ p = omega arith in rw e (omega arith, refl)
+  rises (suc d) p h k =
+      let e : p + suc d ≡ p + d + 1 = omega arith in
+      let a = rises d p h (omega arith) in
+      let b = next (p + d) (omega arith) (omega arith) in
+      rw e (omega (arith, a .0, b .0), b .1 ∙ a .1)
+
+  pub steady : Steady unit n
+  steady = record { rising = rising; together = together }
+    where
+      rising : (p q : ℕ) → 1 ≤ p → p ≤ q → q ≤ n → unit p ≤ unit q
+      rising p q h k l = let e : p + (q - p) ≡ q = omega arith in rw e at (rises (q - p) p h (omega arith) .0)
+
+      alike : (q : ℕ) → 1 ≤ q → q ≤ n → eqb (unit q) 0 ≡ eqb (unit 1) 0
+      alike q h l = let e : 1 + (q - 1) ≡ q = omega arith in rw e at (rises (q - 1) 1 (omega arith) (omega arith) .1)
+
+      together : (p q : ℕ) → 1 ≤ p → p ≤ n → 1 ≤ q → q ≤ n → unit p ≡ 0 → unit q ≡ 0
+      together p q h k l m z = eqb-true _ _ (alike q l m ∙ sym (alike p h k) ∙ eq-eqb _ _ z)
+
+-- ---- sectionRefusal
+
+pub accepted-section : (section : List ℕ) → sectionRefusal section ≡ none → AcceptedSection section
+unfolding sectionRefusal wrongSection faultyPosition faultyAt
+accepted-section section h =
+    let a = tried-cons _ _ section h in
+    let b = tried-cons _ _ section (a .1) in
+    let w = well-sized 0 maxTokens section (cond-none (wellSized 0 maxTokens section) 0 (a .0)) in
+    let f : (p : ℕ) → 2 ≤ p → p ≤ size section → (faultyIn (sentenceAt section) p ≡ false) × (faultyIn (paragraphAt section) p ≡ false) =
+    λ p h k. both-false (faultyIn (sentenceAt section) p) (faultyIn (paragraphAt section) p) (first-range-none (faultyAt section) 2 (size section) (b .0) p h k) in
+    record {
+      sized = w .long;
+      few = w .at-most;
+      sentences = steady (sentenceAt section) (size section) (λ p h k. f p h k .0);
+      paragraphs = steady (paragraphAt section) (size section) (λ p h k. f p h k .1);
+    }
+
+-- ---- wrongSelection, unknownKind, wrongOperand
+
+-- refusals 3, 4 and 5 that do not fall
+pub sized-selection : (sel : List ℕ) → wrongSelection sel ≡ none → WellSized 1 maxCodes sel
+unfolding wrongSelection
+sized-selection sel h = well-sized 1 maxCodes sel (cond-none (wellSized 1 maxCodes sel) 0 h)
+
+pub known-kinds : (sel : List ℕ) → unknownKind sel ≡ none → (c : ℕ) → 1 ≤ c → c ≤ size sel → kindAt sel c ≤ 15
+unfolding unknownKind
+known-kinds sel h c l g = omega (arith, leb-false 16 (kindAt sel c) (first-range-none (λ i. leb 16 (kindAt sel i)) 1 (size sel) h c l g))
+
+pub fitting-operands : (sel : List ℕ) → wrongOperand sel ≡ none → (c : ℕ) → 1 ≤ c → c ≤ size sel → operandFits (kindAt sel c) (operandAt sel c) ≡ true
+unfolding wrongOperand
+fitting-operands sel h c l g = not-false _ (first-range-none (λ i. not (operandFits (kindAt sel i) (operandAt sel i))) 1 (size sel) h c l g)
+
+-- ---- hasNot
+
+any-words : (ws : List ℕ) → any isNotCode (map Word ws) ≡ false
+unfolding any
+any-words [] = refl
+any-words (w ∷ ws) = any-words ws
+
+any-both : (xs ys : List Tree) (cs ds : List Code) → any isNot xs ≡ any isNotCode cs → any isNot ys ≡ any isNotCode ds
+    → any isNot (xs ++ ys) ≡ any isNotCode (cs ++ ds)
+any-both xs ys cs ds e f = any-append isNot xs ys ∙ ap₂ (λ (a b : Bool). a || b) e f ∙ sym (any-append isNotCode cs ds)
+
+-- a tree has a not where its codes have one
+pub has-not : (t : Tree) → hasNot t ≡ any isNotCode (postfix t)
+unfolding parts postfix any
+has-not (phrase c r ws) = any-both [] (phrase c r ws ∷ []) (map Word ws) (Phrase (length ws) ∷ []) (sym (any-words ws)) refl
+has-not (pair k c t u) =
+    let sides = any-both (parts t) (parts u) (postfix t) (postfix u) (has-not t) (has-not u) in
+    any-both (parts t ++ parts u) (pair k c t u ∷ []) (postfix t ++ postfix u) (Combine k ∷ []) sides refl
+has-not (negation c t) = any-both (parts t) (negation c t ∷ []) (postfix t) (Not ∷ []) (has-not t) refl
+has-not (filter f c t) = any-both (parts t) (filter f c t ∷ []) (postfix t) (Filtered f ∷ []) (has-not t) refl
+
+-- ---- selectionRefusal
+
+-- a phrase whose operand fits has a word
+has-words : (k o : ℕ) → operandFits k o ≡ true → hasWords (codeOf k o) ≡ true
+unfolding operandFits
+has-words k o h = codeOf-cases (λ c. hasWords c ≡ true) k o (λ e. refl) some (λ l q. refl) (λ l. refl) (λ l f. refl)
+  where
+    some : k ≡ 1 → leb 1 o ≡ true
+    some e = both-true (leb 1 o) (leb o maxWaiting) (ap (λ (n : ℕ). operandFits n o) (sym e) ∙ h) .0
+
+-- a selection that passes the rule is its tree
+tree-spelt : (sel : List ℕ) → wellFormed (codesOf sel) ≡ true → (postfix (treeOf sel) ≡ codesOf sel) × (placed 1 1 (treeOf sel) ≡ treeOf sel)
+unfolding treeOf last
+tree-spelt sel well =
+    let P = parsed (codesOf sel) well in
+    let is : treeOf sel ≡ P .tree = ap last (P .alone) in
+    (ap postfix is ∙ P .spelt, ap (placed 1 1) is ∙ P .numbered ∙ sym is)
+
+-- what holds of a selection that is not refused
+pub accepted-selection : (sel : List ℕ) → selectionRefusal sel ≡ none → AcceptedSelection sel
+unfolding selectionRefusal wrongShape notUnderMildNot codesOf
+accepted-selection sel h =
+    let three = tried-cons _ _ sel h in
+    let four = tried-cons _ _ sel (three .1) in
+    let five = tried-cons _ _ sel (four .1) in
+    let six = tried-cons _ _ sel (five .1) in
+    let seven = tried-cons _ _ sel (six .1) in
+    let size-is = sized-selection sel (three .0) in
+    let operands = fitting-operands sel (five .0) in
+    let codes = all-upTo (codeAt sel) hasWords (size sel) (λ c l g. has-words (kindAt sel c) (operandAt sel c) (operands c l g)) in
+    let well = break-none (codesOf sel) .0 (six .0) in
+    let tree = tree-spelt sel well in
+    let words = ap (all hasWords) (tree .0) ∙ codes in
+    let half = phrases-few (treeOf sel) words in
+    record {
+      sized = size-is .long;
+      at-least = size-is .at-least;
+      few = size-is .at-most;
+      known = known-kinds sel (four .0);
+      operands = operands;
+      well = well;
+      spelt = tree .0;
+      numbered = tree .1;
+      ranks = ranks-to maxPhrases 1 1 (treeOf sel) (tree .1) (omega arith) (omega (arith, size-is .at-most, ap length (tree .0), length-upTo (codeAt sel) (size sel))) words;
+      no-not = map-eq-none-iff placeOf (first mildOverNot (parts (treeOf sel))) .0 (seven .0);
+    }
+
+-- its tree is the part that ends at its last code
+unfoldable pub accepted-part : (sel : List ℕ) → AcceptedSelection sel → PartAt (codeAt sel) (size sel)
+unfolding spelled codesOf phrasesAll
+accepted-part sel a = record { tree = treeOf sel; below = []; spells = sym (a .spelt); numbered = a .numbered }

@@ -1,0 +1,361 @@
+-- Laws of parts. The walk back from a part's last code counts the trees still to be found, so it ends behind the codes below the part; every code
+-- but a word ends a part, because behind it some tree waits and no word; and a part's sides are parts too.
+use Prim.Native.Nat.{ℕ, zero, suc, _+_, _-_, _≤_, _<_}
+use native.Mathlib.Omega.{arith}
+use mathlib.Core.Path.{_≡_, refl, sym, ap, ap₂, _∙_}
+use mathlib.Core.Bool.{Bool, true, false, cond}
+use mathlib.Core.List.{List, [], _∷_, _++_, map, append-assoc, append-nil}
+use lib.Dec.{leb}
+use lib.ListN.{length, length-append}
+use lib.Seq.{append-snoc}
+use borrow.Author.Tests.{ne-eqb, le-leb}
+use Rattle.model.specs.declared.Code.{Code}
+use Rattle.model.specs.declared.Code.the-variants.{Word, Phrase, Combine, Not, Filter as Filtered}
+use Rattle.model.specs.declared.Filter.{Filter}
+use Rattle.model.specs.declared.Pair.{Pair}
+use Rattle.model.specs.Lists.{keep, upFrom, range}
+use Rattle.model.specs.Section.{size}
+use Rattle.model.specs.Selection.{kindAt, operandAt, codeOf, codeAt, upTo, codesOf}
+use Rattle.model.specs.Waiting.{fits}
+use Rattle.model.specs.Trees.{Tree, phrase, pair, negation, filter, placeOf, State, readAll, fresh, treeOf, parts}
+use Rattle.model.specs.Parts.{headOf, heads, postfix, phrases, placed, state, spelled, phrasesAll, placeAfter, rankAfter}
+use Rattle.model.specs.Parts.{fitsAll, listsAll, wordsAll, wellFormed, stops, needs, back, partStart, PartAt}
+use Rattle.model.specs.Walk.{ownCount}
+use Rattle.model.proofs.TestsLaws.{false-true}
+use Rattle.model.proofs.SelectionLaws.{codeOf-cases, upTo-map, length-upTo, upTo-split, upTo-front, Ends, ends}
+use Rattle.model.proofs.TreesLaws.{readAll-append, read-part, place-of, length-parts}
+use Rattle.model.proofs.WaitingLaws.{behind-head, fitsAll-split, fitsAll-cons, listsAll-append, wordsAll-append, formed, steps, part-alone}
+
+-- ---- back
+
+-- a code adds at most one to what is to be found
+pub needs-le : (c : Code) (n : ℕ) → needs c n ≤ n + 1
+needs-le (Word w) n = omega arith
+needs-le (Phrase k) n = omega arith
+needs-le (Combine k) n = omega arith
+needs-le Not n = omega arith
+needs-le (Filtered f) n = omega arith
+
+-- a tree's last code, and those before it
+unfoldable lastCode : Tree → Code
+lastCode (phrase c r ws) = Phrase (length ws)
+lastCode (pair k c t u) = Combine k
+lastCode (negation c t) = Not
+lastCode (filter f c t) = Filtered f
+
+unfoldable front : Tree → List Code
+front (phrase c r ws) = map Word ws
+front (pair k c t u) = postfix t ++ postfix u
+front (negation c t) = postfix t
+front (filter f c t) = postfix t
+
+front-last : (t : Tree) → postfix t ≡ front t ++ lastCode t ∷ []
+unfolding postfix front lastCode
+front-last (phrase c r ws) = refl
+front-last (pair k c t u) = refl
+front-last (negation c t) = refl
+front-last (filter f c t) = refl
+
+stops-last : (t : Tree) → stops (lastCode t) 0 ≡ true
+unfolding lastCode
+stops-last (phrase c r ws) = refl
+stops-last (pair k c t u) = refl
+stops-last (negation c t) = refl
+stops-last (filter f c t) = refl
+
+module _ (at : ℕ → Code) where
+  pub back-none : (n : ℕ) → back at 0 n ≡ 0
+  unfolding back
+  back-none n = refl
+
+  -- the turns of the walk
+  pub back-stop : (i n : ℕ) → 0 < i → stops (at i) n ≡ true → back at i n ≡ i
+  unfolding back
+  back-stop zero n h s = absurd (omega arith)
+  back-stop (suc i) n h s = rw s
+
+  pub back-on : (i n : ℕ) → 0 < i → stops (at i) n ≡ false → back at i n ≡ back at (i - 1) (needs (at i) n)
+  unfolding back
+  back-on zero n h s = absurd (omega arith)
+  back-on (suc i) n h s = let e : i ≡ suc i - 1 = omega arith in rw s (ap (λ (k : ℕ). back at k (needs (at (suc i)) n)) e)
+
+  cond-le : (b : Bool) (i j : ℕ) → j ≤ i → cond b (suc i) j ≤ suc i
+  cond-le true i j h = omega arith
+  cond-le false i j h = omega arith
+
+  pub back-le : (i n : ℕ) → back at i n ≤ i
+  unfolding back
+  back-le zero n = omega arith
+  back-le (suc i) n = cond-le (stops (at (suc i)) n) i _ (back-le i (needs (at (suc i)) n))
+
+  pub start-le : (hi : ℕ) → partStart at hi ≤ hi
+  unfolding partStart
+  start-le hi = back-le hi 1
+
+  -- a row that spells trees ends in the last tree's last code
+  ends-last : (hi : ℕ) (t : Tree) (ts : List Tree) → upTo at hi ≡ spelled (t ∷ ts) → Ends at hi (spelled ts ++ front t) (lastCode t)
+  unfolding spelled
+  ends-last hi t ts e =
+      let last = ap (λ (l : List Code). spelled ts ++ l) (front-last t) ∙ sym (append-assoc (spelled ts) (front t) (lastCode t ∷ [])) in
+      ends at hi (spelled ts ++ front t) (lastCode t) (e ∙ last)
+
+  -- one step back
+  on : (hi n m : ℕ) (xs : List Code) (c : Code) → Ends at hi xs c → stops c n ≡ false → needs c n ≡ m → back at hi n ≡ back at (length xs) m
+  on hi n m xs c e s d =
+      let one : hi - 1 ≡ length xs = omega (arith, e .hi-is) in
+      back-on hi n (omega (arith, e .hi-is)) (ap (λ (x : Code). stops x n) (e .code) ∙ s) ∙ ap₂ (back at) one (ap (λ (x : Code). needs x n) (e .code) ∙ d)
+
+  back-words : (ws : List ℕ) (hi n : ℕ) (rest : List Code) → upTo at hi ≡ rest ++ map Word ws → back at hi n ≡ back at (length rest) n
+  back-words [] hi n rest e = ap (λ (k : ℕ). back at k n) (sym (length-upTo at hi) ∙ ap length (e ∙ append-nil rest))
+  back-words (w ∷ ws) hi n rest e =
+      let e' : upTo at hi ≡ rest ++ Word w ∷ [] ++ map Word ws = e ∙ sym (append-snoc rest (Word w) (map Word ws)) in
+      let f = upTo-front at hi (rest ++ Word w ∷ []) (map Word ws) e' in
+      back-words ws hi n (rest ++ Word w ∷ []) e' ∙ on _ n n rest (Word w) (ends at _ rest (Word w) f) refl refl
+
+  -- a tree is found: one less is to be found before it
+  back-tree : (t : Tree) (hi n : ℕ) (rest : List Code) → upTo at hi ≡ rest ++ postfix t → back at hi (suc n) ≡ back at (length rest) n
+  unfolding postfix
+  back-tree (phrase c r ws) hi n rest e =
+      let f = ends at hi (rest ++ map Word ws) (Phrase (length ws)) (e ∙ sym (append-assoc rest (map Word ws) (Phrase (length ws) ∷ []))) in
+      on hi (suc n) n _ _ f (ne-eqb (suc n) 0 (omega arith)) (omega arith) ∙ back-words ws _ n rest (f .rest)
+  back-tree (pair k c t u) hi n rest e =
+      let f = ends at hi (rest ++ postfix t ++ postfix u) (Combine k) (e ∙ simp append-assoc) in
+      on hi (suc n) (suc (suc n)) _ _ f (ne-eqb (suc n) 0 (omega arith)) (omega arith) ∙ back-tree u _ (suc n) (rest ++ postfix t) (f .rest)
+      ∙ back-tree t _ n rest (upTo-front at _ (rest ++ postfix t) (postfix u) (f .rest))
+  back-tree (negation c t) hi n rest e =
+      let f = ends at hi (rest ++ postfix t) Not (e ∙ sym (append-assoc rest (postfix t) (Not ∷ []))) in
+      on hi (suc n) (suc n) _ _ f (ne-eqb (suc n) 0 (omega arith)) refl ∙ back-tree t _ n rest (f .rest)
+  back-tree (filter g c t) hi n rest e =
+      let f = ends at hi (rest ++ postfix t) (Filtered g) (e ∙ sym (append-assoc rest (postfix t) (Filtered g ∷ []))) in
+      on hi (suc n) (suc n) _ _ f (ne-eqb (suc n) 0 (omega arith)) refl ∙ back-tree t _ n rest (f .rest)
+
+  -- with no tree left to find, the walk stops where it is, behind a tree's last code
+  stay : (ts : List Tree) → upTo at (length (spelled ts)) ≡ spelled ts → back at (length (spelled ts)) 0 ≡ length (spelled ts)
+  unfolding spelled
+  stay [] e = back-none 0
+  stay (t ∷ ts) e = let f = ends-last _ t ts e in back-stop _ 0 (omega (arith, f .hi-is)) (ap (λ (x : Code). stops x 0) (f .code) ∙ stops-last t)
+
+  -- the walk back from a part's last code ends behind the codes below it
+  pub part-start : (ts : List Tree) (t : Tree) (hi : ℕ) → upTo at hi ≡ spelled (t ∷ ts) → partStart at hi ≡ length (spelled ts)
+  unfolding spelled partStart
+  part-start ts t hi e = back-tree t hi 0 (spelled ts) e ∙ stay ts (upTo-front at hi (spelled ts) (postfix t) e)
+
+-- ---- part-at
+
+-- reading the codes of waiting trees from the start numbers them
+unfoldable placedAll : List Tree → List Tree
+placedAll [] = []
+placedAll (t ∷ ts) = placed (placeAfter ts) (rankAfter ts) t ∷ placedAll ts
+
+read-spelled : (ts : List Tree) → readAll (spelled ts) (fresh 1 1) ≡ state (placedAll ts) [] (placeAfter ts) (rankAfter ts)
+unfolding spelled readAll placedAll phrasesAll
+read-spelled [] = refl
+read-spelled (t ∷ ts) =
+    let place : placeAfter ts + length (postfix t) ≡ placeAfter (t ∷ ts) = omega (arith, length-append (spelled ts) (postfix t)) in
+    let rank : rankAfter ts + phrases t ≡ rankAfter (t ∷ ts) = omega arith in
+    readAll-append (spelled ts) (postfix t) (fresh 1 1) ∙ ap (readAll (postfix t)) (read-spelled ts) ∙ read-part t (placedAll ts) (placeAfter ts) (rankAfter ts)
+    ∙ ap₂ (state (placedAll (t ∷ ts)) []) place rank
+
+-- The codes before a place fit, and so does the next.
+pub record FitsAt (at : ℕ → Code) (n : ℕ) : Type 0 where
+  pub before : fitsAll (upTo at n) 0 0 ≡ true
+  pub here : fits (at (suc n)) (listsAll (upTo at n) 0) (wordsAll (upTo at n) 0) ≡ true
+  pub both : fitsAll (upTo at (suc n)) 0 0 ≡ true
+
+pub fits-at : (at : ℕ → Code) (m : ℕ) → wellFormed (upTo at m) ≡ true → (n : ℕ) → n < m → FitsAt at n
+unfolding upTo
+fits-at at m fine n h =
+    let f = formed (upTo at m) fine .fit in
+    let more = upTo (λ i. at (suc n + i)) (m - suc n) in
+    let to = fitsAll-split (upTo at (suc n)) more 0 0 (ap (λ (l : List Code). fitsAll l 0 0) (sym (upTo-split at (suc n) m h)) ∙ f) .0 in
+    let b = fitsAll-split (upTo at n) (at (suc n) ∷ []) 0 0 to in
+    record { before = b .0; here = fitsAll-cons (at (suc n)) [] (listsAll (upTo at n) 0) (wordsAll (upTo at n) 0) (b .1) .0; both = to }
+
+-- trees that are read are those that their codes are read into: so they are numbered
+module _ (at : ℕ → Code) (hi : ℕ) where
+  part-of : (ts : List Tree) (ws : List ℕ) → readAll (upTo at hi) (fresh 1 1) .trees ≡ ts → length ws ≡ 0 → 1 ≤ length ts
+      → spelled ts ++ map Word ws ≡ upTo at hi → PartAt at hi
+  unfolding placedAll
+  part-of [] ws a c d e = absurd (omega arith)
+  part-of (t ∷ ts) (w ∷ ws) a c d e = absurd (omega arith)
+  part-of (t ∷ ts) [] a c d e = record { tree = t; below = ts; spells = all; numbered = cc again }
+    where
+      all : upTo at hi ≡ spelled (t ∷ ts)
+      all = sym e ∙ append-nil (spelled (t ∷ ts))
+
+      again : placed (placeAfter ts) (rankAfter ts) t ∷ placedAll ts ≡ t ∷ ts
+      again = sym (ap (λ (s : State). s .trees) (read-spelled (t ∷ ts))) ∙ ap (λ (l : List Code). readAll l (fresh 1 1) .trees) (sym all) ∙ a
+
+-- every code but a word ends a part
+pub part-at : (at : ℕ → Code) (m : ℕ) → wellFormed (upTo at m) ≡ true → (hi : ℕ) → 1 ≤ hi → hi ≤ m → headOf (at hi) ≡ 1 → PartAt at hi
+unfolding upTo listsAll wordsAll spelled
+part-at at m fine zero l h c = absurd (omega arith)
+part-at at m fine (suc n) l h c =
+    let f = fits-at at m fine n h in
+    let g = steps (upTo at (suc n)) (fresh 1 1) (f .both) in
+    let b = behind-head (at (suc n)) (listsAll (upTo at n) 0) (wordsAll (upTo at n) 0) (f .here) c in
+    let words = g .loose ∙ wordsAll-append (upTo at n) (at (suc n) ∷ []) 0 in
+    let lists = g .lists ∙ listsAll-append (upTo at n) (at (suc n) ∷ []) 0 in
+    let s = readAll (upTo at (suc n)) (fresh 1 1) in
+    part-of at (suc n) (s .trees) (s .words) refl (words ∙ b .1) (omega arith) (g .spelt)
+
+module _ (at : ℕ → Code) (hi : ℕ) (w : PartAt at hi) where
+  -- a part's codes stand above those below it
+  pub part-length : length (spelled (w .below)) + length (postfix (w .tree)) ≡ hi
+  unfolding spelled
+  part-length = sym (length-append (spelled (w .below)) (postfix (w .tree))) ∙ ap length (sym (w .spells)) ∙ length-upTo at hi
+
+  pub part-some : 1 ≤ hi
+  part-some = omega (arith, ends-last at hi (w .tree) (w .below) (w .spells) .hi-is)
+
+  -- a part's own code stands at its place
+  pub part-place : placeOf (w .tree) ≡ hi
+  part-place = omega (arith, place-of (placeAfter (w .below)) (rankAfter (w .below)) (w .tree) (w .numbered), part-length)
+
+  -- a part of codes that pass the rule passes it alone
+  pub part-well : (m : ℕ) → wellFormed (upTo at m) ≡ true → hi ≤ m → wellFormed (postfix (w .tree)) ≡ true
+  part-well m fine h =
+      let more = upTo (λ i. at (hi + i)) (m - hi) in
+      part-alone (w .below) (w .tree) more (ap wellFormed (ap (λ (l : List Code). l ++ more) (sym (w .spells)) ∙ sym (upTo-split at hi m h)) ∙ fine)
+
+-- ---- the parts just below a part's code
+
+-- A combination's sides are the parts that end just before it and just before those.
+pub record PairAt (at : ℕ → Code) (hi mid : ℕ) (k : Pair) (t : Tree) : Type 0 where
+  pub left : PartAt at mid
+  pub right : PartAt at (hi - 1)
+  pub is : t ≡ pair k hi (left .tree) (right .tree)
+
+-- A not's or a filter's operand is the part that ends just before it.
+pub record WrapAt (at : ℕ → Code) (hi : ℕ) (node : Tree → Tree) (t : Tree) : Type 0 where
+  pub under : PartAt at (hi - 1)
+  pub is : t ≡ node (under .tree)
+
+-- A phrase's words stand just before it.
+pub record PhraseAt (at : ℕ → Code) (hi k rank : ℕ) (before : List Code) (t : Tree) : Type 0 where
+  pub words : List ℕ
+  pub is : t ≡ phrase hi rank words
+  pub long : length words ≡ k
+  pub codes : upTo at (hi - 1) ≡ before ++ map Word words
+
+module _ (at : ℕ → Code) (hi : ℕ) (below : List Tree) where
+  -- the tree t is the part that ends at hi, above those below
+  record Here (t : Tree) : Type 0 where
+    pub spells : upTo at hi ≡ spelled (t ∷ below)
+    pub numbered : placed (placeAfter below) (rankAfter below) t ≡ t
+
+  -- the code at a part's place is its last, and the others stand before
+  last-is : (t : Tree) → Here t → at hi ≡ lastCode t
+  last-is t h = ends-last at hi t below (h .spells) .code
+
+  rest-is : (t : Tree) → Here t → upTo at (hi - 1) ≡ spelled below ++ front t
+  rest-is t h =
+      let f = ends-last at hi t below (h .spells) in
+      let i : hi - 1 ≡ length (spelled below ++ front t) = omega (arith, f .hi-is) in
+      ap (upTo at) i ∙ f .rest
+
+  place-is : (t : Tree) → Here t → placeOf t ≡ hi
+  place-is t h = part-place at hi (record { tree = t; below = below; spells = h .spells; numbered = h .numbered })
+
+  pair-of : (t : Tree) → Here t → (k : Pair) (mid : ℕ) → mid ≡ partStart at (hi - 1) → at hi ≡ Combine k → PairAt at hi mid k t
+  unfolding lastCode front spelled placed placeOf phrasesAll
+  pair-of (phrase c r ws) h k mid m e = let z : _≡_ {A = ℕ} 0 1 = cc (last-is (phrase c r ws) h) in absurd (omega arith)
+  pair-of (negation c t) h k mid m e = let z : _≡_ {A = ℕ} 0 1 = cc (last-is (negation c t) h) in absurd (omega arith)
+  pair-of (filter f c t) h k mid m e = let z : _≡_ {A = ℕ} 0 1 = cc (last-is (filter f c t) h) in absurd (omega arith)
+  pair-of (pair j c t u) h k mid m e =
+      let at-mid : placeAfter below + length (postfix t) ≡ placeAfter (t ∷ below) = omega (arith, length-append (spelled below) (postfix t)) in
+      let rank-mid : rankAfter below + phrases t ≡ rankAfter (t ∷ below) = omega arith in
+      let numbered : placed (placeAfter below + length (postfix t)) (rankAfter below + phrases t) u ≡ u = cc in
+      let right : PartAt at (hi - 1) = record {
+        tree = u;
+        below = t ∷ below;
+        spells = rest-is (pair j c t u) h ∙ sym (append-assoc (spelled below) (postfix t) (postfix u));
+        numbered = ap₂ (λ (x y : ℕ). placed x y u) (sym at-mid) (sym rank-mid) ∙ numbered;
+      } in
+      let mid-is : mid ≡ length (spelled (t ∷ below)) = m ∙ part-start at (t ∷ below) u (hi - 1) (right .spells) in
+      let left : PartAt at mid = record {
+        tree = t;
+        below = below;
+        spells = ap (upTo at) mid-is ∙ upTo-front at (hi - 1) (spelled (t ∷ below)) (postfix u) (right .spells);
+        numbered = cc;
+      } in
+      let same : j ≡ k = cc (last-is (pair j c t u) h) in
+      record { left = left; right = right; is = ap₂ (λ (i : Pair) (x : ℕ). pair i x t u) same (place-is (pair j c t u) h) }
+
+  wrapped : (t : Tree) → upTo at (hi - 1) ≡ spelled below ++ postfix t → placed (placeAfter below) (rankAfter below) t ≡ t → PartAt at (hi - 1)
+  unfolding spelled
+  wrapped t s n = record { tree = t; below = below; spells = s; numbered = n }
+
+  negation-of : (t : Tree) → Here t → at hi ≡ Not → WrapAt at hi (negation hi) t
+  unfolding lastCode front placed placeOf wrapped
+  negation-of (phrase c r ws) h e = let z : _≡_ {A = ℕ} 0 1 = cc (last-is (phrase c r ws) h) in absurd (omega arith)
+  negation-of (pair j c t u) h e = let z : _≡_ {A = ℕ} 0 1 = cc (last-is (pair j c t u) h) in absurd (omega arith)
+  negation-of (filter f c t) h e = let z : _≡_ {A = ℕ} 0 1 = cc (last-is (filter f c t) h) in absurd (omega arith)
+  negation-of (negation c t) h e = record { under = wrapped t (rest-is (negation c t) h) (cc); is = ap (λ (x : ℕ). negation x t) (place-is (negation c t) h) }
+
+  filter-of : (t : Tree) → Here t → (f : Filter) → at hi ≡ Filtered f → WrapAt at hi (filter f hi) t
+  unfolding lastCode front placed placeOf wrapped
+  filter-of (phrase c r ws) h f e = let z : _≡_ {A = ℕ} 0 1 = cc (last-is (phrase c r ws) h) in absurd (omega arith)
+  filter-of (pair j c t u) h f e = let z : _≡_ {A = ℕ} 0 1 = cc (last-is (pair j c t u) h) in absurd (omega arith)
+  filter-of (negation c t) h f e = let z : _≡_ {A = ℕ} 0 1 = cc (last-is (negation c t) h) in absurd (omega arith)
+  filter-of (filter g c t) h f e =
+      let same : g ≡ f = cc (last-is (filter g c t) h) in
+      record { under = wrapped t (rest-is (filter g c t) h) (cc); is = ap₂ (λ (i : Filter) (x : ℕ). filter i x t) same (place-is (filter g c t) h) }
+
+  phrase-of : (t : Tree) → Here t → (k : ℕ) → at hi ≡ Phrase k → PhraseAt at hi k (rankAfter below) (spelled below) t
+  unfolding lastCode front placed placeOf
+  phrase-of (pair j c t u) h k e = let z : _≡_ {A = ℕ} 0 1 = cc (last-is (pair j c t u) h) in absurd (omega arith)
+  phrase-of (negation c t) h k e = let z : _≡_ {A = ℕ} 0 1 = cc (last-is (negation c t) h) in absurd (omega arith)
+  phrase-of (filter f c t) h k e = let z : _≡_ {A = ℕ} 0 1 = cc (last-is (filter f c t) h) in absurd (omega arith)
+  phrase-of (phrase c r ws) h k e =
+      let same : r ≡ rankAfter below = cc in
+      let is : phrase c r ws ≡ phrase hi (rankAfter below) ws = ap₂ (λ (x y : ℕ). phrase x y ws) (place-is (phrase c r ws) h) same in
+      record { words = ws; is = is; long = cc (last-is (phrase c r ws) h); codes = rest-is (phrase c r ws) h }
+
+module _ (at : ℕ → Code) (hi : ℕ) (w : PartAt at hi) where
+  -- a part does not end in a word
+  pub word-at : {A : Type 0} (v : ℕ) → at hi ≡ Word v → A
+  word-at v e = false-true (ap (λ (c : Code). stops c 0) (sym e ∙ ends-last at hi (w .tree) (w .below) (w .spells) .code) ∙ stops-last (w .tree))
+
+  -- a part by the code at its place
+  pub pair-at : (k : Pair) (mid : ℕ) → mid ≡ partStart at (hi - 1) → at hi ≡ Combine k → PairAt at hi mid k (w .tree)
+  pair-at = pair-of at hi (w .below) (w .tree) (record { spells = w .spells; numbered = w .numbered })
+
+  pub negation-at : at hi ≡ Not → WrapAt at hi (negation hi) (w .tree)
+  negation-at = negation-of at hi (w .below) (w .tree) (record { spells = w .spells; numbered = w .numbered })
+
+  pub filter-at : (f : Filter) → at hi ≡ Filtered f → WrapAt at hi (filter f hi) (w .tree)
+  filter-at = filter-of at hi (w .below) (w .tree) (record { spells = w .spells; numbered = w .numbered })
+
+  pub phrase-at : (k : ℕ) → at hi ≡ Phrase k → PhraseAt at hi k (rankAfter (w .below)) (spelled (w .below)) (w .tree)
+  phrase-at = phrase-of at hi (w .below) (w .tree) (record { spells = w .spells; numbered = w .numbered })
+
+-- ---- heads, ownCount
+
+-- the codes that count are those of kind 1 and up
+pub head-code : (k o : ℕ) → headOf (codeOf k o) ≡ cond (leb 1 k) 1 0
+head-code k o = codeOf-cases (λ c. headOf c ≡ cond (leb 1 k) 1 0) k o (λ e. rw e) (λ e. rw e) (λ h q. some h) some (λ h f. some h)
+  where
+    some : 1 ≤ k → headOf Not ≡ cond (leb 1 k) 1 0
+    some h = rw (le-leb 1 k h)
+
+heads-keep : (at : ℕ → Code) (q : ℕ → Bool) → ((c : ℕ) → headOf (at c) ≡ cond (q c) 1 0) → (xs : List ℕ) → heads (map at xs) ≡ length (keep q xs)
+unfolding heads keep
+heads-keep at q h [] = refl
+heads-keep at q h (x ∷ xs) = ap₂ (λ (a b : ℕ). a + b) (h x) (heads-keep at q h xs) ∙ add (q x)
+  where
+    add : (b : Bool) → cond b 1 0 + length (keep q xs) ≡ length (cond b (x ∷ keep q xs) (keep q xs))
+    add true = omega arith
+    add false = omega arith
+
+-- a selection's own count is that of its codes but the words, and of its tree's parts
+pub heads-codes : (sel : List ℕ) → heads (codesOf sel) ≡ ownCount sel
+unfolding codesOf ownCount range
+heads-codes sel =
+    let n = size sel in
+    let e : n ≡ n + 1 - 1 = omega arith in
+    ap heads (upTo-map (codeAt sel) n) ∙ heads-keep (codeAt sel) (λ c. leb 1 (kindAt sel c)) (λ c. head-code (kindAt sel c) (operandAt sel c)) (upFrom 1 n)
+    ∙ ap (λ (k : ℕ). length (keep (λ c. leb 1 (kindAt sel c)) (upFrom 1 k))) e
+
+pub parts-own : (sel : List ℕ) → postfix (treeOf sel) ≡ codesOf sel → length (parts (treeOf sel)) ≡ ownCount sel
+parts-own sel spelt = length-parts (treeOf sel) ∙ ap heads spelt ∙ heads-codes sel

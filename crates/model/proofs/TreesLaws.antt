@@ -1,0 +1,151 @@
+-- Laws of trees: reading the codes of one tree puts just that tree on what waits, because its sides are read the same way before it. So a tree
+-- that is read from its own codes comes back, and its parts are the trees that its codes end in turn.
+use Prim.Native.Nat.{ℕ, suc, _+_, _≤_}
+use native.Mathlib.Omega.{arith}
+use mathlib.Core.Path.{_≡_, refl, sym, ap, ap₂, _∙_}
+use mathlib.Core.Bool.{true}
+use mathlib.Core.List.{List, [], _∷_, _++_, map, append-nil}
+use lib.Dec.{leb}
+use lib.ListN.{length, length-append, length-map}
+use lib.Seq.{append-snoc}
+use borrow.Author.Tests.{leb-true}
+use Rattle.model.specs.declared.Code.{Code}
+use Rattle.model.specs.declared.Code.the-variants.{Word, Phrase, Combine, Not, Filter as Filtered}
+use Rattle.model.specs.declared.Pair.{Pair}
+use Rattle.model.specs.Lists.{all}
+use Rattle.model.specs.Trees.{Tree, phrase, pair, negation, filter, placeOf, State, combine, wrap, read, readAll, parts}
+use Rattle.model.specs.AllStrings.{EveryPhrase, RanksUpTo}
+use Rattle.model.specs.Parts.{headOf, heads, hasWords, postfix, phrases, placed, state}
+use Rattle.model.proofs.ListsLaws.{all-split}
+use Rattle.model.proofs.TestsLaws.{both-true}
+
+-- ---- postfix
+
+pub length-phrase : (c r : ℕ) (ws : List ℕ) → length (postfix (phrase c r ws)) ≡ length ws + 1
+unfolding postfix
+length-phrase c r ws = simp (length-append, length-map)
+
+pub length-pair : (k : Pair) (c : ℕ) (t u : Tree) → length (postfix (pair k c t u)) ≡ length (postfix t) + length (postfix u) + 1
+unfolding postfix
+length-pair k c t u = simp length-append
+
+-- ---- read, readAll
+
+pub readAll-append : (xs ys : List Code) (s : State) → readAll (xs ++ ys) s ≡ readAll ys (readAll xs s)
+unfolding readAll
+readAll-append [] ys s = refl
+readAll-append (x ∷ xs) ys s = readAll-append xs ys (read x s)
+
+pub readAll-snoc : (cs : List Code) (c : Code) (s : State) → readAll (cs ++ c ∷ []) s ≡ read c (readAll cs s)
+unfolding readAll
+readAll-snoc cs c s = readAll-append cs (c ∷ []) s
+
+same-state : (ts : List Tree) (ws : List ℕ) {p q r s : ℕ} → p ≡ q → r ≡ s → state ts ws p r ≡ state ts ws q s
+same-state ts ws e f = ap₂ (state ts ws) e f
+
+read-words : (ws : List ℕ) (ts : List Tree) (vs : List ℕ) (p r : ℕ) → readAll (map Word ws) (state ts vs p r) ≡ state ts (vs ++ ws) (p + length ws) r
+unfolding readAll read
+read-words [] ts vs p r = let e : p ≡ p + 0 = omega arith in ap₂ (λ (v : List ℕ) (q : ℕ). state ts v q r) (sym (append-nil vs)) e
+read-words (w ∷ ws) ts vs p r =
+    let e : p + 1 + length ws ≡ p + suc (length ws) = omega arith in
+    read-words ws ts (vs ++ w ∷ []) (p + 1) r ∙ ap₂ (λ (v : List ℕ) (q : ℕ). state ts v q r) (append-snoc vs w ws) e
+
+-- the codes of one tree put that tree, numbered where it stands, on what waits
+pub read-part : (t : Tree) (ts : List Tree) (p r : ℕ)
+    → readAll (postfix t) (state ts [] p r) ≡ state (placed p r t ∷ ts) [] (p + length (postfix t)) (r + phrases t)
+unfolding postfix read placed phrases combine wrap
+read-part (phrase c s ws) ts p r =
+    readAll-snoc (map Word ws) (Phrase (length ws)) (state ts [] p r) ∙ ap (read (Phrase (length ws))) (read-words ws ts [] p r)
+    ∙ same-state _ [] (omega (arith, length-phrase c s ws)) refl
+read-part (pair k c t u) ts p r =
+    let s = state ts [] p r in
+    let left = ap (readAll (postfix u)) (read-part t ts p r) in
+    let sides = readAll-append (postfix t) (postfix u) s ∙ left ∙ read-part u (placed p r t ∷ ts) (p + length (postfix t)) (r + phrases t) in
+    readAll-snoc (postfix t ++ postfix u) (Combine k) s ∙ ap (read (Combine k)) sides ∙ same-state _ [] (omega (arith, length-pair k c t u)) (omega arith)
+read-part (negation c t) ts p r =
+    readAll-snoc (postfix t) Not (state ts [] p r) ∙ ap (read Not) (read-part t ts p r) ∙ same-state _ [] (omega (arith, length-append (postfix t) (Not ∷ []))) refl
+read-part (filter f c t) ts p r =
+    readAll-snoc (postfix t) (Filtered f) (state ts [] p r) ∙ ap (read (Filtered f)) (read-part t ts p r)
+    ∙ same-state _ [] (omega (arith, length-append (postfix t) (Filtered f ∷ []))) refl
+
+-- ---- placed
+
+pub place-placed : (p r : ℕ) (t : Tree) → placeOf (placed p r t) + 1 ≡ p + length (postfix t)
+unfolding placed placeOf postfix
+place-placed p r (phrase c s ws) = omega (arith, length-phrase c s ws)
+place-placed p r (pair k c t u) = omega (arith, length-pair k c t u)
+place-placed p r (negation c t) = omega (arith, length-append (postfix t) (Not ∷ []))
+place-placed p r (filter f c t) = omega (arith, length-append (postfix t) (Filtered f ∷ []))
+
+-- a tree's own code is its last
+pub place-of : (p r : ℕ) (t : Tree) → placed p r t ≡ t → placeOf t + 1 ≡ p + length (postfix t)
+place-of p r t e = ap (λ (u : Tree). placeOf u + 1) (sym e) ∙ place-placed p r t
+
+-- ---- ranks
+
+-- a phrase whose code says that it has a word has one
+some-word : (c r : ℕ) (ws : List ℕ) → all hasWords (postfix (phrase c r ws)) ≡ true → 1 ≤ length ws
+unfolding postfix all
+some-word c r ws h = leb-true 1 (length ws) (both-true (leb 1 (length ws)) true (all-split hasWords (map Word ws) _ h .1) .0)
+
+ranks-placed : (n p r : ℕ) (t : Tree) → 1 ≤ r → r + phrases t ≤ n + 1 → all hasWords (postfix t) ≡ true → RanksUpTo n (placed p r t)
+unfolding placed phrases EveryPhrase postfix
+ranks-placed n p r (phrase c s ws) g h w = record { from-one = g; up-to = omega arith; has-word = some-word c s ws w }
+ranks-placed n p r (pair k c t u) g h w =
+    let a = all-split hasWords (postfix t ++ postfix u) _ w in
+    let b = all-split hasWords (postfix t) (postfix u) (a .0) in
+    (ranks-placed n p r t g (omega arith) (b .0), ranks-placed n _ (r + phrases t) u (omega arith) (omega arith) (b .1))
+ranks-placed n p r (negation c t) g h w = ranks-placed n p r t g h (all-split hasWords (postfix t) _ w .0)
+ranks-placed n p r (filter f c t) g h w = ranks-placed n p r t g h (all-split hasWords (postfix t) _ w .0)
+
+-- ranks run from the first phrase's on
+pub ranks-to : (n p r : ℕ) (t : Tree) → placed p r t ≡ t → 1 ≤ r → r + phrases t ≤ n + 1 → all hasWords (postfix t) ≡ true → RanksUpTo n t
+ranks-to n p r t e g h w = rw e at (ranks-placed n p r t g h w)
+
+-- ---- phrases
+
+-- a phrase is its words and one code more
+pub phrases-few : (t : Tree) → all hasWords (postfix t) ≡ true → phrases t + phrases t ≤ length (postfix t)
+unfolding postfix phrases all
+phrases-few (phrase c r ws) h =
+    omega (arith, length-phrase c r ws, some-word c r ws h)
+phrases-few (pair k c t u) h =
+    let a = all-split hasWords (postfix t ++ postfix u) _ h in
+    let b = all-split hasWords (postfix t) (postfix u) (a .0) in
+    omega (arith, length-pair k c t u, phrases-few t (b .0), phrases-few u (b .1))
+phrases-few (negation c t) h = omega (arith, length-append (postfix t) (Not ∷ []), phrases-few t (all-split hasWords (postfix t) _ h .0))
+phrases-few (filter f c t) h = omega (arith, length-append (postfix t) (Filtered f ∷ []), phrases-few t (all-split hasWords (postfix t) _ h .0))
+
+-- ---- heads
+
+pub head-le : (c : Code) → headOf c ≤ 1
+head-le (Word w) = omega arith
+head-le (Phrase k) = omega arith
+head-le (Combine k) = omega arith
+head-le Not = omega arith
+head-le (Filtered f) = omega arith
+
+pub heads-le : (cs : List Code) → heads cs ≤ length cs
+unfolding heads
+heads-le [] = omega arith
+heads-le (c ∷ cs) = omega (arith, heads-le cs, head-le c)
+
+pub heads-append : (xs ys : List Code) → heads (xs ++ ys) ≡ heads xs + heads ys
+unfolding heads
+heads-append [] ys = omega arith
+heads-append (x ∷ xs) ys = omega (arith, heads-append xs ys)
+
+heads-words : (ws : List ℕ) → heads (map Word ws) ≡ 0
+unfolding heads
+heads-words [] = refl
+heads-words (w ∷ ws) = omega (arith, heads-words ws)
+
+-- ---- parts
+
+-- a tree has a part for each of its codes but the words
+pub length-parts : (t : Tree) → length (parts t) ≡ heads (postfix t)
+unfolding parts postfix heads
+length-parts (phrase c r ws) = omega (arith, heads-append (map Word ws) (Phrase (length ws) ∷ []), heads-words ws)
+length-parts (pair k c t u) = simp (length-append, heads-append) (omega (arith, length-parts t, length-parts u))
+length-parts (negation c t) = simp (length-append, heads-append) (omega (arith, length-parts t))
+length-parts (filter f c t) = simp (length-append, heads-append) (omega (arith, length-parts t))

@@ -1,0 +1,382 @@
+-- Laws of the waiting rule: it counts what waits while codes are read. So codes that pass it are read into one tree that spells them, and each
+-- tree among them passes it alone.
+use Prim.Native.Nat.{ℕ, _+_, _-_, _≤_, _<_}
+use native.Mathlib.Nat.{zero-add}
+use native.Mathlib.Omega.{arith}
+use mathlib.Core.Path.{_≡_, refl, sym, ap, ap₂, _∙_}
+use mathlib.Core.Logic.{_↔_}
+use mathlib.Core.Bool.{Bool, true, false, _&&_, cond, and-assoc, and-true}
+use mathlib.Core.List.{List, [], _∷_, _++_, map, map-append, append-assoc, append-nil}
+use mathlib.Core.Option.{Option, some, none}
+use lib.Dec.{eqb, leb, ltb}
+use lib.ListN.{length, drop, length-append, drop-of-length-le}
+use lib.Seq.{append-snoc}
+use borrow.Author.Tests.{eqb-true, leb-true, ltb-true, eq-eqb, le-leb, lt-ltb}
+use Rattle.model.specs.declared.Code.{Code}
+use Rattle.model.specs.declared.Code.the-variants.{Word, Phrase, Combine, Not, Filter as Filtered}
+use Rattle.model.specs.declared.Pair.{Pair}
+use Rattle.model.specs.declared.Filter.{Filter}
+use Rattle.model.specs.Limits.{maxWaiting}
+use Rattle.model.specs.Selection.{upTo}
+use Rattle.model.specs.Waiting.{fits, listsBehind, wordsBehind, atRest, breakFrom, break}
+use Rattle.model.specs.Trees.{Tree, phrase, pair, negation, filter, placeOf, State, combine, wrap, read, readAll, fresh, last, parts}
+use Rattle.model.specs.Parts.{headOf, postfix, placed, state, spelled, waitingParts, newest, fitsAll, listsAll, wordsAll, wellFormed}
+use Rattle.model.proofs.TestsLaws.{false-true, both-true, and-join}
+use Rattle.model.proofs.SelectionLaws.{length-upTo, drop-upTo}
+use Rattle.model.proofs.TreesLaws.{read-part}
+
+-- ---- fits
+
+-- a code that takes n lists and wants no loose word
+takes : (n w p : ℕ) → (eqb p 0 && leb n w) ≡ true → (p ≡ 0) × (n ≤ w)
+takes n w p h = let b = both-true (eqb p 0) (leb n w) h in (eqb-true p 0 (b .0), leb-true n w (b .1))
+
+-- a phrase takes all loose words
+phrase-takes : (k w p : ℕ) → (eqb p k && ltb w maxWaiting) ≡ true → (p ≡ k) × (w < maxWaiting)
+phrase-takes k w p h = let b = both-true (eqb p k) (ltb w maxWaiting) h in (eqb-true p k (b .0), ltb-true w maxWaiting (b .1))
+
+-- behind a code that is no word some list waits, and no word is loose
+pub behind-head : (c : Code) (w p : ℕ) → fits c w p ≡ true → headOf c ≡ 1 → (1 ≤ listsBehind c w) × (wordsBehind c p ≡ 0)
+behind-head (Word v) w p f h = absurd (omega arith)
+behind-head (Phrase k) w p f h = (omega arith, refl)
+behind-head (Combine k) w p f h = let b = takes 2 w p f in (omega arith, b .0)
+behind-head Not w p f h = let b = takes 1 w p f in (b .1, b .0)
+behind-head (Filtered g) w p f h = let b = takes 1 w p f in (b .1, b .0)
+
+-- at most as many lists and words wait as may
+lists-few : (c : Code) (w p : ℕ) → fits c w p ≡ true → w ≤ maxWaiting → listsBehind c w ≤ maxWaiting
+lists-few (Word v) w p f h = h
+lists-few (Phrase k) w p f h = omega (arith, phrase-takes k w p f)
+lists-few (Combine k) w p f h = omega arith
+lists-few Not w p f h = h
+lists-few (Filtered g) w p f h = h
+
+words-few : (c : Code) (w p : ℕ) → fits c w p ≡ true → p ≤ maxWaiting → wordsBehind c p ≤ maxWaiting
+words-few (Word v) w p f h = omega (arith, ltb-true p maxWaiting f)
+words-few (Phrase k) w p f h = omega arith
+words-few (Combine k) w p f h = h
+words-few Not w p f h = h
+words-few (Filtered g) w p f h = h
+
+-- a code adds at most one
+pub lists-le : (c : Code) (w : ℕ) → listsBehind c w ≤ w + 1
+lists-le (Word v) w = omega arith
+lists-le (Phrase k) w = omega arith
+lists-le (Combine k) w = omega arith
+lists-le Not w = omega arith
+lists-le (Filtered f) w = omega arith
+
+pub words-le : (c : Code) (p : ℕ) → wordsBehind c p ≤ p + 1
+words-le (Word v) p = omega arith
+words-le (Phrase k) p = omega arith
+words-le (Combine k) p = omega arith
+words-le Not p = omega arith
+words-le (Filtered f) p = omega arith
+
+-- ---- fitsAll, listsAll, wordsAll
+
+pub fitsAll-append : (xs ys : List Code) (w p : ℕ) → fitsAll (xs ++ ys) w p ≡ (fitsAll xs w p && fitsAll ys (listsAll xs w) (wordsAll xs p))
+unfolding fitsAll listsAll wordsAll
+fitsAll-append [] ys w p = refl
+fitsAll-append (x ∷ xs) ys w p =
+    let v = listsBehind x w in
+    let q = wordsBehind x p in
+    ap (λ (b : Bool). fits x w p && b) (fitsAll-append xs ys v q) ∙ sym (and-assoc (fits x w p) (fitsAll xs v q) (fitsAll ys (listsAll xs v) (wordsAll xs q)))
+
+pub listsAll-append : (xs ys : List Code) (w : ℕ) → listsAll (xs ++ ys) w ≡ listsAll ys (listsAll xs w)
+unfolding listsAll
+listsAll-append [] ys w = refl
+listsAll-append (x ∷ xs) ys w = listsAll-append xs ys (listsBehind x w)
+
+pub wordsAll-append : (xs ys : List Code) (p : ℕ) → wordsAll (xs ++ ys) p ≡ wordsAll ys (wordsAll xs p)
+unfolding wordsAll
+wordsAll-append [] ys p = refl
+wordsAll-append (x ∷ xs) ys p = wordsAll-append xs ys (wordsBehind x p)
+
+-- codes that fit: the first of them do, and then the others
+pub fitsAll-split : (xs ys : List Code) (w p : ℕ) → fitsAll (xs ++ ys) w p ≡ true → (fitsAll xs w p ≡ true) × (fitsAll ys (listsAll xs w) (wordsAll xs p) ≡ true)
+fitsAll-split xs ys w p h = both-true (fitsAll xs w p) (fitsAll ys (listsAll xs w) (wordsAll xs p)) (sym (fitsAll-append xs ys w p) ∙ h)
+
+pub fitsAll-cons : (c : Code) (cs : List Code) (w p : ℕ) → fitsAll (c ∷ cs) w p ≡ true → (fits c w p ≡ true) × (fitsAll cs (listsBehind c w) (wordsBehind c p) ≡ true)
+unfolding fitsAll
+fitsAll-cons c cs w p h = both-true (fits c w p) (fitsAll cs (listsBehind c w) (wordsBehind c p)) h
+
+pub listsAll-few : (cs : List Code) (w p : ℕ) → fitsAll cs w p ≡ true → w ≤ maxWaiting → listsAll cs w ≤ maxWaiting
+unfolding listsAll
+listsAll-few [] w p f h = h
+listsAll-few (c ∷ cs) w p f h = let b = fitsAll-cons c cs w p f in listsAll-few cs (listsBehind c w) (wordsBehind c p) (b .1) (lists-few c w p (b .0) h)
+
+pub wordsAll-few : (cs : List Code) (w p : ℕ) → fitsAll cs w p ≡ true → p ≤ maxWaiting → wordsAll cs p ≤ maxWaiting
+unfolding wordsAll
+wordsAll-few [] w p f h = h
+wordsAll-few (c ∷ cs) w p f h = let b = fitsAll-cons c cs w p f in wordsAll-few cs (listsBehind c w) (wordsBehind c p) (b .1) (words-few c w p (b .0) h)
+
+-- ---- wellFormed
+
+-- what the whole rule says: every code fits, and one list and no word waits at the end
+pub record Formed (cs : List Code) : Type 0 where
+  pub fit : fitsAll cs 0 0 ≡ true
+  pub one : listsAll cs 0 ≡ 1
+  pub loose : wordsAll cs 0 ≡ 0
+
+pub formed : (cs : List Code) → wellFormed cs ≡ true → Formed cs
+unfolding wellFormed
+formed cs h =
+    let a = both-true (fitsAll cs 0 0) (atRest (listsAll cs 0) (wordsAll cs 0)) h in
+    let b = both-true (eqb (listsAll cs 0) 1) (eqb (wordsAll cs 0) 0) (a .1) in
+    record { fit = a .0; one = eqb-true (listsAll cs 0) 1 (b .0); loose = eqb-true (wordsAll cs 0) 0 (b .1) }
+
+pub well-formed : (cs : List Code) → Formed cs → wellFormed cs ≡ true
+unfolding wellFormed
+well-formed cs f = and-join (f .fit) (and-join (eq-eqb (listsAll cs 0) 1 (f .one)) (eq-eqb (wordsAll cs 0) 0 (f .loose)))
+
+-- ---- break
+
+isNone : Option ℕ → Bool
+isNone none = true
+isNone (some c) = false
+
+cond-none : (b : Bool) (later : Option ℕ) (c : ℕ) → isNone (cond b later (some c)) ≡ (b && isNone later)
+unfolding isNone
+cond-none true later c = refl
+cond-none false later c = refl
+
+breakFrom-none : (c : ℕ) (cs : List Code) (w p : ℕ) → isNone (breakFrom c cs w p) ≡ (fitsAll cs w p && atRest (listsAll cs w) (wordsAll cs p))
+unfolding breakFrom fitsAll listsAll wordsAll isNone
+breakFrom-none c [] w p = cond-none (atRest w p) none c ∙ and-true (atRest w p)
+breakFrom-none c (x ∷ xs) w p =
+    let v = listsBehind x w in
+    let q = wordsBehind x p in
+    cond-none (fits x w p) (breakFrom (c + 1) xs v q) (c + 1) ∙ ap (λ (b : Bool). fits x w p && b) (breakFrom-none (c + 1) xs v q)
+    ∙ sym (and-assoc (fits x w p) (fitsAll xs v q) (atRest (listsAll xs v) (wordsAll xs q)))
+
+is-none : (o : Option ℕ) → isNone o ≡ true → o ≡ none
+unfolding isNone
+is-none none h = refl
+is-none (some c) h = false-true h
+
+-- no code breaks the rule just where the whole rule holds
+pub break-none : (cs : List Code) → (break cs ≡ none) ↔ (wellFormed cs ≡ true)
+unfolding wellFormed isNone
+break-none cs = (λ h. sym (breakFrom-none 0 cs 0 0) ∙ ap isNone h, λ h. is-none (break cs) (breakFrom-none 0 cs 0 0 ∙ h))
+
+-- the search for the first break, behind i codes of a row of m
+module _ (at : ℕ → Code) (m : ℕ) where
+  pub break-here : (i w p : ℕ) → i < m → fits (at (i + 1)) w p ≡ false → breakFrom i (drop i (upTo at m)) w p ≡ some (i + 1)
+  unfolding breakFrom
+  break-here i w p h f = rw (drop-upTo at m i h) (rw f)
+
+  pub break-on : (i w p : ℕ) → i < m → fits (at (i + 1)) w p ≡ true
+      → breakFrom i (drop i (upTo at m)) w p ≡ breakFrom (i + 1) (drop (i + 1) (upTo at m)) (listsBehind (at (i + 1)) w) (wordsBehind (at (i + 1)) p)
+  unfolding breakFrom
+  break-on i w p h f = rw (drop-upTo at m i h) (rw f)
+
+  pub break-end : (w p : ℕ) → breakFrom m (drop m (upTo at m)) w p ≡ cond (atRest w p) none (some m)
+  unfolding breakFrom
+  break-end w p = rw (drop-of-length-le (upTo at m) {i = m} (omega (arith, length-upTo at m)))
+
+-- ---- read
+
+-- what waits, spelled: the codes of the trees, and the loose words
+abbrev pub spells : State → List Code
+spells s = spelled (s .trees) ++ map Word (s .words)
+
+-- A code that fits is spelled behind what waits, leaves waiting what the rule counts, and ends at most one part, the newest.
+pub record Step (c : Code) (s : State) : Type 0 where
+  pub spelt : spells (read c s) ≡ spells s ++ c ∷ []
+  pub lists : length (read c s .trees) ≡ listsBehind c (length (s .trees))
+  pub loose : length (read c s .words) ≡ wordsBehind c (length (s .words))
+  pub adds : waitingParts (read c s .trees) ≡ waitingParts (s .trees) ++ newest c (read c s .trees)
+  pub placed-last : headOf c ≡ 1 → placeOf (last (read c s .trees)) ≡ s .place
+
+-- by the sort of the code; a code that fits finds the trees that it takes
+pub step : (c : Code) (ts : List Tree) (ws : List ℕ) (p r : ℕ) → fits c (length ts) (length ws) ≡ true → Step c (state ts ws p r)
+unfolding read combine wrap last placeOf parts spelled postfix waitingParts
+step (Word w) ts ws p r h = record {
+  spelt = simp (map-append, append-assoc);
+  lists = refl;
+  loose = length-append ws (w ∷ []);
+  adds = sym (append-nil (waitingParts ts));
+  placed-last = λ h. absurd (omega arith);
+}
+step (Phrase k) ts ws p r h =
+    let e = phrase-takes k (length ts) (length ws) h .0 in
+    record {
+      spelt = append-nil _ ∙ ap (λ (n : ℕ). spelled ts ++ (map Word ws ++ Phrase n ∷ [])) e ∙ sym (append-assoc (spelled ts) (map Word ws) (Phrase k ∷ []));
+      lists = omega arith;
+      loose = refl;
+      adds = refl;
+      placed-last = λ h. refl;
+    }
+step (Combine k) [] ws p r h = absurd (omega (arith, takes 2 0 (length ws) h))
+step (Combine k) (u ∷ []) ws p r h = absurd (omega (arith, takes 2 1 (length ws) h))
+step (Combine k) (u ∷ t ∷ ts) (w ∷ ws) p r h = absurd (omega (arith, takes 2 (length (u ∷ t ∷ ts)) (length (w ∷ ws)) h))
+step (Combine k) (u ∷ t ∷ ts) [] p r h =
+    record { spelt = simp (append-nil, append-assoc); lists = omega arith; loose = refl; adds = simp append-assoc; placed-last = λ h. refl }
+step Not [] ws p r h = absurd (omega (arith, takes 1 0 (length ws) h))
+step Not (t ∷ ts) (w ∷ ws) p r h = absurd (omega (arith, takes 1 (length (t ∷ ts)) (length (w ∷ ws)) h))
+step Not (t ∷ ts) [] p r h =
+    record { spelt = simp (append-nil, append-assoc); lists = refl; loose = refl; adds = simp append-assoc; placed-last = λ h. refl }
+step (Filtered f) [] ws p r h = absurd (omega (arith, takes 1 0 (length ws) h))
+step (Filtered f) (t ∷ ts) (w ∷ ws) p r h = absurd (omega (arith, takes 1 (length (t ∷ ts)) (length (w ∷ ws)) h))
+step (Filtered f) (t ∷ ts) [] p r h =
+    record { spelt = simp (append-nil, append-assoc); lists = refl; loose = refl; adds = simp append-assoc; placed-last = λ h. refl }
+
+-- a code that fits adds one part at the end, or none where it is a word: the parts of a tree are the trees that its codes end in turn
+pub read-parts : (c : Code) (s : State) → fits c (length (s .trees)) (length (s .words)) ≡ true
+    → waitingParts (read c s .trees) ≡ waitingParts (s .trees) ++ newest c (read c s .trees)
+read-parts c s h = step c (s .trees) (s .words) (s .place) (s .rank) h .adds
+
+-- ---- readAll
+
+pub record Steps (cs : List Code) (s : State) : Type 0 where
+  pub spelt : spells (readAll cs s) ≡ spells s ++ cs
+  pub lists : length (readAll cs s .trees) ≡ listsAll cs (length (s .trees))
+  pub loose : length (readAll cs s .words) ≡ wordsAll cs (length (s .words))
+  pub newer : List Tree
+  pub adds : waitingParts (readAll cs s .trees) ≡ waitingParts (s .trees) ++ newer
+
+-- codes that fit, read one by one
+pub steps : (cs : List Code) (s : State) → fitsAll cs (length (s .trees)) (length (s .words)) ≡ true → Steps cs s
+unfolding readAll listsAll wordsAll
+steps [] s h = record { spelt = sym (append-nil (spells s)); lists = refl; loose = refl; newer = []; adds = sym (append-nil (waitingParts (s .trees))) }
+steps (c ∷ cs) s h =
+    let b = fitsAll-cons c cs (length (s .trees)) (length (s .words)) h in
+    let a = step c (s .trees) (s .words) (s .place) (s .rank) (b .0) in
+    let r = steps cs (read c s) (rw (a .lists, a .loose) (b .1)) in
+    let new = newest c (read c s .trees) in
+    record {
+      spelt = r .spelt ∙ ap (λ (x : List Code). x ++ cs) (a .spelt) ∙ append-snoc (spells s) c cs;
+      lists = r .lists ∙ ap (listsAll cs) (a .lists);
+      loose = r .loose ∙ ap (wordsAll cs) (a .loose);
+      newer = new ++ r .newer;
+      adds = r .adds ∙ ap (λ (l : List Tree). l ++ r .newer) (a .adds) ∙ append-assoc (waitingParts (s .trees)) new (r .newer);
+    }
+
+-- behind any of the codes as many trees wait as the rule counts, and no more than may
+pub waiting : (xs ys : List Code) → wellFormed (xs ++ ys) ≡ true → (length (readAll xs (fresh 1 1) .trees) ≡ listsAll xs 0) × (listsAll xs 0 ≤ maxWaiting)
+waiting xs ys h =
+    let f = fitsAll-split xs ys 0 0 (formed (xs ++ ys) h .fit) .0 in
+    (steps xs (fresh 1 1) f .lists, listsAll-few xs 0 0 f (omega arith))
+
+-- Codes that pass the rule are read into one tree, which spells them and is numbered from 1.
+pub record Parsed (cs : List Code) : Type 0 where
+  pub tree : Tree
+  pub alone : readAll cs (fresh 1 1) .trees ≡ tree ∷ []
+  pub spelt : postfix tree ≡ cs
+  pub numbered : placed 1 1 tree ≡ tree
+
+one-tree : (ts : List Tree) → length ts ≡ 1 → (t : Tree) × (ts ≡ t ∷ [])
+one-tree [] h = absurd (omega arith)
+one-tree (t ∷ []) h = (t, refl)
+one-tree (t ∷ u ∷ ts) h = absurd (omega arith)
+
+no-words : (ws : List ℕ) → length ws ≡ 0 → ws ≡ []
+no-words [] h = refl
+no-words (w ∷ ws) h = absurd (omega arith)
+
+pub parsed : (cs : List Code) → wellFormed cs ≡ true → Parsed cs
+unfolding spelled
+parsed cs h =
+    let f = formed cs h in
+    let s = readAll cs (fresh 1 1) in
+    let g = steps cs (fresh 1 1) (f .fit) in
+    let one = one-tree (s .trees) (g .lists ∙ f .one) in
+    let t = one .0 in
+    let wait = ap₂ (λ (ts : List Tree) (ws : List ℕ). spelled ts ++ map Word ws) (one .1) (no-words (s .words) (g .loose ∙ f .loose)) in
+    let spelt : postfix t ≡ cs = sym (append-nil (postfix t)) ∙ sym wait ∙ g .spelt in
+    let again = sym (ap (λ (z : State). z .trees) (read-part t [] 1 1)) ∙ ap (λ (l : List Code). readAll l (fresh 1 1) .trees) spelt ∙ one .1 in
+    record { tree = t; alone = one .1; spelt = spelt; numbered = cc again }
+
+-- ---- one tree alone
+
+words-lists : (ws : List ℕ) (w : ℕ) → listsAll (map Word ws) w ≡ w
+unfolding listsAll
+words-lists [] w = refl
+words-lists (v ∷ ws) w = words-lists ws w
+
+words-words : (ws : List ℕ) (p : ℕ) → wordsAll (map Word ws) p ≡ p + length ws
+unfolding wordsAll
+words-words [] p = omega arith
+words-words (v ∷ ws) p = words-words ws (p + 1) ∙ omega arith
+
+-- words fit above any number of lists alike
+words-fit : (ws : List ℕ) (d e p : ℕ) → fitsAll (map Word ws) d p ≡ fitsAll (map Word ws) e p
+unfolding fitsAll
+words-fit [] d e p = refl
+words-fit (v ∷ ws) d e p = ap (λ (b : Bool). ltb p maxWaiting && b) (words-fit ws d e (p + 1))
+
+-- a tree's codes leave one list more, and no loose word
+pub part-lists : (t : Tree) (w : ℕ) → listsAll (postfix t) w ≡ w + 1
+unfolding postfix listsAll
+part-lists (phrase c r ws) w = listsAll-append (map Word ws) _ w ∙ ap (λ (k : ℕ). k + 1) (words-lists ws w)
+part-lists (pair k c t u) w =
+    let sides = listsAll-append (postfix t) (postfix u) w ∙ ap (listsAll (postfix u)) (part-lists t w) ∙ part-lists u (w + 1) in
+    listsAll-append (postfix t ++ postfix u) _ w ∙ ap (λ (n : ℕ). n - 1) sides ∙ omega arith
+part-lists (negation c t) w = listsAll-append (postfix t) _ w ∙ part-lists t w
+part-lists (filter f c t) w = listsAll-append (postfix t) _ w ∙ part-lists t w
+
+pub part-words : (t : Tree) → wordsAll (postfix t) 0 ≡ 0
+unfolding postfix wordsAll
+part-words (phrase c r ws) = wordsAll-append (map Word ws) _ 0
+part-words (pair k c t u) =
+    wordsAll-append (postfix t ++ postfix u) _ 0 ∙ wordsAll-append (postfix t) (postfix u) 0 ∙ ap (wordsAll (postfix u)) (part-words t) ∙ part-words u
+part-words (negation c t) = wordsAll-append (postfix t) _ 0 ∙ part-words t
+part-words (filter f c t) = wordsAll-append (postfix t) _ 0 ∙ part-words t
+
+-- the rule on a tree and what stands behind it
+fits-part : (t : Tree) (ys : List Code) (w : ℕ) → fitsAll (postfix t ++ ys) w 0 ≡ (fitsAll (postfix t) w 0 && fitsAll ys (w + 1) 0)
+fits-part t ys w = fitsAll-append (postfix t) ys w 0 ∙ ap₂ (λ (a b : ℕ). fitsAll (postfix t) w 0 && fitsAll ys a b) (part-lists t w) (part-words t)
+
+-- a code that fits behind a tree asks nothing more
+fits-then : (t : Tree) (c : Code) (w : ℕ) → fits c (w + 1) 0 ≡ true → fitsAll (postfix t ++ c ∷ []) w 0 ≡ fitsAll (postfix t) w 0
+unfolding fitsAll
+fits-then t c w h = fits-part t (c ∷ []) w ∙ ap (λ (b : Bool). fitsAll (postfix t) w 0 && (b && true)) h ∙ and-true (fitsAll (postfix t) w 0)
+
+fits-phrase : (c r : ℕ) (ws : List ℕ) (w : ℕ) → fitsAll (postfix (phrase c r ws)) w 0 ≡ (fitsAll (map Word ws) w 0 && ltb w maxWaiting)
+unfolding postfix fitsAll
+fits-phrase c r ws w =
+    let n = length ws in
+    let takes-all : (eqb n n && ltb w maxWaiting && true) ≡ ltb w maxWaiting = and-true (eqb n n && ltb w maxWaiting) ∙ rw (eq-eqb n n refl) in
+    fitsAll-append (map Word ws) (Phrase n ∷ []) w 0
+    ∙ ap₂ (λ (a b : ℕ). fitsAll (map Word ws) w 0 && fitsAll (Phrase n ∷ []) a b) (words-lists ws w) (words-words ws 0 ∙ zero-add n)
+    ∙ ap (λ (b : Bool). fitsAll (map Word ws) w 0 && b) takes-all
+
+fits-pair : (k : Pair) (c : ℕ) (t u : Tree) (w : ℕ) → fitsAll (postfix (pair k c t u)) w 0 ≡ (fitsAll (postfix t) w 0 && fitsAll (postfix u) (w + 1) 0)
+unfolding postfix
+fits-pair k c t u w =
+    ap (λ (l : List Code). fitsAll l w 0) (append-assoc (postfix t) (postfix u) (Combine k ∷ [])) ∙ fits-part t (postfix u ++ Combine k ∷ []) w
+    ∙ ap (λ (b : Bool). fitsAll (postfix t) w 0 && b) (fits-then u (Combine k) (w + 1) (le-leb 2 (w + 1 + 1) (omega arith)))
+
+fits-negation : (c : ℕ) (t : Tree) (w : ℕ) → fitsAll (postfix (negation c t)) w 0 ≡ fitsAll (postfix t) w 0
+unfolding postfix
+fits-negation c t w = fits-then t Not w (le-leb 1 (w + 1) (omega arith))
+
+fits-filter : (f : Filter) (c : ℕ) (t : Tree) (w : ℕ) → fitsAll (postfix (filter f c t)) w 0 ≡ fitsAll (postfix t) w 0
+unfolding postfix
+fits-filter f c t w = fits-then t (Filtered f) w (le-leb 1 (w + 1) (omega arith))
+
+-- a tree that fits above d lists fits above fewer
+pub part-lower : (t : Tree) (d e : ℕ) → e ≤ d → fitsAll (postfix t) d 0 ≡ true → fitsAll (postfix t) e 0 ≡ true
+part-lower (phrase c r ws) d e le h =
+    let b = both-true (fitsAll (map Word ws) d 0) (ltb d maxWaiting) (sym (fits-phrase c r ws d) ∙ h) in
+    fits-phrase c r ws e ∙ and-join (words-fit ws e d 0 ∙ b .0) (lt-ltb e maxWaiting (omega (arith, ltb-true d maxWaiting (b .1))))
+part-lower (pair k c t u) d e le h =
+    let b = both-true (fitsAll (postfix t) d 0) (fitsAll (postfix u) (d + 1) 0) (sym (fits-pair k c t u d) ∙ h) in
+    fits-pair k c t u e ∙ and-join (part-lower t d e le (b .0)) (part-lower u (d + 1) (e + 1) (omega arith) (b .1))
+part-lower (negation c t) d e le h = fits-negation c t e ∙ part-lower t d e le (sym (fits-negation c t d) ∙ h)
+part-lower (filter f c t) d e le h = fits-filter f c t e ∙ part-lower t d e le (sym (fits-filter f c t d) ∙ h)
+
+spelled-words : (ts : List Tree) → wordsAll (spelled ts) 0 ≡ 0
+unfolding spelled wordsAll
+spelled-words [] = refl
+spelled-words (t ∷ ts) = wordsAll-append (spelled ts) (postfix t) 0 ∙ ap (wordsAll (postfix t)) (spelled-words ts) ∙ part-words t
+
+-- a tree of codes that pass the rule passes it alone
+pub part-alone : (ts : List Tree) (t : Tree) (ys : List Code) → wellFormed (spelled (t ∷ ts) ++ ys) ≡ true → wellFormed (postfix t) ≡ true
+unfolding spelled
+part-alone ts t ys h =
+    let f = fitsAll-split (spelled (t ∷ ts)) ys 0 0 (formed (spelled (t ∷ ts) ++ ys) h .fit) .0 in
+    let g = fitsAll-split (spelled ts) (postfix t) 0 0 f .1 in
+    let above : fitsAll (postfix t) (listsAll (spelled ts) 0) 0 ≡ true = ap (fitsAll (postfix t) (listsAll (spelled ts) 0)) (sym (spelled-words ts)) ∙ g in
+    well-formed (postfix t) (record { fit = part-lower t (listsAll (spelled ts) 0) 0 (omega arith) above; one = part-lists t 0; loose = part-words t })
