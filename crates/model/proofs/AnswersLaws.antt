@@ -9,8 +9,10 @@ use mathlib.Core.Option.{Option, some, none, Option·map, map-eq-none-iff}
 use lib.Dec.{leb, ltb}
 use lib.ListN.{length, length-append, length-map}
 use borrow.Author.Tests.{leb-true, le-leb, ltb-false}
+use Rattle.model.specs.declared.Checked.the-variants.{Accepted, Refused as CheckedRefused}
+use Rattle.model.specs.declared.Fault.the-variants.{At, Nowhere}
 use Rattle.model.specs.declared.Listing.the-variants.{Listed, Refused}
-use Rattle.model.specs.Answers.{completeList, listingRefusal, answerUnless, listingAnswer, spansIn, tagsIn, spanOf, tagOf, listingNumbers, quickAnswer}
+use Rattle.model.specs.Answers.{faultOf, checkedOf, isAccepted, completeList, listingRefusal, answerUnless, listingAnswer, spansIn, tagsIn, spanOf, tagOf, listingNumbers, quickAnswer}
 use Rattle.model.specs.Checks.{Refusal, refusal, otherwise, roomRefusal, inputRefusal, listingChecks, quickChecks}
 use Rattle.model.specs.Demand3.{Passes, walkBuilds, walkReaches}
 use Rattle.model.specs.Limits.{maxMatches, maxStrings, workLength, bufferLength}
@@ -21,6 +23,24 @@ use Rattle.model.specs.Walk.{firstTooLong, unlessTooLong}
 use Rattle.model.proofs.ChecksLaws.{otherwise-none}
 use Rattle.model.proofs.TestsLaws.{both-true, both-false, cond-none}
 use Rattle.model.proofs.WalkLaws.{firstTooLong-whole, walk-is, says-free}
+
+-- ---- faultOf, checkedOf
+
+pub fault-at : (o : Option ℕ) (place : ℕ) → faultOf o ≡ At place → o ≡ some place
+fault-at (some p) place e = cc
+fault-at none place e = let z : _≡_ {A = ℕ} 0 1 = cc in absurd (omega arith)
+
+pub fault-nowhere : (o : Option ℕ) → faultOf o ≡ Nowhere → o ≡ none
+fault-nowhere (some p) e = let z : _≡_ {A = ℕ} 0 1 = cc in absurd (omega arith)
+fault-nowhere none e = refl
+
+pub checked-accepted : (o : Option Refusal) → checkedOf o ≡ Accepted → o ≡ none
+checked-accepted (some r) e = let z : _≡_ {A = ℕ} 0 1 = cc in absurd (omega arith)
+checked-accepted none e = refl
+
+pub checked-refused : (o : Option Refusal) (number place : ℕ) → checkedOf o ≡ CheckedRefused number place → isAccepted o ≡ false
+checked-refused (some r) number place e = refl
+checked-refused none number place e = let z : _≡_ {A = ℕ} 0 1 = cc in absurd (omega arith)
 
 -- ---- tooLong
 

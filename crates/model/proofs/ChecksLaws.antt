@@ -39,6 +39,16 @@ tried-cons c cs lent h =
     let b = otherwise-none (Option·map (refusal (c .number)) (c .fails lent)) (tried cs lent) h in
     (map-eq-none-iff (refusal (c .number)) (c .fails lent) .0 (b .0), b .1)
 
+-- one check passed, the others decide; one failed, its refusal is given
+module _ (c : Check) (cs : List Check) (lent : List ℕ) where
+  pub tried-on : c .fails lent ≡ none → tried (c ∷ cs) lent ≡ tried cs lent
+  unfolding tried
+  tried-on e = rw e
+
+  pub tried-stop : (place : ℕ) → c .fails lent ≡ some place → tried (c ∷ cs) lent ≡ some (refusal (c .number) place)
+  unfolding tried
+  tried-stop place e = rw e
+
 -- ---- faultyIn: a counting without a faulty position is steady
 
 module _ (unit : ℕ → ℕ) (n : ℕ) (fine : (p : ℕ) → 2 ≤ p → p ≤ n → faultyIn unit p ≡ false) where

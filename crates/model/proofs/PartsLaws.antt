@@ -17,7 +17,7 @@ use Rattle.model.specs.Lists.{keep, upFrom, range}
 use Rattle.model.specs.Section.{size}
 use Rattle.model.specs.Selection.{kindAt, operandAt, codeOf, codeAt, upTo, codesOf}
 use Rattle.model.specs.Waiting.{fits}
-use Rattle.model.specs.Trees.{Tree, phrase, pair, negation, filter, placeOf, State, readAll, fresh, treeOf, parts}
+use Rattle.model.specs.Trees.{last, Tree, phrase, pair, negation, filter, placeOf, State, readAll, fresh, treeOf, parts}
 use Rattle.model.specs.Parts.{headOf, heads, postfix, phrases, placed, state, spelled, phrasesAll, placeAfter, rankAfter}
 use Rattle.model.specs.Parts.{fitsAll, listsAll, wordsAll, wellFormed, stops, needs, back, partStart, PartAt}
 use Rattle.model.specs.Walk.{ownCount}
@@ -211,6 +211,14 @@ module _ (at : ℕ → Code) (hi : ℕ) (w : PartAt at hi) where
   -- a part's own code stands at its place
   pub part-place : placeOf (w .tree) ≡ hi
   part-place = omega (arith, place-of (placeAfter (w .below)) (rankAfter (w .below)) (w .tree) (w .numbered), part-length)
+
+  -- and is the last that waits when the codes up to it are read
+  pub part-read : last (readAll (upTo at hi) (fresh 1 1) .trees) ≡ w .tree
+  unfolding last placedAll
+  part-read =
+      ap (λ (l : List Code). last (readAll l (fresh 1 1) .trees)) (w .spells)
+      ∙ ap (λ (s : State). last (s .trees)) (read-spelled (w .tree ∷ w .below))
+      ∙ w .numbered
 
   -- a part of codes that pass the rule passes it alone
   pub part-well : (m : ℕ) → wellFormed (upTo at m) ≡ true → hi ≤ m → wellFormed (postfix (w .tree)) ≡ true

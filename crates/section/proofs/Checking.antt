@@ -8,30 +8,9 @@ use mathlib.Core.Option.{Option, some, none}
 use lib.Dec.{leb}
 use lib.ListN.{take, drop}
 use borrow.Author.Tests.{le-leb, lt-leb}
-use Rattle.model.specs.declared.Checked.{Checked}
-use Rattle.model.specs.declared.Checked.the-variants.{Accepted, Refused}
-use Rattle.model.specs.declared.Fault.the-variants.{At, Nowhere}
-use Rattle.model.specs.Answers.{faultOf, checkedOf, isAccepted, snippetOf}
-use Rattle.model.specs.Checks.{Refusal, refusal, tried, wrongSection, faultyPosition, sectionRefusal}
+use Rattle.model.specs.Answers.{isAccepted, snippetOf}
+use Rattle.model.specs.Checks.{refusal, tried, wrongSection, faultyPosition, sectionRefusal}
 use Rattle.model.specs.Section.{size, wellSized}
-
--- ---- faultOf, checkedOf
-
-pub fault-at : (o : Option ℕ) (place : ℕ) → faultOf o ≡ At place → o ≡ some place
-fault-at (some p) place e = cc
-fault-at none place e = absurd (let z : _≡_ {A = ℕ} 0 1 = cc in omega arith)
-
-pub fault-nowhere : (o : Option ℕ) → faultOf o ≡ Nowhere → o ≡ none
-fault-nowhere (some p) e = absurd (let z : _≡_ {A = ℕ} 0 1 = cc in omega arith)
-fault-nowhere none e = refl
-
-pub checked-accepted : (o : Option Refusal) → checkedOf o ≡ Accepted → o ≡ none
-checked-accepted (some r) e = absurd (let z : _≡_ {A = ℕ} 0 1 = cc in omega arith)
-checked-accepted none e = refl
-
-pub checked-refused : (o : Option Refusal) (number place : ℕ) → checkedOf o ≡ Refused number place → isAccepted o ≡ false
-checked-refused (some r) number place e = refl
-checked-refused none number place e = absurd (let z : _≡_ {A = ℕ} 0 1 = cc in omega arith)
 
 -- ---- sectionRefusal
 

@@ -1,1 +1,5 @@
 pub mod Searching
+pub mod Turns
+pub mod Phrases
+pub mod Unders
+pub mod Checking

@@ -1,2 +1,3 @@
 pub mod Phrases
 pub mod PartCodes
+pub mod Refused

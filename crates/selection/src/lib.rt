@@ -1,4 +1,90 @@
 // A selection: its codes, its parts, and its check. Every public function takes any slice.
 pub mod codes; // kinds and operands as codes
+pub mod parts; // where a part starts, and what stands in it
 pub mod table; // kinds and operands against the table: refusals 4 and 5
 pub mod waiting; // the waiting rule: refusal 6
+
+use model::Checked;
+use model::Code;
+use model::Fault;
+use model::MAX_CODES;
+use model::Pair;
+ghost use mathlib.Core.Bool.{true};
+ghost use mathlib.Core.Path.{_≡_};
+ghost use Rattle.model.specs.Answers.{checkedOf, faultOf};
+ghost use Rattle.model.specs.Checks.{notUnderMildNot, selectionRefusal};
+ghost use Rattle.model.specs.Parts.{wellFormed};
+ghost use Rattle.model.specs.Selection.{codesOf};
+ghost use Rattle.selection.specs.PartCodes.{isMildNot};
+ghost use Rattle.selection.specs.Refused.{refusedAs};
+
+// A check's finding as a refusal with a number.
+fn refused(number: u32, fault: Fault) -> Checked
+    ensures { λ r. ⌜ r ≡ refusedAs number fault ⌝ }
+{
+    match fault {
+        Fault::At(place) => Checked::Refused { number, place },
+        Fault::Nowhere => Checked::Accepted,
+    }
+}
+
+fn is_mild_not(code: Code) -> bool
+    ensures { λ r. ⌜ r ≡ isMildNot code ⌝ }
+{
+    match code {
+        Code::Word(_) => false,
+        Code::Phrase(_) => false,
+        Code::Combine(pair) => match pair {
+            Pair::Or => false,
+            Pair::And => false,
+            Pair::MildNot => true,
+        },
+        Code::Not => false,
+        Code::Filter(_) => false,
+    }
+}
+
+// Refusal 7: the first mild not with a not in either side.
+fn not_under_mild_not(selection: &[u32]) -> Fault
+    requires { ⌜ wellFormed (codesOf (now selection)) ≡ true ⌝ }
+    ensures { λ r. ⌜ r ≡ faultOf (notUnderMildNot (now (selection .entry))) ⌝ }
+{
+    let m = lent::number_at(selection, 0);
+    let mut c: u32 = 0;
+    while c < m {
+        c += 1;
+        let code = codes::code_at(selection, c);
+        if is_mild_not(code) {
+            if parts::has_not(selection, c) {
+                return Fault::At(c);
+            }
+        }
+    }
+    Fault::Nowhere
+}
+
+// Refusals 3 to 7, each over the whole input before the next.
+pub fn check_selection(selection: &[u32]) -> Checked
+    ensures { λ r. ⌜ r ≡ checkedOf (selectionRefusal (now (selection .entry))) ⌝ }
+{
+    if !lent::well_sized(selection, 1, MAX_CODES) {
+        return Checked::Refused {
+            number: 3,
+            place: 0,
+        };
+    }
+    let unknown = table::unknown_kind(selection);
+    let Fault::Nowhere = unknown else {
+        return refused(4, unknown);
+    };
+    let outside = table::wrong_operand(selection);
+    let Fault::Nowhere = outside else {
+        return refused(5, outside);
+    };
+    let shape = waiting::wrong_shape(selection);
+    let Fault::Nowhere = shape else {
+        return refused(6, shape);
+    };
+    let under = not_under_mild_not(selection);
+    refused(7, under)
+}

@@ -6,7 +6,8 @@ use mathlib.Core.Path.{refl, sym, ap, _∙_}
 use Rattle.model.specs.Answers.{checkedOf}
 use Rattle.model.specs.Checks.{faultyPosition}
 use Rattle.model.proofs.SectionLaws.{well-sized}
-use Rattle.section.proofs.Checking.{fault-at, fault-nowhere, wrong-size, wrong-order, right-order}
+use Rattle.model.proofs.AnswersLaws.{fault-at, fault-nowhere}
+use Rattle.section.proofs.Checking.{wrong-size, wrong-order, right-order}
 use Rattle.section.proofs.check_section.Statement.{statement}
 use Rattle.section.proofs.check_section.Tie as tie
 

@@ -1,46 +1,35 @@
+-- Each arm's kind is known, and the definition's chain of tests computes to that arm.
 use borrow.Author.Tests.{ne-eqb}
 use Rattle.selection.proofs.codes.filter_of.Statement.{statement}
 use Rattle.selection.proofs.codes.filter_of.Tie as tie
-use Rattle.selection.proofs.codes.filter_of.Reads as reads
-use Rattle.selection.proofs.codes.filter_of.Lts as lts
 
--- src/codes.rt:7:1
 returns : tie.Need-returns
 returns c = simp (c .match .keys1)
 
--- src/codes.rt:7:1
 returns-2 : tie.Need-returns-2
 returns-2 c = simp (c .match .keys2)
 
--- src/codes.rt:7:1
 returns-3 : tie.Need-returns-3
 returns-3 c = simp (c .match .keys3)
 
--- src/codes.rt:7:1
 returns-4 : tie.Need-returns-4
 returns-4 c = simp (c .match .keys4)
 
--- src/codes.rt:7:1
 returns-5 : tie.Need-returns-5
 returns-5 c = simp (c .match .keys5)
 
--- src/codes.rt:7:1
 returns-6 : tie.Need-returns-6
 returns-6 c = simp (c .match .keys6)
 
--- src/codes.rt:7:1
 returns-7 : tie.Need-returns-7
 returns-7 c = simp (c .match .keys7)
 
--- src/codes.rt:7:1
 returns-8 : tie.Need-returns-8
 returns-8 c = simp (c .match .keys8)
 
--- src/codes.rt:7:1
 returns-9 : tie.Need-returns-9
 returns-9 c = simp (c .match .keys9)
 
--- src/codes.rt:7:1
 returns-10 : tie.Need-returns-10
 returns-10 c = simp (ne-eqb _ _ (c .match .rest .0 .0 .0 .0 .0 .0 .0 .0 .1), ne-eqb _ _ (c .match .rest .0 .0 .0 .0 .0 .0 .0 .1), ne-eqb _ _ (c .match .rest .0 .0 .0 .0 .0 .0 .1), ne-eqb _ _ (c .match .rest .0 .0 .0 .0 .0 .1), ne-eqb _ _ (c .match .rest .0 .0 .0 .0 .1), ne-eqb _ _ (c .match .rest .0 .0 .0 .1), ne-eqb _ _ (c .match .rest .0 .0 .1), ne-eqb _ _ (c .match .rest .0 .1), ne-eqb _ _ (c .match .rest .1))
 

@@ -1,16 +1,13 @@
+-- The range 0 to 15 is one test.
 use native.Mathlib.Omega.{arith}
 use mathlib.Core.Path.{sym}
 use borrow.Author.Tests.{le-leb, lt-leb}
 use Rattle.selection.proofs.table.is_unknown.Statement.{statement}
 use Rattle.selection.proofs.table.is_unknown.Tie as tie
-use Rattle.selection.proofs.table.is_unknown.Reads as reads
-use Rattle.selection.proofs.table.is_unknown.Lts as lts
 
--- src/table.rt:10:1
 returns : tie.Need-returns
 returns c = sym (lt-leb 16 (c .before .args .kind) (omega arith))
 
--- src/table.rt:10:1
 returns-2 : tie.Need-returns-2
 returns-2 c = sym (le-leb 16 (c .before .args .kind) (omega arith))
 

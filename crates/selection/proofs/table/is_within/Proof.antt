@@ -1,14 +1,11 @@
+-- Both bounds, in the definition's order.
 use borrow.Author.Tests.{le-leb, lt-leb}
 use Rattle.selection.proofs.table.is_within.Statement.{statement}
 use Rattle.selection.proofs.table.is_within.Tie as tie
-use Rattle.selection.proofs.table.is_within.Reads as reads
-use Rattle.selection.proofs.table.is_within.Lts as lts
 
--- src/table.rt:23:9
 returns : tie.Need-returns
 returns c = simp (lt-leb _ _ (c .if1 .taken))
 
--- src/table.rt:19:1
 returns-2 : tie.Need-returns-2
 returns-2 c = simp (le-leb _ _ (c .if1 .left))
 

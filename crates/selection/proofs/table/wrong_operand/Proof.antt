@@ -1,23 +1,16 @@
+-- Invariant: the search from c on finds what the whole search finds. Measure: the codes left.
 use Prim.Native.Nat.{_<_, _≤_, _+_, _-_}
 use native.Mathlib.Omega.{arith}
 use borrow.Author.Needs.{needs}
-use borrow.Author.Tests.{not-true, not-false}
-use mathlib.Core.Path.{_≡_, refl, sym, ap, ap₂, _∙_}
-use mathlib.Core.Bool.{not}
-use lib.Dec.{leb}
+use mathlib.Core.Path.{_≡_, refl, sym, ap, _∙_}
 use Rattle.model.specs.Answers.{faultOf}
-use Rattle.model.specs.Checks.{wrongOperand, operandFits}
+use Rattle.model.specs.Checks.{wrongOperand}
 use Rattle.model.specs.Lists.{first, range}
 use Rattle.model.specs.Section.{size}
-use Rattle.model.specs.Selection.{kindAt, operandAt}
 use Rattle.model.proofs.ListsLaws.{first-range-empty, first-range-here, first-range-later}
-use Rattle.selection.proofs.Searching.{isUnknown, isOutside, outside}
+use Rattle.selection.proofs.Searching.{isOutside, outside}
 use Rattle.selection.proofs.table.wrong_operand.Statement.{statement}
 use Rattle.selection.proofs.table.wrong_operand.Tie as tie
-use Rattle.selection.proofs.table.wrong_operand.Reads as reads
-use Rattle.selection.proofs.table.wrong_operand.Lts as lts
-use Rattle.lent.proofs.number_at.Reads as number-at-reads
-use Rattle.selection.proofs.table.operand_fits.Reads as operand-fits-reads
 
 abbrev Inv-loop : tie.InvT-loop
 Inv-loop selection m c₀ c = (1 ≤ c) × (c ≤ 4294967296) × (first (isOutside selection) (range c (size selection)) ≡ wrongOperand selection)
@@ -25,40 +18,31 @@ Inv-loop selection m c₀ c = (1 ≤ c) × (c ≤ 4294967296) × (first (isOutsi
 abbrev μ-loop : tie.MeasureT-loop
 μ-loop selection m c₀ c = m + 1 - c
 
--- src/table.rt:61:13
 number-at-requires : tie.Need-number-at-requires Inv-loop μ-loop
 number-at-requires c κs = search needs
 
--- src/table.rt:61:13
 cast-m : tie.Need-cast-m Inv-loop μ-loop
 cast-m c = search needs
 
--- src/table.rt:63:5
 loop-holds : tie.Need-loop-holds Inv-loop μ-loop
 unfolding wrongOperand
 loop-holds c = (omega arith, omega arith, refl)
 
--- src/table.rt:64:26
 number-at-requires-2 : tie.Need-number-at-requires-2 Inv-loop μ-loop
 number-at-requires-2 c κs = search needs
 
--- src/table.rt:64:84
 add-number-at : tie.Need-add-number-at Inv-loop μ-loop
 add-number-at c = search needs
 
--- src/table.rt:64:57
 number-at-requires-3 : tie.Need-number-at-requires-3 Inv-loop μ-loop
 number-at-requires-3 c κs = search needs
 
--- src/table.rt:64:13
 operand-fits-requires : tie.Need-operand-fits-requires Inv-loop μ-loop
 operand-fits-requires c κs = search needs
 
--- src/table.rt:65:30
 cast-t10 : tie.Need-cast-t10 Inv-loop μ-loop
 cast-t10 c = search needs
 
--- src/table.rt:65:13
 returns : tie.Need-returns Inv-loop μ-loop
 returns c =
     let l = c .before .before .before .before .before in
@@ -67,15 +51,12 @@ returns c =
     let h : l .loop .c ≤ size s = omega (arith, e) in
     ap faultOf (sym (first-range-here (isOutside s) (l .loop .c) (size s) h (outside s (l .before .number-at .result) (l .loop .c) e _ _ (c .before .before .before .number-at2 .ensures) (c .before .before .number-at3 .ensures) _ (c .before .operand-fits .ensures) _ (c .if1 .taken))) ∙ l .loop .inv .2)
 
--- src/table.rt:67:9
 add-c : tie.Need-add-c Inv-loop μ-loop
 add-c c = search needs
 
--- src/table.rt:63:5
 loop-less : tie.Need-loop-less Inv-loop μ-loop
 loop-less c = search needs
 
--- src/table.rt:63:5
 loop-again : tie.Need-loop-again Inv-loop μ-loop
 loop-again c =
     let l = c .before .before .before .before .before in
@@ -84,7 +65,6 @@ loop-again c =
     let h : l .loop .c ≤ size s = omega (arith, e) in
     (omega arith, omega arith, sym (first-range-later (isOutside s) (l .loop .c) (size s) h (outside s (l .before .number-at .result) (l .loop .c) e _ _ (c .before .before .before .number-at2 .ensures) (c .before .before .number-at3 .ensures) _ (c .before .operand-fits .ensures) _ (c .if1 .left))) ∙ l .loop .inv .2)
 
--- src/table.rt:58:1
 returns-2 : tie.Need-returns-2 Inv-loop μ-loop
 returns-2 c =
     let l = c .before in

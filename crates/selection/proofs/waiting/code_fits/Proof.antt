@@ -1,68 +1,51 @@
+-- Each arm is the rule for its code.
 use borrow.Author.Tests.{eq-eqb, ne-eqb}
 use borrow.Author.Needs.{needs}
 use Rattle.selection.proofs.waiting.code_fits.Statement.{statement}
 use Rattle.selection.proofs.waiting.code_fits.Tie as tie
-use Rattle.selection.proofs.waiting.code_fits.Reads as reads
-use Rattle.selection.proofs.waiting.code_fits.Lts as lts
-use Rattle.selection.proofs.waiting.takes.Reads as takes-reads
 
--- src/waiting.rt:26:26
 enum-told : tie.Need-enum-told
 enum-told c = search needs
 
--- src/waiting.rt:27:22
 enum-known-code : tie.Need-enum-known-code
 enum-known-code c = search needs
 
--- src/waiting.rt:28:25
 cast-if1 : tie.Need-cast-if1
 cast-if1 c = search needs
 
--- src/waiting.rt:29:17
 returns : tie.Need-returns
 returns c = rw (c .before .before .code .given .1) (simp (ne-eqb _ _ (c .if1 .taken)))
 
--- src/waiting.rt:33:29
 enum-told-2 : tie.Need-enum-told-2
 enum-told-2 c = search needs
 
--- src/waiting.rt:33:29
 takes-requires : tie.Need-takes-requires
 takes-requires c κs = search needs
 
--- src/waiting.rt:34:22
 enum-told-3 : tie.Need-enum-told-3
 enum-told-3 c = search needs
 
--- src/waiting.rt:34:22
 takes-requires-2 : tie.Need-takes-requires-2
 takes-requires-2 c κs = search needs
 
--- src/waiting.rt:35:28
 enum-told-4 : tie.Need-enum-told-4
 enum-told-4 c = search needs
 
--- src/waiting.rt:35:28
 takes-requires-3 : tie.Need-takes-requires-3
 takes-requires-3 c κs = search needs
 
--- src/waiting.rt:22:1
 returns-2 : tie.Need-returns-2
 returns-2 c = rw (c .enum-told .given .1)
 
--- src/waiting.rt:22:1
 returns-3 : tie.Need-returns-3
 returns-3 c = rw (c .before .before .code .given .1) (simp (eq-eqb _ _ (c .if1 .left)))
 
--- src/waiting.rt:22:1
 returns-4 : tie.Need-returns-4
 returns-4 c = rw (c .before .enum-told2 .given .1) (c .takes .ensures)
 
--- src/waiting.rt:22:1
 returns-5 : tie.Need-returns-5
 returns-5 c = rw (c .before .enum-told3 .given .1) (c .takes2 .ensures)
 
--- src/waiting.rt:22:1
 returns-6 : tie.Need-returns-6
 returns-6 c = rw (c .before .enum-told4 .given .1) (c .takes3 .ensures)
 

@@ -1,59 +1,45 @@
+-- Each arm is the rule for its code; below one list nothing is taken away.
 use native.Mathlib.Omega.{arith}
 use borrow.Author.Needs.{needs}
 use Rattle.selection.proofs.waiting.lists_behind.Statement.{statement}
 use Rattle.selection.proofs.waiting.lists_behind.Tie as tie
-use Rattle.selection.proofs.waiting.lists_behind.Reads as reads
-use Rattle.selection.proofs.waiting.lists_behind.Lts as lts
 
--- src/waiting.rt:45:26
 enum-told : tie.Need-enum-told
 enum-told c = search needs
 
--- src/waiting.rt:46:28
 enum-told-2 : tie.Need-enum-told-2
 enum-told-2 c = search needs
 
--- src/waiting.rt:46:28
 add-result : tie.Need-add-result
 add-result c = search needs
 
--- src/waiting.rt:47:32
 enum-told-3 : tie.Need-enum-told-3
 enum-told-3 c = search needs
 
--- src/waiting.rt:47:44
 sub-result : tie.Need-sub-result
 sub-result c = search needs
 
--- src/waiting.rt:48:22
 enum-told-4 : tie.Need-enum-told-4
 enum-told-4 c = search needs
 
--- src/waiting.rt:49:28
 enum-told-5 : tie.Need-enum-told-5
 enum-told-5 c = search needs
 
--- src/waiting.rt:40:1
 returns : tie.Need-returns
 returns c = search needs
 
--- src/waiting.rt:40:1
 returns-2 : tie.Need-returns-2
 returns-2 c = rw (c .enum-told2 .given .1)
 
--- src/waiting.rt:40:1
 returns-3 : tie.Need-returns-3
 returns-3 c = rw (c .before .enum-told3 .given .1)
 
--- src/waiting.rt:40:1
 returns-4 : tie.Need-returns-4
 returns-4 c = rw (c .before .enum-told3 .given .1) (omega arith)
 
--- src/waiting.rt:40:1
 returns-5 : tie.Need-returns-5
 returns-5 c = search needs
 
--- src/waiting.rt:40:1
 returns-6 : tie.Need-returns-6
 returns-6 c = search needs
 

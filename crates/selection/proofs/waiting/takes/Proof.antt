@@ -1,14 +1,11 @@
+-- No loose word, then as many lists as are needed.
 use borrow.Author.Tests.{eq-eqb, ne-eqb}
 use Rattle.selection.proofs.waiting.takes.Statement.{statement}
 use Rattle.selection.proofs.waiting.takes.Tie as tie
-use Rattle.selection.proofs.waiting.takes.Reads as reads
-use Rattle.selection.proofs.waiting.takes.Lts as lts
 
--- src/waiting.rt:16:9
 returns : tie.Need-returns
 returns c = simp (ne-eqb _ _ (c .if1 .taken))
 
--- src/waiting.rt:12:1
 returns-2 : tie.Need-returns-2
 returns-2 c = simp (eq-eqb _ _ (c .if1 .left))
 

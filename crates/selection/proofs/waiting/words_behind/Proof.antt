@@ -1,50 +1,38 @@
+-- Each arm is the rule for its code.
 use borrow.Author.Needs.{needs}
 use Rattle.selection.proofs.waiting.words_behind.Statement.{statement}
 use Rattle.selection.proofs.waiting.words_behind.Tie as tie
-use Rattle.selection.proofs.waiting.words_behind.Reads as reads
-use Rattle.selection.proofs.waiting.words_behind.Lts as lts
 
--- src/waiting.rt:59:26
 enum-told : tie.Need-enum-told
 enum-told c = search needs
 
--- src/waiting.rt:59:26
 add-result : tie.Need-add-result
 add-result c = search needs
 
--- src/waiting.rt:60:28
 enum-told-2 : tie.Need-enum-told-2
 enum-told-2 c = search needs
 
--- src/waiting.rt:61:29
 enum-told-3 : tie.Need-enum-told-3
 enum-told-3 c = search needs
 
--- src/waiting.rt:62:22
 enum-told-4 : tie.Need-enum-told-4
 enum-told-4 c = search needs
 
--- src/waiting.rt:63:28
 enum-told-5 : tie.Need-enum-told-5
 enum-told-5 c = search needs
 
--- src/waiting.rt:54:1
 returns : tie.Need-returns
 returns c = rw (c .enum-told .given .1)
 
--- src/waiting.rt:54:1
 returns-2 : tie.Need-returns-2
 returns-2 c = search needs
 
--- src/waiting.rt:54:1
 returns-3 : tie.Need-returns-3
 returns-3 c = search needs
 
--- src/waiting.rt:54:1
 returns-4 : tie.Need-returns-4
 returns-4 c = search needs
 
--- src/waiting.rt:54:1
 returns-5 : tie.Need-returns-5
 returns-5 c = search needs
 

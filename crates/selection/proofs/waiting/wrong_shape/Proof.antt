@@ -1,78 +1,102 @@
+-- Invariant: behind the first c codes the rule goes on as it does from the start, with what waits in hand. Measure: the codes left.
+use Rattle.selection.proofs.Turns.{breaks-here, breaks-on, breaks-lists, breaks-words, breaks-none}
+use Rattle.model.proofs.WaitingLaws.{lists-le, words-le}
+use Rattle.model.specs.Waiting.{breakFrom}
+use Rattle.model.specs.Selection.{codeAt, upTo, codesOf}
+use Rattle.model.specs.Section.{size}
+use Rattle.model.specs.Checks.{wrongShape}
+use Rattle.model.specs.Answers.{faultOf}
+use lib.ListN.{drop}
+use borrow.Author.Tests.{not-true, not-false}
+use mathlib.Core.Path.{_≡_, refl, sym, ap, _∙_}
+use borrow.Author.Needs.{needs}
+use native.Mathlib.Omega.{arith}
+use Prim.Native.Nat.{_≤_, _<_, _-_}
 use Rattle.selection.proofs.waiting.wrong_shape.Statement.{statement}
 use Rattle.selection.proofs.waiting.wrong_shape.Tie as tie
-use Rattle.selection.proofs.waiting.wrong_shape.Reads as reads
-use Rattle.selection.proofs.waiting.wrong_shape.Lts as lts
-use Rattle.lent.proofs.number_at.Reads as number-at-reads
-use Rattle.selection.proofs.codes.code_at.Reads as code-at-reads
-use Rattle.selection.proofs.waiting.code_fits.Reads as code-fits-reads
-use Rattle.selection.proofs.waiting.lists_behind.Reads as lists-behind-reads
-use Rattle.selection.proofs.waiting.words_behind.Reads as words-behind-reads
 
 abbrev Inv-loop : tie.InvT-loop
-Inv-loop selection m lists₀ words₀ c₀ lists words c = ?
+Inv-loop selection m lists₀ words₀ c₀ lists words c = (c ≤ m) × (lists ≤ c) × (words ≤ c) × (breakFrom c (drop c (upTo (codeAt selection) (size selection))) lists words ≡ wrongShape selection)
 
 abbrev μ-loop : tie.MeasureT-loop
-μ-loop selection m lists₀ words₀ c₀ lists words c = ?
+μ-loop selection m lists₀ words₀ c₀ lists words c = m - c
 
--- src/waiting.rt:71:9
 number-at-requires : tie.Need-number-at-requires Inv-loop μ-loop
-number-at-requires c κs = ?
+number-at-requires c κs = search needs
 
--- src/waiting.rt:75:5
 loop-holds : tie.Need-loop-holds Inv-loop μ-loop
-loop-holds c = ?
+unfolding wrongShape codesOf
+loop-holds c = (omega arith, omega arith, omega arith, refl)
 
--- src/waiting.rt:76:53
 add-code-at : tie.Need-add-code-at Inv-loop μ-loop
-add-code-at c = ?
+add-code-at c = search needs
 
--- src/waiting.rt:76:13
 code-at-requires : tie.Need-code-at-requires Inv-loop μ-loop
-code-at-requires c κs = ?
+code-at-requires c κs = search needs
 
--- src/waiting.rt:77:13
 code-fits-requires : tie.Need-code-fits-requires Inv-loop μ-loop
-code-fits-requires c κs = ?
+code-fits-requires c κs = search needs
 
--- src/waiting.rt:78:30
 add-t10 : tie.Need-add-t10 Inv-loop μ-loop
-add-t10 c = ?
+add-t10 c = search needs
 
--- src/waiting.rt:78:13
 returns : tie.Need-returns Inv-loop μ-loop
-returns c = ?
+returns c =
+    let l = c .before .before .before .before in
+    let s = l .before .before .before .args .selection .now in
+    let h : l .loop .c < size s = omega (arith, l .before .number-at .ensures) in
+    ap faultOf (sym (breaks-here (codeAt s) (size s) (l .loop .c) (l .loop .lists) (l .loop .words) h _ (c .before .before .code-at .ensures) (sym (c .before .code-fits .ensures) ∙ not-true _ (c .if1 .taken))) ∙ l .loop .inv .3)
 
--- src/waiting.rt:80:9
 lists-behind-requires : tie.Need-lists-behind-requires Inv-loop μ-loop
-lists-behind-requires c κs = ?
+lists-behind-requires c κs = search needs
 
--- src/waiting.rt:81:9
 words-behind-requires : tie.Need-words-behind-requires Inv-loop μ-loop
-words-behind-requires c κs = ?
+words-behind-requires c κs = search needs
 
--- src/waiting.rt:82:9
 add-c : tie.Need-add-c Inv-loop μ-loop
-add-c c = ?
+add-c c = search needs
 
--- src/waiting.rt:75:5
 loop-less : tie.Need-loop-less Inv-loop μ-loop
-loop-less c = ?
+loop-less c = search needs
 
--- src/waiting.rt:75:5
 loop-again : tie.Need-loop-again Inv-loop μ-loop
-loop-again c = ?
+loop-again c =
+    let e = c .before .before in
+    let l = e .before .before .before .before in
+    let s = l .before .before .before .args .selection .now in
+    let h : l .loop .c < size s = omega (arith, l .before .number-at .ensures) in
+    let code = e .before .before .code-at .result in (
+      omega arith,
+      omega (arith, c .before .lists-behind .ensures, lists-le code (l .loop .lists)),
+      omega (arith, c .words-behind .ensures, words-le code (l .loop .words)),
+      breaks-on (codeAt s) (size s) (l .loop .c) (l .loop .lists) (l .loop .words) h code (e .before .before .code-at .ensures) (sym (e .before .code-fits .ensures) ∙ not-false _ (e .if1 .left)) _ _
+          (c .before .lists-behind .ensures) (c .words-behind .ensures)
+          ∙ l .loop .inv .3,
+    )
 
--- src/waiting.rt:85:9
 returns-2 : tie.Need-returns-2 Inv-loop μ-loop
-returns-2 c = ?
+returns-2 c =
+    let l = c .before .before in
+    let s = l .before .before .before .args .selection .now in
+    let m = l .before .number-at .ensures in
+    let z : l .loop .c ≡ size s = omega (arith, m) in
+    rw m (ap faultOf (sym (breaks-lists (codeAt s) (size s) (l .loop .c) (l .loop .lists) (l .loop .words) z (c .if2 .taken)) ∙ l .loop .inv .3))
 
--- src/waiting.rt:88:9
 returns-3 : tie.Need-returns-3 Inv-loop μ-loop
-returns-3 c = ?
+returns-3 c =
+    let l = c .before .before .before in
+    let s = l .before .before .before .args .selection .now in
+    let m = l .before .number-at .ensures in
+    let z : l .loop .c ≡ size s = omega (arith, m) in
+    rw m (ap faultOf (sym (breaks-words (codeAt s) (size s) (l .loop .c) (l .loop .lists) (l .loop .words) z (c .before .if2 .left) (c .if3 .taken)) ∙ l .loop .inv .3))
 
--- src/waiting.rt:68:1
 returns-4 : tie.Need-returns-4 Inv-loop μ-loop
-returns-4 c = ?
+returns-4 c =
+    let l = c .before .before .before in
+    let s = l .before .before .before .args .selection .now in
+    let m = l .before .number-at .ensures in
+    let z : l .loop .c ≡ size s = omega (arith, m) in
+    ap faultOf (sym (breaks-none (codeAt s) (size s) (l .loop .c) (l .loop .lists) (l .loop .words) z (c .before .if2 .left) (c .if3 .left)) ∙ l .loop .inv .3)
 
 pub wrong-shape-spec : {M : Type 1} → statement M
 wrong-shape-spec =
