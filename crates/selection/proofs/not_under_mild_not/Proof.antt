@@ -8,7 +8,7 @@ use Rattle.model.specs.Parts.{isNotCode, waitingParts}
 use Rattle.model.specs.Lists.{any, first}
 use Rattle.model.specs.Answers.{faultOf}
 use mathlib.Core.Option.{none}
-use mathlib.Core.Bool.{and-false}
+use mathlib.Core.Bool.{_&&_, and-false}
 use mathlib.Core.Path.{_≡_, refl, sym, ap, _∙_}
 use borrow.Author.Needs.{needs}
 use native.Mathlib.Omega.{arith}

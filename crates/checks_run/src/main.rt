@@ -1,0 +1,481 @@
+// Each refusal of the checks beside an accepted neighbour: a line a case, with the refusal's number and place.
+use model::Checked;
+
+fn report(name: &[u8], checked: Checked) {
+    io::write_all(1, name);
+    match checked {
+        Checked::Accepted => {
+            io::write_all(1, b": accepted\n");
+        }
+        Checked::Refused { number, place } => {
+            io::write_all(1, b": refused ");
+            io::print_decimal(1, number as u64);
+            io::write_all(1, b" ");
+            io::print_decimal(1, place as u64);
+            io::write_all(1, b"\n");
+        }
+    }
+}
+
+// A section against a selection that passes.
+fn section(name: &[u8], section: &[u32]) {
+    let word = [2u32, 0, 1, 10, 1];
+    report(name, checks::check_listing(section, &word, 12800, 1282));
+}
+
+// A selection against a section that passes.
+fn selection(name: &[u8], selection: &[u32]) {
+    let empty = [0u32];
+    report(name, checks::check_listing(&empty, selection, 12800, 1282));
+}
+
+// Lent memory of some lengths.
+fn memory(name: &[u8], work: usize, buffer: usize) {
+    let empty = [0u32];
+    let word = [2u32, 0, 1, 10, 1];
+    report(name, checks::check_listing(&empty, &word, work, buffer));
+}
+
+fn sections() {
+    let none = [0u32];
+    section(b"no numbers", &none[..0]);
+    section(b"no tokens", &none);
+    let mut long = [0u32; 8195];
+    long[0] = 4096;
+    section(b"4,096 tokens", &long[..8193]);
+    section(b"4,096 tokens, a number short", &long[..8192]);
+    long[0] = 4097;
+    section(b"4,097 tokens", &long);
+    long[0] = 4294967295;
+    section(b"a size of 4,294,967,295", &long);
+    section(b"sentences 1 1 2", &[3, 7, 7, 7, 1, 1, 2]);
+    section(b"sentences 1 2 1", &[3, 7, 7, 7, 1, 2, 1]);
+    section(b"sentences 0 0 1", &[3, 7, 7, 7, 0, 0, 1]);
+    section(b"paragraphs 1 1 2", &[3, 7, 7, 7, 65536, 65536, 131072]);
+    section(b"paragraphs 1 0 0", &[3, 7, 7, 7, 65536, 0, 0]);
+}
+
+// A word, its phrase, and nots: so many codes in all.
+fn nots() {
+    selection(
+        b"64 codes",
+        &[
+            64,
+            0,
+            1,
+            4,
+            4,
+            4,
+            4,
+            4,
+            4,
+            4,
+            4,
+            4,
+            4,
+            4,
+            4,
+            4,
+            4,
+            4,
+            4,
+            4,
+            4,
+            4,
+            4,
+            4,
+            4,
+            4,
+            4,
+            4,
+            4,
+            4,
+            4,
+            4,
+            4,
+            4,
+            4,
+            4,
+            4,
+            4,
+            4,
+            4,
+            4,
+            4,
+            4,
+            4,
+            4,
+            4,
+            4,
+            4,
+            4,
+            4,
+            4,
+            4,
+            4,
+            4,
+            4,
+            4,
+            4,
+            4,
+            4,
+            4,
+            4,
+            4,
+            4,
+            4,
+            4,
+            10,
+            1,
+            0,
+            0,
+            0,
+            0,
+            0,
+            0,
+            0,
+            0,
+            0,
+            0,
+            0,
+            0,
+            0,
+            0,
+            0,
+            0,
+            0,
+            0,
+            0,
+            0,
+            0,
+            0,
+            0,
+            0,
+            0,
+            0,
+            0,
+            0,
+            0,
+            0,
+            0,
+            0,
+            0,
+            0,
+            0,
+            0,
+            0,
+            0,
+            0,
+            0,
+            0,
+            0,
+            0,
+            0,
+            0,
+            0,
+            0,
+            0,
+            0,
+            0,
+            0,
+            0,
+            0,
+            0,
+            0,
+            0,
+            0,
+            0,
+            0,
+            0,
+            0,
+            0,
+        ],
+    );
+    selection(
+        b"65 codes",
+        &[
+            65,
+            0,
+            1,
+            4,
+            4,
+            4,
+            4,
+            4,
+            4,
+            4,
+            4,
+            4,
+            4,
+            4,
+            4,
+            4,
+            4,
+            4,
+            4,
+            4,
+            4,
+            4,
+            4,
+            4,
+            4,
+            4,
+            4,
+            4,
+            4,
+            4,
+            4,
+            4,
+            4,
+            4,
+            4,
+            4,
+            4,
+            4,
+            4,
+            4,
+            4,
+            4,
+            4,
+            4,
+            4,
+            4,
+            4,
+            4,
+            4,
+            4,
+            4,
+            4,
+            4,
+            4,
+            4,
+            4,
+            4,
+            4,
+            4,
+            4,
+            4,
+            4,
+            4,
+            4,
+            4,
+            4,
+            10,
+            1,
+            0,
+            0,
+            0,
+            0,
+            0,
+            0,
+            0,
+            0,
+            0,
+            0,
+            0,
+            0,
+            0,
+            0,
+            0,
+            0,
+            0,
+            0,
+            0,
+            0,
+            0,
+            0,
+            0,
+            0,
+            0,
+            0,
+            0,
+            0,
+            0,
+            0,
+            0,
+            0,
+            0,
+            0,
+            0,
+            0,
+            0,
+            0,
+            0,
+            0,
+            0,
+            0,
+            0,
+            0,
+            0,
+            0,
+            0,
+            0,
+            0,
+            0,
+            0,
+            0,
+            0,
+            0,
+            0,
+            0,
+            0,
+            0,
+            0,
+            0,
+            0,
+            0,
+            0,
+        ],
+    );
+}
+
+fn selections() {
+    let none = [0u32];
+    selection(b"no numbers", &none[..0]);
+    selection(b"no codes", &none);
+    nots();
+    selection(b"a size of 4,294,967,295", &[4294967295, 0, 1, 10, 1]);
+    selection(b"kind 15", &[3, 0, 1, 15, 10, 1, 0]);
+    selection(b"kind 16", &[3, 0, 1, 16, 10, 1, 0]);
+    selection(b"window of 4,096", &[3, 0, 1, 7, 10, 1, 4096]);
+    selection(b"window of 4,097", &[3, 0, 1, 7, 10, 1, 4097]);
+    selection(b"distance 3 to 3", &[3, 0, 1, 8, 10, 1, 196611]);
+    selection(b"distance 3 to 2", &[3, 0, 1, 8, 10, 1, 196610]);
+    selection(b"operand 1 at code 1, kind 22 at code 2", &[2, 2, 22, 1, 0]);
+    selection(b"a phrase of one word too many", &[2, 0, 1, 10, 2]);
+    selection(b"a list too many", &[4, 0, 1, 0, 1, 10, 1, 20, 1]);
+    selection(
+        b"not a mild not",
+        &[6, 0, 1, 0, 1, 5, 4, 10, 1, 20, 1, 0, 0],
+    );
+    selection(
+        b"a mild not over a not",
+        &[6, 0, 1, 0, 1, 4, 5, 10, 1, 20, 1, 0, 0],
+    );
+}
+
+// Phrases, and then as many ors as make one list of them: eight lists wait, or nine.
+fn lists() {
+    selection(
+        b"eight lists",
+        &[
+            23,
+            0,
+            1,
+            0,
+            1,
+            0,
+            1,
+            0,
+            1,
+            0,
+            1,
+            0,
+            1,
+            0,
+            1,
+            0,
+            1,
+            2,
+            2,
+            2,
+            2,
+            2,
+            2,
+            2,
+            9,
+            1,
+            9,
+            1,
+            9,
+            1,
+            9,
+            1,
+            9,
+            1,
+            9,
+            1,
+            9,
+            1,
+            9,
+            1,
+            0,
+            0,
+            0,
+            0,
+            0,
+            0,
+            0,
+        ],
+    );
+    selection(
+        b"nine lists",
+        &[
+            26,
+            0,
+            1,
+            0,
+            1,
+            0,
+            1,
+            0,
+            1,
+            0,
+            1,
+            0,
+            1,
+            0,
+            1,
+            0,
+            1,
+            0,
+            1,
+            2,
+            2,
+            2,
+            2,
+            2,
+            2,
+            2,
+            2,
+            9,
+            1,
+            9,
+            1,
+            9,
+            1,
+            9,
+            1,
+            9,
+            1,
+            9,
+            1,
+            9,
+            1,
+            9,
+            1,
+            9,
+            1,
+            0,
+            0,
+            0,
+            0,
+            0,
+            0,
+            0,
+            0,
+        ],
+    );
+}
+
+fn main() {
+    io::write_all(1, b"sections\n");
+    sections();
+    io::write_all(1, b"selections\n");
+    selections();
+    lists();
+    io::write_all(1, b"memory\n");
+    memory(b"12,800 and 1,282", 12800, 1282);
+    memory(b"12,799 and 1,282", 12799, 1282);
+    memory(b"12,800 and 1,281", 12800, 1281);
+}
