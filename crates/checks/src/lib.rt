@@ -17,29 +17,6 @@ pub fn check_inputs(section: &[u32], selection: &[u32]) -> Checked
     selection::check_selection(selection)
 }
 
-// What the full listing refuses before any list is built.
-pub fn check_listing(section: &[u32], selection: &[u32], work: usize, buffer: usize) -> Checked
-    ensures { λ r. ⌜ r ≡ checkedOf (listingChecks (now (section .entry)) (now (selection .entry)) work buffer) ⌝ }
-{
-    let checked = check_inputs(section, selection);
-    let Checked::Accepted = checked else {
-        return checked;
-    };
-    if work < WORK_LENGTH {
-        return Checked::Refused {
-            number: 8,
-            place: 0,
-        };
-    }
-    if buffer < BUFFER_LENGTH {
-        return Checked::Refused {
-            number: 8,
-            place: 0,
-        };
-    }
-    Checked::Accepted
-}
-
 // What the quick answer refuses before its walk.
 pub fn check_quick(section: &[u32], selection: &[u32], work: usize) -> Checked
     ensures { λ r. ⌜ r ≡ checkedOf (quickChecks (now (section .entry)) (now (selection .entry)) work) ⌝ }
@@ -49,6 +26,23 @@ pub fn check_quick(section: &[u32], selection: &[u32], work: usize) -> Checked
         return checked;
     };
     if work < WORK_LENGTH {
+        return Checked::Refused {
+            number: 8,
+            place: 0,
+        };
+    }
+    Checked::Accepted
+}
+
+// What the full listing refuses before any list is built: the same, and a short listing buffer.
+pub fn check_listing(section: &[u32], selection: &[u32], work: usize, buffer: usize) -> Checked
+    ensures { λ r. ⌜ r ≡ checkedOf (listingChecks (now (section .entry)) (now (selection .entry)) work buffer) ⌝ }
+{
+    let checked = check_quick(section, selection, work);
+    let Checked::Accepted = checked else {
+        return checked;
+    };
+    if buffer < BUFFER_LENGTH {
         return Checked::Refused {
             number: 8,
             place: 0,
