@@ -1,0 +1,10 @@
+pub mod Memory
+pub mod PutLaws
+pub mod LayoutLaws
+pub mod FineLaws
+pub mod Back
+pub mod Walking
+pub mod Slots
+pub mod StackLaws
+pub mod Rows
+pub mod EachLaws

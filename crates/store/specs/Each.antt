@@ -1,0 +1,28 @@
+-- A rule that goes over a list match by match and writes what it makes of each, F, from a place above the list on.
+use Prim.Native.Nat.{ℕ, _+_, _≤_}
+use mathlib.Core.List.{List, flatMap}
+use lib.ListN.{length, getD}
+use Rattle.model.specs.Matches.{Match}
+use Rattle.store.specs.Layout.{matchLength, matchesNumbers}
+use Rattle.store.specs.Stream.{MatchHolds, Left}
+
+module _ (F : Match → List Match) where
+  -- the match m at p, below q, and room there for what the rule makes of it
+  pub record One (m : Match) (mem : List ℕ) (p q : ℕ) : Type 0 where
+    pub held : MatchHolds mem p m
+    pub below : p + matchLength (getD mem p 0) ≤ q
+    pub room : q + length (matchesNumbers (F m)) ≤ length mem
+
+  pub record OneAt (mem : List ℕ) (p q : ℕ) : Type 0 where
+    pub item : Match
+    pub one : One item mem p q
+
+  -- the n matches of a list from p on, below at, and room there for what the rule makes of them
+  pub record Each (list : List Match) (mem : List ℕ) (p n at : ℕ) : Type 0 where
+    pub stream : Left list mem p 0 n
+    pub below : p + length (matchesNumbers list) ≤ at
+    pub room : at + length (matchesNumbers (flatMap F list)) ≤ length mem
+
+  pub record EachAt (mem : List ℕ) (p n at : ℕ) : Type 0 where
+    pub list : List Match
+    pub each : Each list mem p n at

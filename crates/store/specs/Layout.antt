@@ -1,0 +1,56 @@
+-- How a list of matches lies in working memory, as a stream of numbers: how many matches and how many strings, then for each match a header (its
+-- includes × 65,536 + its excludes) and its strings, the includes before the excludes.
+use Prim.Native.Nat.{ℕ, _+_, _-_, _*_, _/_, _%_, _≤_}
+use mathlib.Core.List.{List, _∷_, _++_, flatMap}
+use mathlib.Core.Path.{_≡_}
+use lib.ListN.{length, take, drop, getD}
+use Rattle.model.specs.Limits.{radix}
+use Rattle.model.specs.Matches.{Match, strings}
+use Rattle.strings.specs.Strings.{strsOf}
+
+-- a header, and its two counts back
+abbrev pub headerOf : ℕ → ℕ → ℕ
+headerOf includes excludes = includes * radix + excludes
+
+abbrev pub includesIn : ℕ → ℕ
+includesIn header = header / radix
+
+abbrev pub excludesIn : ℕ → ℕ
+excludesIn header = header % radix
+
+-- how many numbers a match takes, by its header
+abbrev pub matchLength : ℕ → ℕ
+matchLength header = 1 + 2 * (includesIn header + excludesIn header)
+
+unfoldable pub matchNumbers : Match → List ℕ
+matchNumbers m = headerOf (length (m .includes)) (length (m .excludes)) ∷ (strsOf 0 (m .includes) ++ strsOf 1 (m .excludes))
+
+unfoldable pub matchesNumbers : List Match → List ℕ
+matchesNumbers ms = flatMap matchNumbers ms
+
+unfoldable pub slotNumbers : List Match → List ℕ
+slotNumbers ms = length ms ∷ strings ms ∷ matchesNumbers ms
+
+-- how many numbers the list in the slot at `at` takes, by its two heads
+abbrev pub slotLength : List ℕ → ℕ → ℕ
+slotLength mem at = 2 + getD mem at 0 + 2 * getD mem (at + 1) 0
+
+-- how many strings the matches of the slot at `at` have, by their number and the place behind them
+abbrev pub stringsBefore : ℕ → ℕ → ℕ → ℕ
+stringsBefore next at matches = (next - (at + 2) - matches) / 2
+
+-- how many numbers a slot takes at most, 2 + 256 + 2 × 512; and where the slot behind k others lies
+abbrev pub slotSize : ℕ
+slotSize = 1282
+
+abbrev pub slotAt : ℕ → ℕ
+slotAt k = k * slotSize
+
+-- where the slot to build in lies: behind eight others
+abbrev pub scratch : ℕ
+scratch = 10256
+
+-- memory holds the numbers xs from the index at on
+pub record Holds (mem : List ℕ) (at : ℕ) (xs : List ℕ) : Type 0 where
+  pub within : at + length xs ≤ length mem
+  pub part : take (length xs) (drop at mem) ≡ xs

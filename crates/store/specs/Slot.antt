@@ -1,0 +1,27 @@
+-- A list in a slot: a record of facts about a list, and a record that holds the list too.
+use Prim.Native.Nat.{ℕ, _+_, _≤_}
+use mathlib.Core.List.{List}
+use lib.ListN.{length, getD}
+use Rattle.model.specs.AllStrings.{AllList}
+use Rattle.model.specs.Limits.{maxMatches, maxStrings}
+use Rattle.model.specs.Matches.{Match, strings}
+use Rattle.store.specs.Fine.{Fine}
+use Rattle.store.specs.Layout.{Holds, slotLength, slotNumbers}
+
+-- what the two heads of the slot at `at` say: a list that lies within memory and is within the limits
+pub record Heads (mem : List ℕ) (at : ℕ) : Type 0 where
+  pub within : at + slotLength mem at ≤ length mem
+  pub few : getD mem at 0 ≤ maxMatches
+  pub strs : getD mem (at + 1) 0 ≤ maxStrings
+
+-- the list ms lies in the slot at `at`; its heads' numbers besides, for what a proof about numbers reads by itself
+pub record SlotHolds (mem : List ℕ) (at : ℕ) (ms : List Match) : Type 0 where
+  pub holds : Holds mem at (slotNumbers ms)
+  pub few : length ms ≤ maxMatches
+  pub strs : strings ms ≤ maxStrings
+  pub fine : AllList Fine ms
+  pub heads : Heads mem at
+
+pub record SlotAt (mem : List ℕ) (at : ℕ) : Type 0 where
+  pub list : List Match
+  pub slot : SlotHolds mem at list
