@@ -1,0 +1,25 @@
+-- Runs of covered positions, gone through string by string.
+use Prim.Native.Nat.{ℕ, _+_}
+use mathlib.Core.Bool.{Bool, true, false, not, _&&_, _||_, cond}
+use mathlib.Core.List.{List, [], _∷_}
+use Rattle.model.specs.Lists.{keep}
+use Rattle.model.specs.Matches.{Str}
+use Rattle.model.specs.Rules.{covers}
+
+-- all strings, or only the contiguous ones
+abbrev pub chosen : Bool → List Str → List Str
+chosen true ss = keep (λ s. s .contiguous) ss
+chosen false ss = ss
+
+-- is a string among the chosen?
+abbrev pub isChosen : Bool → Str → Bool
+isChosen only s = not only || s .contiguous
+
+-- a position, moved behind a chosen string that covers it
+abbrev pub passed : Bool → ℕ → Str → ℕ
+passed only p s = cond (isChosen only s && covers s p) (s .end + 1) p
+
+-- a position, moved behind each string in turn that covers it
+unfoldable pub advanced : ℕ → List Str → ℕ
+advanced p [] = p
+advanced p (s ∷ ss) = advanced (passed false p s) ss

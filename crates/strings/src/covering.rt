@@ -1,0 +1,85 @@
+// Which positions the strings of a part cover. A run of positions is gone through string by string, never position by position.
+use super::spans::end_of;
+use super::spans::is_contiguous;
+use super::spans::start_of;
+use model::Position;
+ghost use mathlib.Core.Path.{_≡_};
+ghost use Rattle.model.specs.Lists.{all, range};
+ghost use Rattle.model.specs.Rules.{covered, covers};
+ghost use Rattle.strings.specs.Strings.{strOf, strsAt};
+ghost use Rattle.strings.specs.Covering.{advanced, chosen, isChosen, passed};
+
+// Does a string of this span cover a position?
+fn covers(span: u32, p: u32) -> bool
+    ensures { λ r. ⌜ r ≡ covers (strOf span 0) p ⌝ }
+{
+    if p < start_of(span) {
+        return false;
+    }
+    p <= end_of(span)
+}
+
+// "some include covers position"
+pub fn covered(strs: &[u32], p: Position) -> bool
+    ensures { λ r. ⌜ r ≡ covered (strsAt (now (strs .entry))) (p .0) ⌝ }
+{
+    let mut i = 0;
+    while i + 1 < strs.len() {
+        if covers(strs[i], p.0) {
+            return true;
+        }
+        i += 2;
+    }
+    false
+}
+
+// Is a string among the chosen: all, or only the contiguous ones?
+fn is_chosen(tag: u32, only_contiguous: bool) -> bool
+    ensures { λ r. ⌜ r ≡ isChosen «only_contiguous» (strOf 0 tag) ⌝ }
+{
+    if !only_contiguous {
+        return true;
+    }
+    is_contiguous(tag)
+}
+
+// A position, moved behind a chosen string that covers it.
+fn passed(span: u32, tag: u32, p: u32, only_contiguous: bool) -> u32
+    ensures { λ r. ⌜ r ≡ passed «only_contiguous» p (strOf span tag) ⌝ }
+{
+    if !is_chosen(tag, only_contiguous) {
+        return p;
+    }
+    if !covers(span, p) {
+        return p;
+    }
+    end_of(span) + 1
+}
+
+// A position, moved behind each chosen string in turn that covers it.
+pub fn advance(strs: &[u32], p: u32, only_contiguous: bool) -> u32
+    ensures { λ r. ⌜ r ≡ advanced p (chosen «only_contiguous» (strsAt (now (strs .entry)))) ⌝ }
+{
+    let mut at = p;
+    let mut i = 0;
+    while i + 1 < strs.len() {
+        at = passed(strs[i], strs[i + 1], at, only_contiguous);
+        i += 2;
+    }
+    at
+}
+
+// "every position in it is covered"; with `only_contiguous`, "by some contiguous include"
+pub fn run_covered(strs: &[u32], from: u32, to: u32, only_contiguous: bool) -> bool
+    ensures { λ r. ⌜ r ≡ all (covered (chosen «only_contiguous» (strsAt (now (strs .entry))))) (range from to) ⌝ }
+{
+    let mut p = from;
+    while p <= to {
+        let next = advance(strs, p, only_contiguous);
+        if next == p {
+            return false;
+        }
+        p = next;
+    }
+    true
+}
