@@ -1,5 +1,8 @@
 // Each refusal of the checks beside an accepted neighbour: a line a case, with the refusal's number and place.
 use model::Checked;
+ghost use mathlib.Core.Path.{_≡_};
+ghost use Prim.Native.Nat.{_≤_};
+ghost use lib.ListN.{length};
 
 fn report(name: &[u8], checked: Checked) {
     io::write_all(1, name);
@@ -55,285 +58,54 @@ fn sections() {
     section(b"paragraphs 1 0 0", &[3, 7, 7, 7, 65536, 0, 0]);
 }
 
-// A word, its phrase, and nots: so many codes in all.
-fn nots() {
-    selection(
-        b"64 codes",
-        &[
-            64,
-            0,
-            1,
-            4,
-            4,
-            4,
-            4,
-            4,
-            4,
-            4,
-            4,
-            4,
-            4,
-            4,
-            4,
-            4,
-            4,
-            4,
-            4,
-            4,
-            4,
-            4,
-            4,
-            4,
-            4,
-            4,
-            4,
-            4,
-            4,
-            4,
-            4,
-            4,
-            4,
-            4,
-            4,
-            4,
-            4,
-            4,
-            4,
-            4,
-            4,
-            4,
-            4,
-            4,
-            4,
-            4,
-            4,
-            4,
-            4,
-            4,
-            4,
-            4,
-            4,
-            4,
-            4,
-            4,
-            4,
-            4,
-            4,
-            4,
-            4,
-            4,
-            4,
-            4,
-            4,
-            10,
-            1,
-            0,
-            0,
-            0,
-            0,
-            0,
-            0,
-            0,
-            0,
-            0,
-            0,
-            0,
-            0,
-            0,
-            0,
-            0,
-            0,
-            0,
-            0,
-            0,
-            0,
-            0,
-            0,
-            0,
-            0,
-            0,
-            0,
-            0,
-            0,
-            0,
-            0,
-            0,
-            0,
-            0,
-            0,
-            0,
-            0,
-            0,
-            0,
-            0,
-            0,
-            0,
-            0,
-            0,
-            0,
-            0,
-            0,
-            0,
-            0,
-            0,
-            0,
-            0,
-            0,
-            0,
-            0,
-            0,
-            0,
-            0,
-            0,
-            0,
-            0,
-            0,
-            0,
-        ],
-    );
-    selection(
-        b"65 codes",
-        &[
-            65,
-            0,
-            1,
-            4,
-            4,
-            4,
-            4,
-            4,
-            4,
-            4,
-            4,
-            4,
-            4,
-            4,
-            4,
-            4,
-            4,
-            4,
-            4,
-            4,
-            4,
-            4,
-            4,
-            4,
-            4,
-            4,
-            4,
-            4,
-            4,
-            4,
-            4,
-            4,
-            4,
-            4,
-            4,
-            4,
-            4,
-            4,
-            4,
-            4,
-            4,
-            4,
-            4,
-            4,
-            4,
-            4,
-            4,
-            4,
-            4,
-            4,
-            4,
-            4,
-            4,
-            4,
-            4,
-            4,
-            4,
-            4,
-            4,
-            4,
-            4,
-            4,
-            4,
-            4,
-            4,
-            4,
-            10,
-            1,
-            0,
-            0,
-            0,
-            0,
-            0,
-            0,
-            0,
-            0,
-            0,
-            0,
-            0,
-            0,
-            0,
-            0,
-            0,
-            0,
-            0,
-            0,
-            0,
-            0,
-            0,
-            0,
-            0,
-            0,
-            0,
-            0,
-            0,
-            0,
-            0,
-            0,
-            0,
-            0,
-            0,
-            0,
-            0,
-            0,
-            0,
-            0,
-            0,
-            0,
-            0,
-            0,
-            0,
-            0,
-            0,
-            0,
-            0,
-            0,
-            0,
-            0,
-            0,
-            0,
-            0,
-            0,
-            0,
-            0,
-            0,
-            0,
-            0,
-            0,
-            0,
-            0,
-            0,
-        ],
-    );
+// Puts a value at every second index of a range, or at every one.
+fn fill(codes: &mut [u32], from: usize, to: usize, step: usize, value: u32)
+    requires { ⌜ (to ≤ length (now codes)) × (1 ≤ step) × (step ≤ 2) ⌝ }
+{
+    let mut i = from;
+    while i < to {
+        codes[i] = value;
+        i += step;
+    }
+}
+
+// A word, its phrase, and nots: m codes in all.
+fn nots(name: &[u8], m: usize, codes: &mut [u32])
+    requires { ⌜ (2 ≤ m) × (m ≤ 65) × (length (now codes) ≡ 131) ⌝ }
+{
+    let end = m + m + 1;
+    fill(codes, 0, end, 1, 0);
+    fill(codes, 0, 1, 1, m as u32);
+    fill(codes, 2, 3, 1, 1);
+    fill(codes, 3, m + 1, 1, 4);
+    fill(codes, m + 2, m + 3, 1, 1);
+    selection(name, &codes[..end]);
+}
+
+// k phrases of one word, and then as many ors as make one list of them: k lists wait.
+fn ors(name: &[u8], k: usize, codes: &mut [u32])
+    requires { ⌜ (1 ≤ k) × (k ≤ 9) × (length (now codes) ≡ 131) ⌝ }
+{
+    let m = k + k + (k - 1);
+    let words = k + k + 1;
+    let end = m + m + 1;
+    fill(codes, 0, end, 1, 0);
+    fill(codes, 0, 1, 1, m as u32);
+    fill(codes, 2, words, 2, 1);
+    fill(codes, words, m + 1, 1, 2);
+    fill(codes, m + 1, m + words, 1, 1);
+    selection(name, &codes[..end]);
 }
 
 fn selections() {
     let none = [0u32];
     selection(b"no numbers", &none[..0]);
     selection(b"no codes", &none);
-    nots();
+    let mut codes = [0u32; 131];
+    nots(b"64 codes", 64, &mut codes);
+    nots(b"65 codes", 65, &mut codes);
+    ors(b"eight lists", 8, &mut codes);
+    ors(b"nine lists", 9, &mut codes);
     selection(b"a size of 4,294,967,295", &[4294967295, 0, 1, 10, 1]);
     selection(b"kind 15", &[3, 0, 1, 15, 10, 1, 0]);
     selection(b"kind 16", &[3, 0, 1, 16, 10, 1, 0]);
@@ -354,126 +126,11 @@ fn selections() {
     );
 }
 
-// Phrases, and then as many ors as make one list of them: eight lists wait, or nine.
-fn lists() {
-    selection(
-        b"eight lists",
-        &[
-            23,
-            0,
-            1,
-            0,
-            1,
-            0,
-            1,
-            0,
-            1,
-            0,
-            1,
-            0,
-            1,
-            0,
-            1,
-            0,
-            1,
-            2,
-            2,
-            2,
-            2,
-            2,
-            2,
-            2,
-            9,
-            1,
-            9,
-            1,
-            9,
-            1,
-            9,
-            1,
-            9,
-            1,
-            9,
-            1,
-            9,
-            1,
-            9,
-            1,
-            0,
-            0,
-            0,
-            0,
-            0,
-            0,
-            0,
-        ],
-    );
-    selection(
-        b"nine lists",
-        &[
-            26,
-            0,
-            1,
-            0,
-            1,
-            0,
-            1,
-            0,
-            1,
-            0,
-            1,
-            0,
-            1,
-            0,
-            1,
-            0,
-            1,
-            0,
-            1,
-            2,
-            2,
-            2,
-            2,
-            2,
-            2,
-            2,
-            2,
-            9,
-            1,
-            9,
-            1,
-            9,
-            1,
-            9,
-            1,
-            9,
-            1,
-            9,
-            1,
-            9,
-            1,
-            9,
-            1,
-            9,
-            1,
-            0,
-            0,
-            0,
-            0,
-            0,
-            0,
-            0,
-            0,
-        ],
-    );
-}
-
 fn main() {
     io::write_all(1, b"sections\n");
     sections();
     io::write_all(1, b"selections\n");
     selections();
-    lists();
     io::write_all(1, b"memory\n");
     memory(b"12,800 and 1,282", 12800, 1282);
     memory(b"12,799 and 1,282", 12799, 1282);
