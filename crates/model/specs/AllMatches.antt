@@ -1,6 +1,5 @@
 -- "The unlimited lists are those of the rules above for every code but kind 0, unread ones too, with no limit on matches or strings; the complete
 -- AllMatches of a selection is that of its last code."
-use Prim.Native.Nat.{ℕ}
 use mathlib.Core.List.{List, flatMap}
 use Rattle.model.specs.declared.Filter.{Filter}
 use Rattle.model.specs.declared.Filter.the-variants.{Ordered, Window, Distance, SameSentence, SameParagraph, DifferentSentence, DifferentParagraph, AtStart, AtEnd, EntireContent}

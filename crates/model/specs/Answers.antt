@@ -14,11 +14,11 @@ use Rattle.model.specs.declared.Listing.the-variants.{Listed, Refused as
 use Rattle.model.specs.declared.Quick.{Quick}
 use Rattle.model.specs.declared.Quick.the-variants.{Answered, Refused as QuickRefused}
 use Rattle.model.specs.AllMatches.{allMatches}
-use Rattle.model.specs.Checks.{Refusal, refusal, otherwise, sectionRefusal, selectionRefusal, listingChecks, quickChecks}
+use Rattle.model.specs.Checks.{Refusal, refusal, otherwise, sectionRefusal, listingChecks, quickChecks}
 use Rattle.model.specs.Limits.{radix}
 use Rattle.model.specs.Matches.{Str, Match, hasFree, stringsIn, strings}
 use Rattle.model.specs.Section.{size, sectionOf}
-use Rattle.model.specs.Trees.{Tree, treeOf, parts}
+use Rattle.model.specs.Trees.{treeOf, parts}
 use Rattle.model.specs.Walk.{firstTooLong, walk}
 
 -- the place of a fault, or none
@@ -35,7 +35,7 @@ checkedOf none = Accepted
 abbrev pub completeList : List ℕ → List ℕ → List Match
 completeList section selection = allMatches (sectionOf section) (treeOf selection)
 
--- The full listing: refusals 1 to 8, then 9 at "the first such code built", which for the listing is the first of all its codes.
+-- The full listing: refusals 1 to 8, then 9 at "the first such code built". The listing builds every code but kind 0.
 unfoldable pub listingRefusal : List ℕ → List ℕ → ℕ → ℕ → Option Refusal
 listingRefusal section selection work buffer =
     let nine = Option·map (refusal 9) (firstTooLong (sectionOf section) (parts (treeOf selection))) in
@@ -92,7 +92,7 @@ quickAnswer section selection work =
     let walked = walk (sectionOf section) (treeOf selection) in
     walkUnless (quickChecks section selection work) walked
 
--- "The snippet. Section, from, to: the word numbers of those positions, as a part of the lent section. An empty part if the section isn't accepted
+-- The snippet: "Section, from, to: the word numbers of those positions, as a part of the lent section. An empty part if the section isn't accepted
 -- or 1 ≤ from ≤ to ≤ n fails."
 abbrev pub isAccepted : Option Refusal → Bool
 isAccepted (some r) = false
@@ -103,3 +103,16 @@ snippetOf section from to =
     cond (isAccepted (sectionRefusal section) && leb 1 from && leb from to && leb to (size section))
     (take (to + 1 - from) (drop from section))
     []
+
+-- What each case of an answer says, in document 01's numbers: a refusal's number and place; for what is given 0, and its values.
+abbrev pub checkedValues : Checked → List ℕ
+checkedValues Accepted = 0 ∷ []
+checkedValues (CheckedRefused number place) = number ∷ place ∷ []
+
+abbrev pub listingValues : Listing → List ℕ
+listingValues (Listed matches strs answer) = 0 ∷ matches ∷ strs ∷ cond answer 1 0 ∷ []
+listingValues (ListingRefused number place) = number ∷ place ∷ []
+
+abbrev pub quickValues : Quick → List ℕ
+quickValues (Answered answer codes) = 0 ∷ cond answer 1 0 ∷ codes ∷ []
+quickValues (QuickRefused number place) = number ∷ place ∷ []

@@ -1,10 +1,9 @@
--- "Refusals of the two calls": 1 to 8, "tried in this order, each over the whole input before the next".
+-- Refusals 1 to 8 of the two calls. "Tried in this order, each over the whole input before the next."
 use Prim.Native.Nat.{ℕ, _-_, _/_, _%_}
 use mathlib.Core.Bool.{Bool, true, false, not, _&&_, _||_, cond, xor}
 use mathlib.Core.List.{List, [], _∷_}
 use mathlib.Core.Option.{Option, some, none, Option·map}
 use lib.Dec.{leb, ltb, eqb}
-use Rattle.model.specs.declared.Pair.{Pair}
 use Rattle.model.specs.declared.Pair.the-variants.{Or, And, MildNot}
 use Rattle.model.specs.Limits.{maxTokens, maxCodes, maxWaiting, maxWindow, maxDistance, workLength, bufferLength, radix}
 use Rattle.model.specs.Lists.{any, first, range}
@@ -59,6 +58,7 @@ unfoldable pub unknownKind : List ℕ → Option ℕ
 unknownKind selection = first (λ c. leb 16 (kindAt selection c)) (range 1 (size selection))
 
 -- 5, first such code: "operand outside the table"
+-- "k, 1 to 8"; "N, 1 to 4,096"; "a × 65,536 + b, a ≤ b ≤ 4,095"; any word number; 0 for the rest
 unfoldable pub operandFits : ℕ → ℕ → Bool
 operandFits kind operand =
     cond (eqb kind 0) true
@@ -112,7 +112,7 @@ selectionRefusal =
 abbrev pub roomRefusal : Bool → Option Refusal
 roomRefusal enough = cond enough none (some (refusal 8 0))
 
--- "Section and selection pass the checks where no refusal other than 8 falls on them before any list is built."
+-- What falls on section and selection, other than 8, before any list is built.
 unfoldable pub inputRefusal : List ℕ → List ℕ → Option Refusal
 inputRefusal section selection = let later = selectionRefusal selection in otherwise (sectionRefusal section) later
 

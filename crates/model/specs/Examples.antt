@@ -1,17 +1,17 @@
--- Document 01's starred examples, "proved of the definitions jointly, as entries of one list checked by one fact". Each is put to the calls'
--- definitions as lent numbers, with everything that the paper says of it.
+-- Document 01's starred examples, and the one under `ftlist`, "proved of the definitions jointly, as entries of one list checked by one fact". Each is
+-- put to the calls' definitions as lent numbers, with everything that the paper says of it.
 use Prim.Native.Nat.{ℕ, _+_, _*_}
 use mathlib.Core.Path.{_≡_, refl}
 use mathlib.Core.Bool.{Bool, true, false, _&&_, Bool·beq, xor}
 use mathlib.Core.List.{List, [], _∷_, _++_, map, flatMap}
 use lib.Dec.{eqb}
-use lib.ListN.{length}
+use lib.ListN.{length, take, replicate}
 use Rattle.model.specs.declared.Listing.{Listing}
 use Rattle.model.specs.declared.Listing.the-variants.{Listed, Refused as ListingRefused}
 use Rattle.model.specs.declared.Quick.{Quick}
 use Rattle.model.specs.declared.Quick.the-variants.{Answered, Refused as QuickRefused}
 use Rattle.model.specs.AllMatches.{filterList, allMatches}
-use Rattle.model.specs.Answers.{completeList, listingRefusal, listingAnswer, quickAnswer}
+use Rattle.model.specs.Answers.{completeList, listingRefusal, listingAnswer, listingNumbers, listingBuffer, quickAnswer}
 use Rattle.model.specs.Checks.{tried, wrongSection, faultyAt, faultyPosition, wrongSelection, unknownKind, operandFits, wrongOperand, wrongShape, notUnderMildNot, sectionRefusal, selectionRefusal, inputRefusal, listingChecks, quickChecks}
 use Rattle.model.specs.Limits.{workLength, bufferLength, radix}
 use Rattle.model.specs.Lists.{all, any, isEmpty, keep, first, allPairs, neighbours, insert, sort, upFrom, range}
@@ -38,10 +38,10 @@ pub record Example : Type 0 where
 -- ---- do the definitions say so?
 
 eachSame : {A : Type 0} → (A → A → Bool) → List A → List A → Bool
-eachSame same [] [] = true
-eachSame same [] (y ∷ ys) = false
-eachSame same (x ∷ xs) [] = false
-eachSame same (x ∷ xs) (y ∷ ys) = same x y && eachSame same xs ys
+eachSame equal [] [] = true
+eachSame equal [] (y ∷ ys) = false
+eachSame equal (x ∷ xs) [] = false
+eachSame equal (x ∷ xs) (y ∷ ys) = equal x y && eachSame equal xs ys
 
 sameStr : Str → Str → Bool
 sameStr s t = eqb (s .start) (t .start) && eqb (s .end) (t .end) && eqb (s .query) (t .query) && Bool·beq (s .contiguous) (t .contiguous)
@@ -65,10 +65,14 @@ quickSays : Quick → Bool → Bool
 quickSays (Answered y n) b = Bool·beq y b
 quickSays (QuickRefused n c) b = false
 
+-- the listing buffer behind the call, which was all zeros before it
+buffered : List ℕ → List ℕ → List ℕ
+buffered section selection = listingBuffer section selection workLength (replicate bufferLength 0)
+
 holds : List ℕ → List ℕ → Claim → Bool
 holds section selection (hasMatches m) = countsMatches (listingAnswer section selection workLength bufferLength) m
 holds section selection (hasStrings s) = countsStrings (listingAnswer section selection workLength bufferLength) s
-holds section selection (lists ms) = eachSame sameMatch (completeList section selection) ms
+holds section selection (lists ms) = eachSame sameMatch (completeList section selection) ms && eachSame eqb (take (length (listingNumbers ms)) (buffered section selection)) (listingNumbers ms)
 holds section selection (answers b) =
     listingSays (listingAnswer section selection workLength bufferLength) b && quickSays (quickAnswer section selection workLength) b
 
@@ -84,7 +88,7 @@ inParagraph paragraph words sentences = length words ∷ (words ++ map (λ s. pa
 select : List ℕ → List ℕ → List ℕ
 select kinds operands = length kinds ∷ (kinds ++ operands)
 
--- +a-b q c: a match of one contiguous include; n: one that is not
+-- a match of one include: its contiguous mark, query position, start and end
 one : Bool → ℕ → ℕ → ℕ → Match
 one c q a b = record { includes = record { start = a; end = b; query = q; contiguous = c } ∷ []; excludes = [] }
 
@@ -92,8 +96,8 @@ one c q a b = record { includes = record { start = a; end = b; query = q; contig
 six : List ℕ
 six = inParagraph 1 (10 ∷ 20 ∷ 30 ∷ 10 ∷ 40 ∷ 20 ∷ []) (1 ∷ 1 ∷ 1 ∷ 2 ∷ 2 ∷ 2 ∷ [])
 
-none' : List ℕ
-none' = 0 ∷ []
+emptySection : List ℕ
+emptySection = 0 ∷ []
 
 -- "Words 1 2 3 4"
 four : List ℕ
@@ -121,9 +125,9 @@ entries =
     ∷ record { section = six; selection = select (0 ∷ 1 ∷ 0 ∷ 1 ∷ 3 ∷ 4 ∷ []) (10 ∷ 1 ∷ 20 ∷ 1 ∷ 0 ∷ 0 ∷ []); claims = hasMatches 16 ∷ hasStrings 64 ∷ answers false ∷ [] }
     -- "10 mild not the phrase 10 20: only 4-4."
     ∷ record { section = six; selection = select (0 ∷ 1 ∷ 0 ∷ 0 ∷ 1 ∷ 5 ∷ []) (10 ∷ 1 ∷ 10 ∷ 20 ∷ 2 ∷ 0 ∷ []); claims = lists (one true 1 4 4 ∷ []) ∷ [] }
-    -- "Empty section, not 10, entire content: yes; at start: no."
-    ∷ record { section = none'; selection = select (0 ∷ 1 ∷ 4 ∷ 15 ∷ []) (10 ∷ 1 ∷ 0 ∷ 0 ∷ []); claims = answers true ∷ [] }
-    ∷ record { section = none'; selection = select (0 ∷ 1 ∷ 4 ∷ 13 ∷ []) (10 ∷ 1 ∷ 0 ∷ 0 ∷ []); claims = answers false ∷ [] }
+    -- "Empty section, * not 10, entire content: yes; at start: no."
+    ∷ record { section = emptySection; selection = select (0 ∷ 1 ∷ 4 ∷ 15 ∷ []) (10 ∷ 1 ∷ 0 ∷ 0 ∷ []); claims = answers true ∷ [] }
+    ∷ record { section = emptySection; selection = select (0 ∷ 1 ∷ 4 ∷ 13 ∷ []) (10 ∷ 1 ∷ 0 ∷ 0 ∷ []); claims = answers false ∷ [] }
     -- "Words 1 2 3 4: ((1 and 3) window 3) and ((2 and 4) window 3), entire content: no."
     ∷ record {
       section = four;
@@ -139,9 +143,9 @@ entries =
     ∷ []
 
 pub examples-hold : all right entries ≡ true
-unfolding eachSame sameStr sameMatch countsMatches countsStrings listingSays quickSays holds right inParagraph select one six none' four entries
+unfolding eachSame sameStr sameMatch countsMatches countsStrings listingSays quickSays buffered holds right inParagraph select one six emptySection four entries
     xor all any isEmpty keep first allPairs neighbours insert sort upFrom range flatMap wellSized upTo codesOf breakFrom placeOf combine wrap read readAll last treeOf parts strings
     standFrom phraseList andList notList mildNotList ordered leastStart greatestEnd join windowEnds window distance inUnitOf same different atStart atEnd entireContent filterList allMatches
     tried wrongSection faultyAt faultyPosition wrongSelection unknownKind operandFits wrongOperand wrongShape notUnderMildNot sectionRefusal selectionRefusal inputRefusal listingChecks quickChecks
-    firstTooLong build walk listingRefusal listingAnswer quickAnswer
+    firstTooLong build walk listingRefusal listingAnswer listingNumbers listingBuffer quickAnswer
 examples-hold = refl

@@ -1,6 +1,6 @@
 -- "A string has a span (start, end), a query position and a contiguous mark. A match is a list of includes and a list of excludes."
 use Prim.Native.Nat.{ℕ, _+_}
-use mathlib.Core.Bool.{Bool, true, false, _||_}
+use mathlib.Core.Bool.{Bool, _||_}
 use mathlib.Core.List.{List, [], _∷_}
 use lib.Dec.{ltb}
 use lib.ListN.{length}
@@ -17,7 +17,7 @@ pub record Match : Type 0 where
   pub includes : List Str
   pub excludes : List Str
 
--- "yes exactly when a match has no exclude"
+-- "looks for a match without excludes": yes where there is one, also where it has no strings at all
 abbrev pub free : Match → Bool
 free m = isEmpty (m .excludes)
 

@@ -1,6 +1,6 @@
 -- "The lists", rule by rule in document 01's order. L is the left list, R the right. No rule knows a limit.
 use Prim.Native.Nat.{ℕ, _+_, _-_, min, max}
-use mathlib.Core.Bool.{Bool, true, false, not, _&&_, _||_, cond}
+use mathlib.Core.Bool.{Bool, true, not, _&&_, _||_, cond}
 use mathlib.Core.List.{List, [], _∷_, _++_, map, flatMap}
 use lib.Dec.{leb, ltb, eqb}
 use lib.ListN.{length}
@@ -8,7 +8,7 @@ use Rattle.model.specs.Lists.{all, any, keep, allPairs, neighbours, sort
 use Rattle.model.specs.Matches.{Str, Match}
 use Rattle.model.specs.Section.{Section}
 
--- Phrase: "one match per start where the k words stand in a row, ascending, holding one contiguous include. Its query position is its rank"
+-- Phrase: "one match per start where the k words stand in a row, ascending, holding one contiguous include. Its query position is its rank among the kind-1 codes, from 1."
 
 unfoldable pub standFrom : Section → List ℕ → ℕ → Bool
 standFrom s [] p = true
@@ -105,6 +105,7 @@ join (s ∷ ss) =
 -- Window: "for each match with includes and each W from (greatest end − N + 1) up to least start, one match: the join, and the excludes inside
 -- W to W + N − 1. W may be zero or negative. Equal copies are all listed. A match without includes is dropped."
 -- W to W + N − 1 is named here by its last position, W + N − 1, which is never negative: it runs from greatest end up to least start + N − 1.
+-- W ≤ start is last < start + N, and end ≤ W + N − 1 is end ≤ last.
 
 abbrev pub insideWindow : ℕ → ℕ → Str → Bool
 insideWindow n last e = ltb last (e .start + n) && leb (e .end) last
@@ -151,7 +152,7 @@ inUnit unit u s = not (eqb u 0) && eqb (unit (s .start)) u && eqb (unit (s .end)
 abbrev pub inOneUnit : (ℕ → ℕ) → Str → Bool
 inOneUnit unit s = inUnit unit (unit (s .start)) s
 
--- the unit that an exclude is held to, as a test
+-- the unit that every string is held to, as a test
 unfoldable pub inUnitOf : (ℕ → ℕ) → List Str → Str → Bool
 inUnitOf unit [] = inOneUnit unit
 inUnitOf unit (s ∷ ss) = inUnit unit (unit (s .start))

@@ -1,15 +1,15 @@
--- "Section and selection. Both are lent slices of u32: a size first, then two parallel arrays."
+-- Section and selection: "Both are lent slices of u32: a size first, then two parallel arrays."
 use Prim.Native.Nat.{ℕ, _+_, _*_, _/_, _%_}
 use mathlib.Core.Bool.{Bool, _&&_}
 use mathlib.Core.List.{List}
 use lib.Dec.{leb, eqb}
 use lib.ListN.{length, getD}
-use Rattle.model.specs.Limits.{maxTokens, radix}
+use Rattle.model.specs.Limits.{radix}
 
 abbrev pub size : List ℕ → ℕ
 size lent = getD lent 0 0
 
--- what the two arrays hold at a place, counted from 1
+-- what the two arrays hold at an index, counted from 1
 abbrev pub firstAt : List ℕ → ℕ → ℕ
 firstAt lent i = getD lent i 0
 

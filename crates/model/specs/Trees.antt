@@ -1,6 +1,5 @@
--- A selection that passes the checks, as a tree. A node knows its code's place; a phrase knows also its rank among the phrases and its words.
+-- A selection that keeps the waiting rule, as a tree. A node knows its code's place; a phrase knows also its rank among the phrases and its words.
 use Prim.Native.Nat.{ℕ, _+_}
-use mathlib.Core.Bool.{Bool, true, false, _||_}
 use mathlib.Core.List.{List, [], _∷_, _++_}
 use Rattle.model.specs.declared.Code.{Code}
 use Rattle.model.specs.declared.Code.the-variants.{Word, Phrase, Combine, Not, Filter as Filtered}
@@ -55,7 +54,7 @@ readAll (c ∷ cs) s = readAll cs (read c s)
 abbrev pub fresh : ℕ → ℕ → State
 fresh place rank = record { trees = []; words = []; place = place; rank = rank }
 
--- the last tree that waits. Of a selection that passes it is the only one; the other case never meets an accepted selection
+-- the last tree that waits. Of a selection that keeps the waiting rule it is the only one; the other case never meets such a selection
 unfoldable pub last : List Tree → Tree
 last [] = phrase 0 0 []
 last (t ∷ ts) = t

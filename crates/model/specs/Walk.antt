@@ -5,7 +5,6 @@ use mathlib.Core.List.{List, [], _∷_, _++_}
 use mathlib.Core.Option.{Option, some, none, Option·map}
 use lib.Dec.{leb}
 use lib.ListN.{length}
-use Rattle.model.specs.declared.Pair.{Pair}
 use Rattle.model.specs.declared.Pair.the-variants.{Or, And, MildNot}
 use Rattle.model.specs.declared.Quick.{Quick}
 use Rattle.model.specs.declared.Quick.the-variants.{Answered, Refused}
@@ -68,7 +67,7 @@ says s (pair And c t u) = says s t && says s u
 says s (pair MildNot c t u) = hasFree (allMatches s (pair MildNot c t u))
 says s (filter f c t) = hasFree (allMatches s (filter f c t))
 
--- .. the codes that it builds, in order ..
+-- .. the codes that it would build, were no list too long, in order ..
 unfoldable pub built : Section → Tree → List Tree
 built s (phrase c rank ws) = []
 built s (negation c t) = built s t
@@ -77,7 +76,7 @@ built s (pair And c t u) = built s t ++ cond (says s t) (built s u) []
 built s (pair MildNot c t u) = parts (pair MildNot c t u)
 built s (filter f c t) = parts (filter f c t)
 
--- .. and the codes that it walks or builds.
+-- .. and the codes that it would walk or build.
 unfoldable pub reached : Section → Tree → List Tree
 reached s (phrase c rank ws) = phrase c rank ws ∷ []
 reached s (negation c t) = reached s t ++ negation c t ∷ []

@@ -6,6 +6,10 @@ pub const MAX_TOKENS: u32 = 4096;
 pub const MAX_CODES: u32 = 64;
 // "Kind 0 needs p < 8", "Kind 1 needs p = k and w < 8": loose words and lists that may wait
 pub const MAX_WAITING: u32 = 8;
+// "N, 1 to 4,096"
+pub const MAX_WINDOW: u32 = 4096;
+// "a ≤ b ≤ 4,095"
+pub const MAX_DISTANCE: u32 = 4095;
 // "its list has over 256 matches or 512 strings"
 pub const MAX_MATCHES: u32 = 256;
 

@@ -35,8 +35,8 @@ fn operand_fits(kind: u32, operand: u32) -> bool
         0 => true,
         1 => is_within(1, operand, MAX_WAITING),
         2..=6 => operand == 0,
-        7 => is_within(1, operand, 4096),
-        8 => is_within(operand / RADIX, operand % RADIX, 4095),
+        7 => is_within(1, operand, MAX_WINDOW),
+        8 => is_within(operand / RADIX, operand % RADIX, MAX_DISTANCE),
         _ => operand == 0,
     }
 }

@@ -1,0 +1,268 @@
+//! The engine under test, and its comparison with the second engine.
+
+use crate::engine::{self, CodeList, Listing, Quick};
+use crate::gen::{self, Case, Rng};
+use crate::rules;
+use crate::section;
+use crate::shrink;
+use crate::sizes;
+use crate::{BUFFER, WORK};
+use std::sync::OnceLock;
+
+/// An engine that is to agree with document 01. Memory is lent as the paper says; a snippet is a part of the section.
+pub trait Engine {
+    fn listing(&self, section: &[u32], selection: &[u32], work: &mut [u32], buffer: &mut [u32]) -> Listing;
+    fn quick(&self, section: &[u32], selection: &[u32], work: &mut [u32]) -> Quick;
+    fn snippet<'a>(&self, section: &'a [u32], from: u32, to: u32) -> &'a [u32];
+}
+
+/// Compares an engine with the second engine on one case: the listing's result and place, its whole buffer, the quick
+/// answer with its count, the snippets; and holds the engine's answers to the unlimited lists. What the two calls must not
+/// touch (section, selection, memory beside the lent slices) is looked at, too. The error says what went wrong.
+pub fn compare(engine: &dyn Engine, case: &Case) -> Result<(), String> {
+    let listing = compare_listing(engine, case)?;
+    let quick = compare_quick(engine, case)?;
+    compare_with_unlimited(case, listing, quick)?;
+    compare_snippets(engine, case)
+}
+
+/// Compares an engine with the second engine on the first cases of a seed. The error names the first case that fails, and
+/// holds a test of it, made as small as it gets.
+pub fn hunt(engine: &dyn Engine, seed: u64, count: usize) -> Result<(), String> {
+    for (index, case) in gen::cases(seed, count).enumerate() {
+        if let Err(first) = compare(engine, &case) {
+            let small = shrink::shrink(&case, &|case| compare(engine, case).is_err());
+            let last = compare(engine, &small).expect_err("a shrunk case still fails");
+            let test = shrink::as_rust(&small, &format!("seed_{seed}_case_{index}"));
+            return Err(format!("seed {seed}, case {index}: {first}\nmade smaller: {last}\n\n{test}"));
+        }
+    }
+    Ok(())
+}
+
+fn compare_listing(engine: &dyn Engine, case: &Case) -> Result<Listing, String> {
+    let mut wanted_buffer = case.buffer.clone();
+    let wanted = engine::listing(&case.section, &case.selection, case.work_len, &mut wanted_buffer);
+
+    let inputs = Inputs::of(case);
+    let mut work = Lent::noise(case, 1);
+    let mut buffer = Lent::copy(&case.buffer);
+    let got = engine.listing(&inputs.section, &inputs.selection, work.slice(), buffer.slice());
+    if got != wanted {
+        return Err(format!("listing: {got:?}, but {wanted:?} is right"));
+    }
+    if let Some(at) = (0..wanted_buffer.len()).find(|&at| buffer.slice()[at] != wanted_buffer[at]) {
+        let (number, right) = (buffer.slice()[at], wanted_buffer[at]);
+        return Err(format!("listing: {got:?} is right, but buffer[{at}] is {number} where {right} is right"));
+    }
+    inputs.unchanged(case)?;
+    work.untouched_around("listing: working memory")?;
+    buffer.untouched_around("listing: buffer")?;
+    Ok(got)
+}
+
+fn compare_quick(engine: &dyn Engine, case: &Case) -> Result<Quick, String> {
+    let wanted = engine::quick(&case.section, &case.selection, case.work_len);
+
+    let inputs = Inputs::of(case);
+    let mut work = Lent::noise(case, 2);
+    let got = engine.quick(&inputs.section, &inputs.selection, work.slice());
+    if got != wanted {
+        return Err(format!("quick: {got:?}, but {wanted:?} is right"));
+    }
+    inputs.unchanged(case)?;
+    work.untouched_around("quick: working memory")?;
+    Ok(got)
+}
+
+/// What must hold of the two answers beside the second engine's own: "Demand 3 holds this call to the unlimited lists and
+/// to the listing".
+fn compare_with_unlimited(case: &Case, listing: Listing, quick: Quick) -> Result<(), String> {
+    let lists = engine::unlimited_lists_within(sizes::COMPARED, &case.section, &case.selection);
+    let Some(lists) = lists else { return Ok(()) };
+    let work_enough = case.work_len >= WORK;
+    let buffer_enough = case.buffer.len() >= BUFFER;
+    let last = lists.last().expect("a selection has a last code");
+
+    // The listing is given just where every list is within the limits; else the first that isn't is its place. A list
+    // whose size isn't known has a larger one below it, which comes before it.
+    let over = |code: &&CodeList| !code.size.is_some_and(|size| size.within(sizes::PAPER));
+    if work_enough && buffer_enough {
+        match (lists.iter().find(over), listing) {
+            (None, Listing::Listed { matches, strings, yes }) => {
+                let list = last.list.as_deref().expect("a list within the limits has been made");
+                let numbers = engine::encode(list);
+                if (matches, strings) != (numbers[0], numbers[1]) || yes != rules::is_yes(list) {
+                    return Err(format!("the listing {listing:?} is not that of the unlimited list"));
+                }
+            }
+            (Some(first), Listing::Refused { number: 9, place }) if place as usize == first.place => {}
+            (first, _) => {
+                let place = first.map(|first| first.place);
+                return Err(format!("listing {listing:?}, but the first list over the limits is at {place:?}"));
+            }
+        }
+    }
+
+    match quick {
+        Quick::Answered { yes, codes } => {
+            if let Some(list) = &last.list {
+                if yes != rules::is_yes(list) {
+                    return Err(format!("{quick:?} against the unlimited list"));
+                }
+            }
+            if let Listing::Listed { yes: listed, .. } = listing {
+                if yes != listed {
+                    return Err(format!("{quick:?} against {listing:?}"));
+                }
+            }
+            // "The selection's own count is that of all its codes but those of kind 0."
+            if codes < 1 || codes as usize > last.count {
+                return Err(format!("{quick:?}, but the selection has {} codes", last.count));
+            }
+        }
+        // "Limits on size hold only for lists built at or under kinds 5 to 15."
+        Quick::Refused { number: 9, place } => {
+            let refused = lists.iter().find(|code| code.place == place as usize);
+            if !refused.is_some_and(|code| code.measured && over(&code)) {
+                return Err(format!("{quick:?}, but the list there isn't measured or isn't over the limits"));
+            }
+        }
+        Quick::Refused { number, place } => {
+            if work_enough || (number, place) != (8, 0) {
+                return Err(format!("{quick:?}, though section and selection pass the checks"));
+            }
+        }
+    }
+    if let (Listing::Listed { .. }, Quick::Refused { .. }) = (listing, quick) {
+        return Err(format!("{quick:?} against {listing:?}"));
+    }
+    Ok(())
+}
+
+fn compare_snippets(engine: &dyn Engine, case: &Case) -> Result<(), String> {
+    let section = &case.section[..];
+    for (from, to) in snippet_bounds(section) {
+        let wanted = engine::snippet(section, from, to);
+        let got = engine.snippet(section, from, to);
+        if got != wanted {
+            return Err(format!("snippet {from} to {to}: {got:?}, but {wanted:?} is right"));
+        }
+        // "as a part of the lent section"
+        if !got.is_empty() && got.as_ptr() != wanted.as_ptr() {
+            return Err(format!("snippet {from} to {to}: equal words, but not a part of the lent section"));
+        }
+    }
+    Ok(())
+}
+
+/// Bounds on both sides of every edge.
+fn snippet_bounds(section: &[u32]) -> Vec<(u32, u32)> {
+    let n = section::read(section).map_or(section.len() as u32 / 2, |accepted| accepted.n());
+    let (middle, most) = (n / 2, u32::MAX);
+    vec![
+        (1, n),
+        (0, n),
+        (1, n.saturating_add(1)),
+        (1, 1),
+        (n, n),
+        (n.saturating_add(1), n.saturating_add(1)),
+        (middle, middle.saturating_add(1)),
+        (middle.saturating_add(1), middle),
+        (middle, n),
+        (0, 0),
+        (1, 0),
+        (1, most),
+        (most, most),
+        (most, 1),
+        (1 << 31, (1 << 31) + 1),
+    ]
+}
+
+/// Copies of what is lent to be read, to see that it is only read.
+struct Inputs {
+    section: Vec<u32>,
+    selection: Vec<u32>,
+}
+
+impl Inputs {
+    fn of(case: &Case) -> Inputs {
+        Inputs { section: case.section.clone(), selection: case.selection.clone() }
+    }
+
+    fn unchanged(&self, case: &Case) -> Result<(), String> {
+        if self.section != case.section || self.selection != case.selection {
+            return Err("the section or the selection was written on".to_string());
+        }
+        Ok(())
+    }
+}
+
+/// How many numbers stand watch on either side of a lent slice.
+const WATCH: usize = 64;
+const WATCHWORD: u32 = 0xA5C3_96E1;
+
+/// A slice to be lent, with numbers on both sides that must stay.
+struct Lent {
+    numbers: Vec<u32>,
+}
+
+impl Lent {
+    fn copy(content: &[u32]) -> Lent {
+        Lent { numbers: [&[WATCHWORD; WATCH], content, &[WATCHWORD; WATCH]].concat() }
+    }
+
+    /// Working memory that starts holding anything: a row of some fixed noise, from another place for each case.
+    fn noise(case: &Case, salt: usize) -> Lent {
+        static NOISE: OnceLock<Vec<u32>> = OnceLock::new();
+        let noise = NOISE.get_or_init(|| {
+            let mut rng = Rng::new(0, 0);
+            (0..2 * WORK).map(|_| rng.number()).collect()
+        });
+        let start = (case.section.len() + 31 * case.selection.len() + 997 * salt) % WORK;
+        let row: Vec<u32> = noise[start..].iter().cycle().take(case.work_len).copied().collect();
+        Lent::copy(&row)
+    }
+
+    fn slice(&mut self) -> &mut [u32] {
+        let end = self.numbers.len() - WATCH;
+        &mut self.numbers[WATCH..end]
+    }
+
+    fn untouched_around(&self, name: &str) -> Result<(), String> {
+        let end = self.numbers.len() - WATCH;
+        let around = self.numbers[..WATCH].iter().chain(&self.numbers[end..]);
+        if around.into_iter().all(|number| *number == WATCHWORD) {
+            Ok(())
+        } else {
+            Err(format!("{name}: written outside of it"))
+        }
+    }
+}
+
+#[cfg(test)]
+mod tests {
+    use super::*;
+
+    #[test]
+    fn what_is_written_beside_lent_memory_is_seen() {
+        let mut lent = Lent::copy(&[1, 2, 3]);
+        assert_eq!(lent.slice(), [1, 2, 3]);
+        lent.slice().fill(9);
+        assert!(lent.untouched_around("lent").is_ok());
+        for at in [0, WATCH - 1, WATCH + 3, 2 * WATCH + 2] {
+            let mut lent = Lent::copy(&[1, 2, 3]);
+            lent.numbers[at] = 0;
+            assert!(lent.untouched_around("lent").is_err());
+        }
+    }
+
+    #[test]
+    fn what_is_written_on_the_inputs_is_seen() {
+        let case = gen::case(1, 1);
+        let mut inputs = Inputs::of(&case);
+        assert!(inputs.unchanged(&case).is_ok());
+        inputs.selection[0] += 1;
+        assert!(inputs.unchanged(&case).is_err());
+    }
+}

@@ -1,0 +1,848 @@
+//! Seeded random cases.
+//!
+//! A case depends on its seed and its index alone, so any case can be made again. Sections are small and their
+//! vocabularies smaller, so that finds are many. Selections grow code by code while their lists are looked at: a step that
+//! empties a list, or takes it over the limits, is mostly tried again, so that most cases end with something in their list.
+//! The lists serve only this choice; what is right is said by the comparison.
+
+use crate::engine::RuleBook;
+use crate::rules::{self, AllMatches, Match};
+use crate::section::{Section, MOST_TOKENS};
+use crate::selection::{self, Code, Filter, Rule, Unit, MOST_CODES, MOST_WAITING, MOST_WORDS};
+use crate::sizes::{self, Size};
+use crate::{text, BUFFER, WORK};
+
+/// One call of everything: what is lent to it. The working memory is given by its length, the buffer with its noise.
+#[derive(Clone, Debug, PartialEq, Eq)]
+pub struct Case {
+    pub section: Vec<u32>,
+    pub selection: Vec<u32>,
+    pub work_len: usize,
+    pub buffer: Vec<u32>,
+}
+
+/// The first cases of a seed.
+pub fn cases(seed: u64, count: usize) -> impl Iterator<Item = Case> {
+    (0..count).map(move |index| case(seed, index))
+}
+
+/// One case of a seed.
+pub fn case(seed: u64, index: usize) -> Case {
+    let mut rng = Rng::new(seed, index as u64);
+    let mut made = match rng.below(100) {
+        0..=44 => small(&mut rng),
+        45..=59 => long(&mut rng),
+        60..=71 => near_limits(&mut rng),
+        72..=75 => large(&mut rng),
+        _ => {
+            let mut made = match rng.below(10) {
+                0 => near_limits(&mut rng),
+                1..=3 => long(&mut rng),
+                _ => small(&mut rng),
+            };
+            damage(&mut rng, &mut made);
+            if rng.chance(1, 4) {
+                damage(&mut rng, &mut made);
+            }
+            made
+        }
+    };
+    lend(&mut rng, &mut made);
+    made
+}
+
+/// Inputs of the program: cases as bytes, some of them cut, grown or odd.
+pub fn inputs(seed: u64, count: usize) -> impl Iterator<Item = Vec<u8>> {
+    (0..count).map(move |index| {
+        let case = case(seed, index);
+        let mut bytes = text::bytes(&case.section, &case.selection);
+        let mut rng = Rng::new(!seed, index as u64);
+        match rng.below(20) {
+            0 => bytes.truncate(rng.below(bytes.len() + 1)),
+            1 => bytes.truncate(rng.below(bytes.len() / 4 + 1) * 4),
+            2 => bytes.extend(vec![0; 1 + rng.below(9)]),
+            3 => bytes.resize(text::MOST_BYTES - 4 + rng.below(9), 0),
+            _ => {}
+        }
+        bytes
+    })
+}
+
+/// Marsaglia's xorshift, 64 bits, with a multiplication at the end.
+pub struct Rng(u64);
+
+impl Rng {
+    pub fn new(seed: u64, index: u64) -> Rng {
+        // neighbouring seeds and indexes are to begin far from each other, and none at zero
+        let mut z = seed ^ index.wrapping_mul(0x9E37_79B9_7F4A_7C15).rotate_left(17);
+        z = (z ^ (z >> 30)).wrapping_mul(0xBF58_476D_1CE4_E5B9);
+        z = (z ^ (z >> 27)).wrapping_mul(0x94D0_49BB_1331_11EB);
+        Rng((z ^ (z >> 31)) | 1)
+    }
+
+    fn step(&mut self) -> u64 {
+        self.0 ^= self.0 >> 12;
+        self.0 ^= self.0 << 25;
+        self.0 ^= self.0 >> 27;
+        self.0.wrapping_mul(0x2545_F491_4F6C_DD1D)
+    }
+
+    pub fn number(&mut self) -> u32 {
+        (self.step() >> 32) as u32
+    }
+
+    /// From 0 up to below `end`, which isn't 0.
+    pub fn below(&mut self, end: usize) -> usize {
+        ((u64::from(self.number()) * end as u64) >> 32) as usize
+    }
+
+    /// From `least` to `most`, both among them.
+    pub fn from_to(&mut self, least: usize, most: usize) -> usize {
+        least + self.below(most - least + 1)
+    }
+
+    pub fn chance(&mut self, times: usize, out_of: usize) -> bool {
+        self.below(out_of) < times
+    }
+
+    pub fn pick<T: Copy>(&mut self, from: &[T]) -> T {
+        from[self.below(from.len())]
+    }
+
+    fn shuffle<T>(&mut self, list: &mut [T]) {
+        for last in (1..list.len()).rev() {
+            list.swap(last, self.below(last + 1));
+        }
+    }
+}
+
+// Sections
+
+/// One to four words, mostly small numbers, else some that differ only in their higher bits.
+fn vocabulary(rng: &mut Rng) -> Vec<u32> {
+    let size = rng.from_to(1, 4);
+    let mut words =
+        if rng.chance(4, 5) { vec![1, 2, 3, 4] } else { vec![0, 1, 1 + (1 << 16), 1 + (1 << 31), u32::MAX, 1 << 16] };
+    rng.shuffle(&mut words);
+    words.truncate(size);
+    words
+}
+
+/// n sentence or paragraph numbers: all zero, or nonzero and never falling.
+fn units(rng: &mut Rng, n: usize) -> Vec<u32> {
+    if rng.chance(1, 6) {
+        return vec![0; n];
+    }
+    let rises = rng.pick(&[0, 1, 2, 4, 5, 8]);
+    let mut unit: u32 = if rng.chance(9, 10) { 1 } else { rng.pick(&[2, 255, 256, 32_768, 65_530, 65_535]) };
+    let mut list = vec![];
+    for _ in 0..n {
+        list.push(unit);
+        if rng.chance(rises, 8) {
+            let step = if rng.chance(9, 10) { 1 } else { rng.pick(&[2, 256, 4_096]) };
+            unit = (unit + step).min(65_535);
+        }
+    }
+    list
+}
+
+fn section_of(rng: &mut Rng, words: Vec<u32>) -> Section {
+    let n = words.len();
+    Section { sentences: units(rng, n), paragraphs: units(rng, n), words }
+}
+
+fn small_section(rng: &mut Rng) -> Section {
+    let vocabulary = vocabulary(rng);
+    let n = match rng.below(20) {
+        0 => 0,
+        1 | 2 => 1,
+        3..=5 => rng.from_to(2, 3),
+        6 => rng.from_to(13, 24),
+        _ => rng.from_to(4, 12),
+    };
+    let words = (0..n).map(|_| rng.pick(&vocabulary)).collect();
+    section_of(rng, words)
+}
+
+/// A word that phrases seldom ask for.
+const FILLER: u32 = 77;
+
+/// Up to 4,096 tokens, with few or with many finds.
+fn large_section(rng: &mut Rng) -> Section {
+    let vocabulary = vocabulary(rng);
+    let n = match rng.below(4) {
+        0 => MOST_TOKENS - rng.below(2),
+        1 => rng.from_to(240, 300),
+        _ => rng.from_to(25, MOST_TOKENS),
+    };
+    let finds = rng.pick(&[3, 8, 20, 100, n]);
+    let words = (0..n).map(|_| if rng.chance(finds.min(n), n) { rng.pick(&vocabulary) } else { FILLER }).collect();
+    section_of(rng, words)
+}
+
+/// A section in which word 1 stands `counts[0]` times, word 2 `counts[1]` times, and so on.
+fn section_with_counts(rng: &mut Rng, counts: &[usize]) -> Section {
+    let mut words = vec![];
+    for (count, word) in counts.iter().zip(1..) {
+        words.extend(vec![word; *count]);
+    }
+    words.extend(vec![9; rng.below(4)]);
+    if rng.chance(1, 2) {
+        rng.shuffle(&mut words);
+    }
+    section_of(rng, words)
+}
+
+// Selections
+
+/// A list that waits, as far as it is known.
+struct Waiting {
+    has_not: bool,
+    list: Option<AllMatches>,
+}
+
+/// A selection in the making, over a section.
+struct Builder<'a> {
+    section: &'a Section,
+    codes: Vec<Code>,
+    waiting: Vec<Waiting>,
+    phrases: u32,
+    /// A position at which many phrases start.
+    anchor: usize,
+    book: RuleBook,
+}
+
+impl<'a> Builder<'a> {
+    fn new(section: &'a Section) -> Builder<'a> {
+        let anchor = section.words.len() / 3;
+        Builder { section, codes: vec![], waiting: vec![], phrases: 0, anchor, book: RuleBook::paper() }
+    }
+
+    /// Would there be room for the rule and for the codes that must still combine what waits?
+    fn fits(&self, rule: &Rule) -> bool {
+        let waiting = self.waiting.len();
+        if waiting < rule.sides() || waiting - rule.sides() + 1 > MOST_WAITING {
+            return false;
+        }
+        let combines = waiting - rule.sides();
+        self.codes.len() + rule.codes().len() + combines <= MOST_CODES
+    }
+
+    /// What would wait after the rule.
+    fn outcome(&self, rule: &Rule) -> Waiting {
+        let sides = &self.waiting[self.waiting.len() - rule.sides()..];
+        let below: Option<Vec<&[Match]>> = sides.iter().map(|side| side.list.as_deref()).collect();
+        let list = below.and_then(|below| self.book.list_within(sizes::PAPER, self.section, rule, &below).ok());
+        Waiting { has_not: *rule == Rule::Not || sides.iter().any(|side| side.has_not), list }
+    }
+
+    fn add(&mut self, rule: &Rule, outcome: Waiting) {
+        self.waiting.truncate(self.waiting.len() - rule.sides());
+        self.waiting.push(outcome);
+        self.codes.extend(rule.codes());
+        if let Rule::Phrase { .. } = rule {
+            self.phrases += 1;
+        }
+    }
+
+    /// Adds a rule whatever comes of it, if there is room for it.
+    fn force(&mut self, rule: Rule) {
+        if self.fits(&rule) {
+            let outcome = self.outcome(&rule);
+            self.add(&rule, outcome);
+        }
+    }
+
+    fn phrase(&mut self, words: &[u32]) {
+        self.force(Rule::Phrase { words: words.to_vec(), query: self.phrases + 1 });
+    }
+
+    fn word(&mut self, word: u32) {
+        self.phrase(&[word]);
+    }
+
+    /// A mild not may not stand over a not.
+    fn allowed(&self, rule: &Rule) -> bool {
+        let sides = &self.waiting[self.waiting.len().saturating_sub(2)..];
+        self.fits(rule) && !(*rule == Rule::MildNot && sides.iter().any(|side| side.has_not))
+    }
+
+    /// Tries random rules until one is good enough.
+    fn step(&mut self, rng: &mut Rng, taste: &Taste) {
+        for _ in 0..20 {
+            let rule = self.random_rule(rng, taste);
+            if !self.allowed(&rule) {
+                continue;
+            }
+            let outcome = self.outcome(&rule);
+            let good = match &outcome.list {
+                None if self.waiting.iter().any(|side| side.list.is_none()) => true,
+                None => rng.chance(1, 30),
+                Some(list) if list.is_empty() => {
+                    let often = rule == Rule::Filter(Filter::EntireContent);
+                    rng.chance(if often { 5 } else { 1 }, 8)
+                }
+                Some(list) => list.len() <= 40 || rng.chance(1, 3),
+            };
+            if good {
+                self.add(&rule, outcome);
+                return;
+            }
+        }
+    }
+
+    fn random_rule(&self, rng: &mut Rng, taste: &Taste) -> Rule {
+        let roll = rng.below(taste.phrases + taste.combinations + taste.nots + taste.filters);
+        if self.waiting.is_empty() || roll < taste.phrases {
+            Rule::Phrase { words: self.random_words(rng), query: self.phrases + 1 }
+        } else if roll < taste.phrases + taste.combinations {
+            rng.pick(&[&Rule::Or, &Rule::And, &Rule::And, &Rule::MildNot]).clone()
+        } else if roll < taste.phrases + taste.combinations + taste.nots {
+            Rule::Not
+        } else {
+            Rule::Filter(self.random_filter(rng))
+        }
+    }
+
+    /// Mostly one word or a row of the section.
+    fn random_words(&self, rng: &mut Rng) -> Vec<u32> {
+        let words = &self.section.words;
+        let length = rng.pick(&[1, 1, 1, 1, 1, 1, 2, 2, 3, 8]).min(rng.from_to(1, MOST_WORDS));
+        if rng.chance(1, 12) || words.is_empty() {
+            let any = [0, 1, 2, 3, 4, 99, 1 + (1 << 16), u32::MAX];
+            return (0..length).map(|_| rng.pick(&any)).collect();
+        }
+        if rng.chance(1, 12) {
+            return (0..length).map(|_| rng.pick(words)).collect();
+        }
+        let mut start = if rng.chance(1, 3) { self.anchor } else { rng.below(words.len()) };
+        for _ in 0..20 {
+            if words[start] == FILLER {
+                start = rng.below(words.len());
+            }
+        }
+        words[start..words.len().min(start + length)].to_vec()
+    }
+
+    fn random_filter(&self, rng: &mut Rng) -> Filter {
+        let n = self.section.words.len();
+        let top = self.waiting.last().and_then(|top| top.list.as_deref()).unwrap_or(&[]);
+        if top.iter().any(|m| m.includes.len() >= 2) && rng.chance(1, 4) {
+            // only such a match can pass
+            return Filter::Different(rng.pick(&[Unit::Sentence, Unit::Paragraph]));
+        }
+        let whole = |m: &Match| m.includes.iter().any(|s| s.start == 1 && s.end as usize == n);
+        if n > 1 && top.iter().any(whole) && rng.chance(1, 4) {
+            return Filter::EntireContent;
+        }
+        let tight = if top.is_empty() { None } else { Some(&top[rng.below(top.len())]) };
+        match rng.below(14) {
+            0 | 1 => Filter::Ordered,
+            2..=4 => {
+                let size = match (rng.below(8), tight.and_then(|m| rules::join(&m.includes))) {
+                    // just wide enough for one match
+                    (2 | 3, Some(joined)) => (joined.end - joined.start) as usize + rng.from_to(1, 2),
+                    (0, _) => rng.pick(&[1, 2, 16, 17, 128, 255, 256, 257, 4_095, 4_096]),
+                    (1, _) => rng.from_to(1, 4_096),
+                    _ => rng.from_to(1, n.clamp(1, 20) + 2),
+                };
+                Filter::Window(size.min(4_096) as u32)
+            }
+            5..=7 => {
+                let (a, b) = match (rng.below(8), tight) {
+                    // just wide enough for one match
+                    (2 | 3, Some(m)) => {
+                        let mut sorted = m.includes.clone();
+                        sorted.sort();
+                        let gaps = sorted.windows(2).map(|pair| rules::span_distance(&pair[0], &pair[1]) as usize);
+                        let (least, most) = (gaps.clone().min().unwrap_or(0), gaps.max().unwrap_or(0));
+                        (least, most)
+                    }
+                    (0, _) => rng.pick(&[(0, 0), (0, 4_095), (4_095, 4_095), (1, 4_095), (2, 2), (1, 1)]),
+                    (1, _) => {
+                        let a = rng.from_to(0, n);
+                        (a.min(4_095), rng.from_to(a, a + n).min(4_095))
+                    }
+                    _ => {
+                        let a = rng.from_to(0, 3);
+                        (a, a + rng.below(5))
+                    }
+                };
+                Filter::Distance(a as u32, b as u32)
+            }
+            8 | 9 => Filter::Same(rng.pick(&[Unit::Sentence, Unit::Paragraph])),
+            10 | 11 => Filter::Different(rng.pick(&[Unit::Sentence, Unit::Paragraph])),
+            12 => rng.pick(&[Filter::AtStart, Filter::AtEnd]),
+            _ => rng.pick(&[Filter::AtStart, Filter::AtEnd, Filter::EntireContent, Filter::EntireContent]),
+        }
+    }
+
+    /// Takes steps until there are about so many codes, then combines all that waits.
+    fn grow(&mut self, rng: &mut Rng, taste: &Taste, codes: usize) {
+        for _ in 0..codes {
+            if self.codes.len() < codes {
+                self.step(rng, taste);
+            }
+        }
+        while self.waiting.len() != 1 {
+            let combine = Taste { phrases: 0, combinations: 1, nots: 0, filters: 0 };
+            let waiting = self.waiting.len();
+            self.step(rng, &combine);
+            if self.waiting.len() == waiting {
+                self.force(if rng.chance(1, 2) { Rule::Or } else { Rule::And });
+            }
+        }
+    }
+
+    fn selection(&self) -> Vec<u32> {
+        selection::numbers(&self.codes)
+    }
+}
+
+/// How often which sort of code is tried.
+struct Taste {
+    phrases: usize,
+    combinations: usize,
+    nots: usize,
+    filters: usize,
+}
+
+impl Taste {
+    fn any(rng: &mut Rng) -> Taste {
+        match rng.below(5) {
+            // many waiting lists
+            0 => Taste { phrases: 6, combinations: 3, nots: 1, filters: 2 },
+            // nots and filters in turn
+            1 => Taste { phrases: 2, combinations: 3, nots: 3, filters: 5 },
+            // no nots, so that mild nots can stand anywhere
+            2 => Taste { phrases: 4, combinations: 5, nots: 0, filters: 4 },
+            _ => Taste { phrases: 3, combinations: 3, nots: 2, filters: 3 },
+        }
+    }
+}
+
+fn case_of(section: &Section, selection: Vec<u32>) -> Case {
+    Case { section: section.numbers(), selection, work_len: WORK, buffer: vec![0; BUFFER] }
+}
+
+/// A small section, a short selection.
+fn small(rng: &mut Rng) -> Case {
+    let section = small_section(rng);
+    let taste = Taste::any(rng);
+    let mut builder = Builder::new(&section);
+    let codes = rng.from_to(1, 14);
+    builder.grow(rng, &taste, codes);
+    case_of(&section, builder.selection())
+}
+
+/// A small section, a selection of up to 64 codes, often with eight waiting lists.
+fn long(rng: &mut Rng) -> Case {
+    let section = small_section(rng);
+    let taste = Taste::any(rng);
+    let mut builder = Builder::new(&section);
+    if rng.chance(1, 3) {
+        for _ in 0..MOST_WAITING {
+            let words = builder.random_words(rng);
+            builder.phrase(&words);
+        }
+    }
+    let codes = rng.pick(&[20, 30, 40, 64, 64]);
+    builder.grow(rng, &taste, codes);
+    case_of(&section, builder.selection())
+}
+
+/// A large section, a short selection.
+fn large(rng: &mut Rng) -> Case {
+    let section = large_section(rng);
+    let taste = Taste::any(rng);
+    let mut builder = Builder::new(&section);
+    let codes = rng.from_to(1, 12);
+    builder.grow(rng, &taste, codes);
+    case_of(&section, builder.selection())
+}
+
+/// A few numbers whose product is near the target, from below or from above.
+fn factors(rng: &mut Rng, how_many: usize, target: usize) -> Vec<usize> {
+    let mut left = target + 3 - rng.below(7).min(target);
+    let mut list = vec![];
+    for _ in 1..how_many {
+        let dividing: Vec<usize> = (1..=left).filter(|factor| left.is_multiple_of(*factor)).collect();
+        let factor = rng.pick(&dividing);
+        list.push(factor);
+        left /= factor;
+    }
+    list.push(left);
+    list
+}
+
+/// Lists with about 256 matches or 512 strings, made by each rule that can make them; with something above them or not.
+fn near_limits(rng: &mut Rng) -> Case {
+    let template = rng.below(9);
+    let (counts, script) = template_of(rng, template);
+    let section = section_with_counts(rng, &counts);
+    let mut builder = Builder::new(&section);
+    script(&mut builder, counts.len());
+    if rng.chance(1, 4) || template == 8 {
+        tight_window(rng, &mut builder);
+    }
+    if rng.chance(1, 2) {
+        let taste = Taste::any(rng);
+        let codes = builder.codes.len() + rng.from_to(1, 6);
+        builder.grow(rng, &taste, codes);
+    }
+    case_of(&section, builder.selection())
+}
+
+type Script = fn(&mut Builder, usize);
+
+/// The counts of words 1, 2, 3 and so on, and how the selection over them begins.
+fn template_of(rng: &mut Rng, template: usize) -> (Vec<usize>, Script) {
+    let several = rng.from_to(2, 4);
+    match template {
+        // a long phrase list
+        0 => (vec![rng.pick(&[255, 256, 257, 300])], |builder, _| builder.word(1)),
+        // words joined by and: the product of the counts, as many strings each
+        1 => {
+            let target = 512 / several;
+            (factors(rng, several, target), |builder, words| {
+                builder.word(1);
+                for word in 2..=words {
+                    builder.word(word as u32);
+                    builder.force(Rule::And);
+                }
+            })
+        }
+        // words joined by or: the sum of the counts
+        2 => {
+            let first = rng.from_to(1, 250);
+            (vec![first, 256 - first + rng.below(4) - 1], |builder, _| {
+                builder.word(1);
+                builder.word(2);
+                builder.force(Rule::Or);
+            })
+        }
+        // an and beside a word: strings and matches in no fixed proportion
+        3 => {
+            let product = factors(rng, 2, 130);
+            let rest = 256 - (product[0] * product[1]).min(250);
+            (vec![product[0], product[1], rest + rng.below(4) - 2], |builder, _| {
+                builder.word(3);
+                builder.word(1);
+                builder.word(2);
+                builder.force(Rule::And);
+                builder.force(Rule::Or);
+            })
+        }
+        // the not of an or of nots: the product of the counts again
+        4 => {
+            let target = 512 / several;
+            (factors(rng, several, target), |builder, words| {
+                builder.word(1);
+                builder.force(Rule::Not);
+                for word in 2..=words {
+                    builder.word(word as u32);
+                    builder.force(Rule::Not);
+                    builder.force(Rule::Or);
+                }
+                builder.force(Rule::Not);
+            })
+        }
+        // the not of an and beside a word: 2 to the product, and 512 strings exactly where the rest is right
+        5 => {
+            let pairs = rng.from_to(1, 6);
+            let rest = (512 >> pairs) - pairs;
+            (vec![1, pairs, (rest + rng.below(3)).saturating_sub(1)], |builder, _| {
+                builder.word(1);
+                builder.word(2);
+                builder.force(Rule::And);
+                builder.word(3);
+                builder.force(Rule::Or);
+                builder.force(Rule::Not);
+            })
+        }
+        // an astronomical not, with or without a match that has no strings, behind the others or ahead
+        6 => {
+            let stringless = rng.below(2);
+            let counts = vec![rng.from_to(2, 16), rng.from_to(2, 15), stringless];
+            let behind: Script = |builder, _| {
+                builder.word(1);
+                builder.word(2);
+                builder.force(Rule::And);
+                builder.word(3);
+                builder.force(Rule::Not);
+                builder.force(Rule::Or);
+                builder.force(Rule::Not);
+            };
+            let ahead: Script = |builder, _| {
+                builder.word(3);
+                builder.force(Rule::Not);
+                builder.word(1);
+                builder.word(2);
+                builder.force(Rule::And);
+                builder.force(Rule::Or);
+                builder.force(Rule::Not);
+            };
+            (counts, if rng.chance(1, 2) { behind } else { ahead })
+        }
+        // one match of about 512 strings, from nots
+        7 => {
+            let first = rng.pick(&[200, 255, 256, 257]);
+            let rest = 512 - first.min(256) + rng.below(3) - 1;
+            (vec![first, rest / 2, rest - rest / 2], |builder, _| {
+                for word in 1..=3 {
+                    builder.word(word);
+                    builder.force(Rule::Not);
+                }
+                builder.force(Rule::And);
+                builder.force(Rule::And);
+            })
+        }
+        // something under a window, whose size is then found
+        _ => (vec![rng.from_to(1, 4), rng.from_to(0, 3), rng.from_to(0, 3)], |builder, _| {
+            builder.word(1);
+            builder.word(2);
+            builder.force(Rule::Not);
+            builder.force(Rule::And);
+            builder.word(3);
+            builder.force(Rule::Or);
+        }),
+    }
+}
+
+/// The largest window that stays within the limits, or one beside it.
+fn tight_window(rng: &mut Rng, builder: &mut Builder) {
+    let Some(Waiting { list: Some(list), .. }) = builder.waiting.last() else { return };
+    let size = |window| -> Size { sizes::window(list, window) };
+    let (mut inside, mut outside) = (1, 4_096);
+    if !size(inside).within(sizes::PAPER) || size(outside).within(sizes::PAPER) {
+        return;
+    }
+    while outside - inside > 1 {
+        let middle = (inside + outside) / 2;
+        if size(middle).within(sizes::PAPER) {
+            inside = middle;
+        } else {
+            outside = middle;
+        }
+    }
+    let window = if rng.chance(1, 2) { inside } else { outside };
+    builder.force(Rule::Filter(Filter::Window(window)));
+}
+
+// Damage
+
+/// Breaks one thing. (Now and then nothing is broken by it: the comparison doesn't mind.)
+fn damage(rng: &mut Rng, case: &mut Case) {
+    match rng.below(12) {
+        0 => damage_section_size(rng, &mut case.section),
+        1 | 2 => damage_units(rng, &mut case.section),
+        3 => damage_selection_size(rng, &mut case.selection),
+        4 | 5 => damage_code(rng, &mut case.selection, wrong_kind),
+        6 | 7 => damage_code(rng, &mut case.selection, wrong_operand),
+        8 | 9 => damage_shape(rng, &mut case.selection),
+        10 => damage_mild_not(rng, case),
+        _ => {
+            case.work_len = rng.pick(&[WORK - 1, 0, 1, WORK / 2]);
+            if rng.chance(1, 2) {
+                case.buffer.truncate(rng.pick(&[BUFFER - 1, 0, 1, 2]));
+            }
+        }
+    }
+}
+
+/// Refusals 1 and 3 are about a size and a length alike: both are wrong in the same ways.
+fn damage_size(rng: &mut Rng, numbers: &mut Vec<u32>) {
+    let size = numbers.first().copied().unwrap_or(0);
+    match rng.below(8) {
+        0 => numbers.clear(),
+        1 => drop(numbers.pop()),
+        2 => numbers.push(0),
+        3 => numbers.extend([0, 0]),
+        4 => numbers.truncate(numbers.len().saturating_sub(2)),
+        _ => {
+            let sizes =
+                [0, size.wrapping_sub(1), size.wrapping_add(1), u32::MAX, size ^ (1 << 31), size ^ (1 << 30), 1 << 31];
+            if let Some(first) = numbers.first_mut() {
+                *first = rng.pick(&sizes);
+            }
+        }
+    }
+}
+
+fn damage_section_size(rng: &mut Rng, section: &mut Vec<u32>) {
+    if rng.chance(1, 8) {
+        // n = 4,097 or more, with its length
+        let n = MOST_TOKENS + rng.from_to(0, 2);
+        let words = vec![1; n];
+        *section = Section { sentences: vec![0; n], paragraphs: vec![0; n], words }.numbers();
+    } else {
+        damage_size(rng, section);
+    }
+}
+
+fn damage_selection_size(rng: &mut Rng, selection: &mut Vec<u32>) {
+    if rng.chance(1, 6) {
+        // m = 64, 65 or 66, with its length
+        let mut codes = codes_of(selection);
+        codes.resize(MOST_CODES + rng.below(3), Code { kind: rng.pick(&[4, 6, 9]), operand: 0 });
+        *selection = selection::numbers(&codes);
+    } else {
+        damage_size(rng, selection);
+    }
+}
+
+/// Refusal 2: a sentence or a paragraph number that falls, or that is zero where others aren't.
+fn damage_units(rng: &mut Rng, section: &mut [u32]) {
+    let Some(&n) = section.first() else { return };
+    let n = n as usize;
+    if n == 0 || section.len() != 1 + 2 * n {
+        return;
+    }
+    for _ in 0..rng.pick(&[1, 1, 1, 2, 3]) {
+        let place = &mut section[1 + n + rng.below(n)];
+        let (mut paragraph, mut sentence) = (*place >> 16, *place & 0xFFFF);
+        let unit = if rng.chance(1, 2) { &mut paragraph } else { &mut sentence };
+        *unit = match rng.below(4) {
+            0 | 1 => 0,
+            2 => unit.saturating_sub(1),
+            _ => rng.pick(&[1, 2, 3, *unit + 1, 65_535]).min(65_535),
+        };
+        *place = paragraph << 16 | sentence;
+    }
+}
+
+/// The codes of a selection whose length is right, else none.
+fn codes_of(selection: &[u32]) -> Vec<Code> {
+    let Some(&m) = selection.first() else { return vec![] };
+    let m = m as usize;
+    if selection.len() != 1 + 2 * m {
+        return vec![];
+    }
+    (1..=m).map(|at| Code { kind: selection[at], operand: selection[at + m] }).collect()
+}
+
+fn damage_code(rng: &mut Rng, selection: &mut Vec<u32>, wrong: fn(&mut Rng, &mut Code)) {
+    let mut codes = codes_of(selection);
+    if codes.is_empty() {
+        return;
+    }
+    for _ in 0..rng.pick(&[1, 1, 1, 2]) {
+        let mut at = rng.below(codes.len());
+        for _ in 0..3 {
+            // the kinds that have numbers of their own are the more interesting ones
+            if ![1, 7, 8].contains(&codes[at].kind) {
+                at = rng.below(codes.len());
+            }
+        }
+        wrong(rng, &mut codes[at]);
+    }
+    *selection = selection::numbers(&codes);
+}
+
+/// Refusal 4, or one that a kind in a wrong place brings.
+fn wrong_kind(rng: &mut Rng, code: &mut Code) {
+    let kind = code.kind;
+    code.kind =
+        rng.pick(&[16, 17, 22, 255, 256, kind | 256, kind | 1 << 16, kind | 1 << 31, u32::MAX, kind.wrapping_add(16)]);
+    if rng.chance(1, 4) {
+        code.kind = rng.below(17) as u32;
+    }
+}
+
+/// Refusal 5, or one that another operand brings.
+fn wrong_operand(rng: &mut Rng, code: &mut Code) {
+    let operand = code.operand;
+    code.operand = match code.kind {
+        1 => rng.pick(&[0, 8, 9, operand.wrapping_add(1), u32::MAX, operand | 1 << 16]),
+        7 => rng.pick(&[0, 1, 4_096, 4_097, 65_536, u32::MAX, operand | 1 << 31]),
+        8 => {
+            let (a, b) = (operand >> 16, operand & 0xFFFF);
+            let (a, b) = rng.pick(&[
+                (b + 1, b),
+                (a, 4_095),
+                (a, 4_096),
+                (4_095, 4_095),
+                (4_096, 4_096),
+                (0xFFFF, 0xFFFF),
+                (1, 0),
+            ]);
+            a << 16 | b
+        }
+        _ => rng.pick(&[1, 2, u32::MAX, 1 << 16, 1 << 31]),
+    };
+}
+
+/// Refusal 6.
+fn damage_shape(rng: &mut Rng, selection: &mut Vec<u32>) {
+    let mut codes = codes_of(selection);
+    if codes.is_empty() {
+        return;
+    }
+    let at = rng.below(codes.len());
+    match rng.below(9) {
+        0 => drop(codes.remove(at)),
+        1 => codes.insert(at, codes[at]),
+        2 => {
+            let other = rng.below(codes.len());
+            codes.swap(at, other);
+        }
+        3 => codes.insert(at, Code { kind: rng.pick(&[2, 3, 4, 5, 6, 9, 13]), operand: 0 }),
+        // loose words at the end
+        4 => codes.push(Code { kind: 0, operand: 1 }),
+        // several lists at the end
+        5 => codes.extend([Code { kind: 0, operand: 1 }, Code { kind: 1, operand: 1 }]),
+        // eight or nine loose words
+        6 => {
+            let row = vec![Code { kind: 0, operand: 1 }; rng.from_to(7, 9)];
+            codes.splice(at..at, row);
+        }
+        // eight, nine or ten waiting lists
+        7 => {
+            let lists = rng.from_to(8, 10);
+            codes.clear();
+            for _ in 0..lists {
+                codes.extend([Code { kind: 0, operand: 1 }, Code { kind: 1, operand: 1 }]);
+            }
+            codes.extend(vec![Code { kind: 2, operand: 0 }; lists - rng.from_to(0, 2)]);
+        }
+        _ => codes[at] = Code { kind: rng.below(16) as u32, operand: 0 },
+    }
+    codes.truncate(MOST_CODES);
+    *selection = selection::numbers(&codes);
+}
+
+/// Refusal 7: nots and mild nots anywhere.
+fn damage_mild_not(rng: &mut Rng, case: &mut Case) {
+    let Ok(section) = crate::section::read(&case.section) else { return };
+    let mut builder = Builder::new(&section);
+    for _ in 0..rng.from_to(2, 24) {
+        let rule = match rng.below(8) {
+            0..=2 => Rule::Phrase { words: builder.random_words(rng), query: builder.phrases + 1 },
+            3 => Rule::Not,
+            4 | 5 => Rule::MildNot,
+            6 => rng.pick(&[&Rule::Or, &Rule::And]).clone(),
+            _ => Rule::Filter(builder.random_filter(rng)),
+        };
+        builder.force(rule);
+    }
+    while builder.waiting.len() > 1 {
+        builder.force(if rng.chance(1, 2) { Rule::MildNot } else { Rule::Or });
+    }
+    case.selection = builder.selection();
+}
+
+// What is lent
+
+/// Lengths of both memories, mostly right, and the noise in the buffer.
+fn lend(rng: &mut Rng, case: &mut Case) {
+    if case.work_len == WORK && rng.chance(1, 20) {
+        case.work_len = rng.pick(&[WORK - 1, WORK + 1, WORK + 1_000, 0]);
+    }
+    if case.buffer.len() == BUFFER && rng.chance(1, 8) {
+        let length = rng.pick(&[BUFFER - 1, BUFFER + 1, BUFFER + 1, BUFFER + 500, 0]);
+        case.buffer.resize(length, 0);
+    }
+    for number in &mut case.buffer {
+        *number = rng.number();
+    }
+}

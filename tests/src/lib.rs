@@ -1,0 +1,54 @@
+//! A second engine for document 01 ("The manual search engine: sections, selections, AllMatches"), by another hand.
+//!
+//! Written from the paper alone, to be compared with the first engine on random inputs. Its method is the plainest one:
+//! a match is two vectors of strings, a list is a vector of matches, a selection is a tree, and every rule is a function
+//! from lists to a list. It allocates freely and asks for no working memory; it only looks at its length.
+//!
+//! - [`section`]: what a section is, refusals 1 and 2.
+//! - [`selection`]: what a selection is, refusals 3 to 7, the tree.
+//! - [`rules`]: every list rule of the paper, without any limit.
+//! - [`sizes`]: how large a list will be, before it is made; the limits.
+//! - [`engine`]: the listing, the quick answer, the snippet, the unlimited lists.
+//! - [`text`]: what the program `ftlist` prints.
+//! - [`agreement`]: the engine under test, and its comparison with this one.
+//! - [`gen`]: seeded random cases.
+//! - [`shrink`]: a failing case made smaller, and printed as a test.
+//! - [`json`]: a reader just good enough for the published examples.
+//!
+//! To test an engine: implement [`Engine`] for it (in `tests/agree.rs`) and call [`agreement::hunt`] with a seed and a count
+//! of cases; the error is a message with a small test to paste back.
+
+pub mod agreement;
+pub mod engine;
+pub mod gen;
+pub mod json;
+pub mod rules;
+pub mod section;
+pub mod selection;
+pub mod shrink;
+pub mod sizes;
+pub mod text;
+
+pub use agreement::{compare, hunt, Engine};
+pub use engine::{listing, quick, snippet, unlimited, Listing, Quick, SecondEngine};
+pub use gen::{cases, Case};
+pub use rules::{AllMatches, Match, Str};
+
+/// A refusal: its number in the paper's table, and its place.
+#[derive(Clone, Copy, Debug, PartialEq, Eq)]
+pub struct Refusal {
+    pub number: u32,
+    pub place: u32,
+}
+
+impl Refusal {
+    pub fn new(number: u32, place: usize) -> Refusal {
+        Refusal { number, place: place as u32 }
+    }
+}
+
+/// "Working memory (at least 12,800 u32)".
+pub const WORK: usize = 12_800;
+
+/// "A listing buffer (at least 1,282 u32)".
+pub const BUFFER: usize = 1_282;

@@ -1,0 +1,250 @@
+//! A failing case made smaller, and printed as a test.
+
+use crate::gen::Case;
+use crate::section::{self, Section};
+use crate::selection::{self, Code, Filter, Rule, Tree};
+use crate::{BUFFER, WORK};
+
+/// How many cases are tried at most.
+const TRIES: usize = 6_000;
+
+/// The smallest failing case that can be reached by small changes. Each change is kept only if the case still fails and is
+/// simpler than before, so this ends. A section or a selection that passes the checks stays one that does.
+pub fn shrink(case: &Case, fails: &dyn Fn(&Case) -> bool) -> Case {
+    let mut best = case.clone();
+    let mut tries = 0;
+    loop {
+        let measure = measure(&best);
+        let still_fails = |changed: &Case| {
+            tries += 1;
+            tries <= TRIES && fails(changed)
+        };
+        let simpler = changes(&best).filter(|changed| self::measure(changed) < measure).find(still_fails);
+        match simpler {
+            Some(changed) => best = changed,
+            None => return best,
+        }
+    }
+}
+
+/// What is to fall: the length of all, then how odd the lent memory is, then the numbers themselves.
+fn measure(case: &Case) -> (usize, usize, usize, u128) {
+    let numbers = case.section.iter().chain(&case.selection).map(|&number| u128::from(number)).sum();
+    let odd_lengths = case.work_len.abs_diff(WORK) + case.buffer.len().abs_diff(BUFFER);
+    let noise = case.buffer.iter().filter(|&&number| number != 0).count();
+    (case.section.len() + case.selection.len(), odd_lengths, noise, numbers)
+}
+
+/// All cases that one change leads to, the bold changes first.
+fn changes(case: &Case) -> impl Iterator<Item = Case> + '_ {
+    let lent = changed_memory(case).into_iter();
+    let with_section = |section| Case { section, ..case.clone() };
+    let with_selection = |selection| Case { selection, ..case.clone() };
+    let sections: Box<dyn Iterator<Item = Vec<u32>>> = match section::read(&case.section) {
+        Ok(section) => Box::new(changed_sections(section)),
+        Err(_) => Box::new(without_pairs(&case.section).chain(changed_numbers(&case.section))),
+    };
+    let selections: Box<dyn Iterator<Item = Vec<u32>>> = match selection::read_shape(&case.selection) {
+        Ok(tree) => Box::new(changed_trees(&tree).into_iter().map(|tree| selection::numbers(&tree.codes()))),
+        Err(_) => Box::new(without_pairs(&case.selection).chain(changed_numbers(&case.selection))),
+    };
+    let renamed = renamed_words(case).into_iter();
+    lent.chain(selections.map(with_selection)).chain(sections.map(with_section)).chain(renamed)
+}
+
+fn changed_memory(case: &Case) -> Vec<Case> {
+    vec![
+        Case { work_len: WORK, buffer: vec![0; BUFFER], ..case.clone() },
+        Case { work_len: WORK, ..case.clone() },
+        Case { buffer: vec![0; BUFFER], ..case.clone() },
+        Case { buffer: vec![0; case.buffer.len()], ..case.clone() },
+        Case { work_len: WORK - 1, ..case.clone() },
+        Case { buffer: vec![0; BUFFER - 1], ..case.clone() },
+    ]
+}
+
+/// All rows that can be cut from a list of this length: halves, quarters, and so on down to one entry.
+fn cuts(length: usize) -> impl Iterator<Item = std::ops::Range<usize>> {
+    let sizes = std::iter::successors(Some(length), |size| Some(size / 2)).take_while(|&size| size > 0);
+    sizes.flat_map(move |size| (0..length).step_by(size).map(move |start| start..length.min(start + size)))
+}
+
+fn without<T: Clone>(list: &[T], cut: &std::ops::Range<usize>) -> Vec<T> {
+    [&list[..cut.start], &list[cut.end..]].concat()
+}
+
+/// Fewer tokens; then simpler sentences and paragraphs.
+fn changed_sections(section: Section) -> impl Iterator<Item = Vec<u32>> {
+    let n = section.words.len();
+    let plain = [
+        Section { words: vec![0; n], ..section.clone() },
+        Section { sentences: vec![0; n], ..section.clone() },
+        Section { paragraphs: vec![0; n], ..section.clone() },
+        Section { sentences: from_one(&section.sentences), ..section.clone() },
+        Section { paragraphs: from_one(&section.paragraphs), ..section.clone() },
+    ];
+    // one unit fewer, from some position on
+    let original = section.clone();
+    let joined = (1..n).flat_map(move |at| {
+        let lower = |units: &[u32]| [&units[..at], &units[at..].iter().map(|u| u - 1).collect::<Vec<u32>>()].concat();
+        let mut list = vec![];
+        if original.sentences[at - 1] < original.sentences[at] {
+            list.push(Section { sentences: lower(&original.sentences), ..original.clone() });
+        }
+        if original.paragraphs[at - 1] < original.paragraphs[at] {
+            list.push(Section { paragraphs: lower(&original.paragraphs), ..original.clone() });
+        }
+        list
+    });
+    let fewer = cuts(n).map(move |cut| Section {
+        words: without(&section.words, &cut),
+        sentences: without(&section.sentences, &cut),
+        paragraphs: without(&section.paragraphs, &cut),
+    });
+    fewer.chain(plain).chain(joined).map(|section| section.numbers())
+}
+
+/// The same steps, from 1 on and without leaps.
+fn from_one(units: &[u32]) -> Vec<u32> {
+    let mut list: Vec<u32> = vec![];
+    for (at, unit) in units.iter().enumerate() {
+        let next = match at.checked_sub(1) {
+            None => (*unit).min(1),
+            Some(before) => list[before] + u32::from(units[before] < *unit),
+        };
+        list.push(next);
+    }
+    list
+}
+
+/// Every part of a tree but the whole of it.
+fn parts(tree: &Tree) -> Vec<Tree> {
+    let below = tree.below.iter().flat_map(parts);
+    tree.below.iter().cloned().chain(below).collect()
+}
+
+/// Trees with a part in place of a larger one, or with a lower number; all of them pass the checks if this one does.
+fn changed_trees(tree: &Tree) -> Vec<Tree> {
+    let mut list = parts(tree);
+    list.sort_by_key(Tree::count);
+    list.extend(lower_rules(&tree.rule).into_iter().map(|rule| Tree { rule, ..tree.clone() }));
+    for (index, side) in tree.below.iter().enumerate() {
+        for changed in changed_trees(side) {
+            let mut below = tree.below.clone();
+            below[index] = changed;
+            list.push(Tree { below, ..tree.clone() });
+        }
+    }
+    list
+}
+
+fn lower_rules(rule: &Rule) -> Vec<Rule> {
+    match rule {
+        Rule::Phrase { words, query } => (0..words.len())
+            .filter(|_| words.len() > 1)
+            .map(|at| Rule::Phrase { words: without(words, &(at..at + 1)), query: *query })
+            .collect(),
+        Rule::Filter(Filter::Window(size)) => {
+            lower(*size).into_iter().filter(|&size| size > 0).map(|size| Rule::Filter(Filter::Window(size))).collect()
+        }
+        Rule::Filter(Filter::Distance(a, b)) => {
+            let (a, b) = (*a, *b);
+            let from = lower(a).into_iter().map(|lower| (lower, b));
+            let to = lower(b).into_iter().filter(|&lower| lower >= a).map(|lower| (a, lower));
+            from.chain(to).map(|(a, b)| Rule::Filter(Filter::Distance(a, b))).collect()
+        }
+        _ => vec![],
+    }
+}
+
+fn lower(number: u32) -> Vec<u32> {
+    let mut list = vec![0, 1, number / 2, number.saturating_sub(1)];
+    list.retain(|&other| other < number);
+    list
+}
+
+/// Every word number by a smaller one, in section and selection alike.
+fn renamed_words(case: &Case) -> Vec<Case> {
+    let (Ok(section), Ok(tree)) = (section::read(&case.section), selection::read(&case.selection)) else {
+        return vec![];
+    };
+    let codes = tree.codes();
+    let of_selection = codes.iter().filter(|code| code.kind == 0).map(|code| code.operand);
+    let mut words: Vec<u32> = section.words.iter().copied().chain(of_selection).collect();
+    words.sort();
+    words.dedup();
+    let mut list = vec![];
+    for old in words.iter().copied() {
+        for new in (0..old).take(8) {
+            let rename = |word: u32| if word == old { new } else { word };
+            let renamed =
+                Section { words: section.words.iter().map(|&word| rename(word)).collect(), ..section.clone() };
+            let codes: Vec<Code> = codes
+                .iter()
+                .map(|code| if code.kind == 0 { Code { operand: rename(code.operand), ..*code } } else { *code })
+                .collect();
+            list.push(Case { section: renamed.numbers(), selection: selection::numbers(&codes), ..case.clone() });
+        }
+    }
+    list
+}
+
+/// A section or a selection that fails the checks, with some tokens or codes fewer, if its length is right: both are "a
+/// size first, then two parallel arrays."
+fn without_pairs(numbers: &[u32]) -> impl Iterator<Item = Vec<u32>> + '_ {
+    let size = numbers.first().map_or(0, |&size| size as usize);
+    let size = if numbers.len() == 1 + 2 * size { size } else { 0 };
+    cuts(size).map(move |cut| {
+        let first = without(&numbers[1..1 + size], &cut);
+        let second = without(&numbers[1 + size..], &cut);
+        [&[first.len() as u32][..], &first, &second].concat()
+    })
+}
+
+/// Any numbers, with some fewer, or with one lower.
+fn changed_numbers(numbers: &[u32]) -> impl Iterator<Item = Vec<u32>> + '_ {
+    let fewer = cuts(numbers.len()).map(|cut| without(numbers, &cut));
+    let zero = numbers.iter().take(1).copied().chain(numbers.iter().skip(1).map(|_| 0)).collect();
+    let lower = (0..numbers.len()).flat_map(move |at| {
+        lower(numbers[at]).into_iter().map(move |number| {
+            let mut changed = numbers.to_vec();
+            changed[at] = number;
+            changed
+        })
+    });
+    fewer.chain([zero]).chain(lower)
+}
+
+/// The case as a test that can be pasted into `tests/agree.rs`.
+pub fn as_rust(case: &Case, name: &str) -> String {
+    let section = match section::read(&case.section) {
+        Ok(section) => {
+            format!("words {:?}, sentences {:?}, paragraphs {:?}", section.words, section.sentences, section.paragraphs)
+        }
+        Err(refusal) => format!("{refusal:?}"),
+    };
+    let selection = match selection::read_shape(&case.selection) {
+        Ok(tree) => tree.to_string(),
+        Err(refusal) => format!("{refusal:?}"),
+    };
+    let buffer = match case.buffer.iter().find(|&&number| number != 0) {
+        None => format!("vec![0; {}]", case.buffer.len()),
+        Some(_) => format!("vec!{:?}", case.buffer),
+    };
+    format!(
+        "#[test]
+fn {name}() {{
+    // section: {section}
+    // selection: {selection}
+    let case = Case {{
+        section: vec!{:?},
+        selection: vec!{:?},
+        work_len: {},
+        buffer: {buffer},
+    }};
+    compare(&engine(), &case).unwrap();
+}}
+",
+        case.section, case.selection, case.work_len
+    )
+}

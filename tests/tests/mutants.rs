@@ -1,0 +1,1172 @@
+//! Engines with one mistake each: random cases must find every one of them.
+//!
+//! `cargo test --release --test mutants -- --nocapture` prints how many cases each took, and the smallest case found.
+
+use second_engine::engine::{check, RuleBook};
+use second_engine::rules::{self, agree, join, span_distance, units, Str};
+use second_engine::section::{self, Section};
+use second_engine::selection::{self, Rule, Tree, Unit};
+use second_engine::shrink::{as_rust, shrink};
+use second_engine::sizes::{Limits, Size};
+use second_engine::{
+    cases, compare, engine, AllMatches, Engine, Listing, Match, Quick, Refusal, SecondEngine, BUFFER, WORK,
+};
+use std::slice::from_ref;
+
+/// Within how many cases each mistake must be found.
+const MOST: usize = 100_000;
+
+#[test]
+fn every_mistake_is_found() {
+    let mut late = vec![];
+    println!("cases  mistake");
+    for (name, mutant) in all() {
+        let found = cases(1, MOST).position(|case| compare(&*mutant, &case).is_err());
+        match found {
+            Some(index) => println!("{:6} {name}", index + 1),
+            None => {
+                println!("never  {name}");
+                late.push(name);
+            }
+        }
+    }
+    assert!(late.is_empty(), "not found: {late:?}");
+}
+
+/// A found case is made smaller, still shows the mistake, and isn't held against the right engine.
+#[test]
+fn found_cases_shrink() {
+    let right = SecondEngine::new();
+    // without optimisation, some of them are enough
+    let some = if cfg!(debug_assertions) { 10 } else { 1 };
+    for (name, mutant) in all().into_iter().step_by(some) {
+        let fails = |case: &second_engine::Case| compare(&*mutant, case).is_err();
+        let Some(case) = cases(2, 3_000).find(|case| fails(case)) else { continue };
+        let small = shrink(&case, &fails);
+        assert!(fails(&small), "{name}");
+        compare(&right, &small).unwrap();
+        let (before, after) = (case.section.len() + case.selection.len(), small.section.len() + small.selection.len());
+        assert!(after <= before);
+        println!("{name}: {before} numbers, then {after}; {}", compare(&*mutant, &small).unwrap_err());
+        let test = as_rust(&small, "found");
+        assert!(test.contains("compare(&engine(), &case).unwrap();"));
+        println!("{test}");
+    }
+}
+
+/// What somebody sees whose engine has a mistake.
+#[test]
+fn a_hunt_ends_with_a_test() {
+    assert_eq!(second_engine::hunt(&SecondEngine::new(), 3, 500), Ok(()));
+    let wrong = second_engine::hunt(&with(|book| book.window = window_merged), 3, MOST).unwrap_err();
+    println!("{wrong}");
+    assert!(wrong.starts_with("seed 3, case "));
+    assert!(wrong.contains("selection: (\"0\" window 2)"));
+    assert!(wrong.contains("section: vec![1, 0, 0],"));
+    assert!(wrong.contains("selection: vec![3, 0, 1, 7, 0, 1, 2],"));
+}
+
+/// The rules' mistakes are to be found in a section and a selection that a person can read.
+#[test]
+fn shrunk_cases_are_small() {
+    let merged = with(|book| book.window = window_merged);
+    let fails = |case: &second_engine::Case| compare(&merged, case).is_err();
+    let case = cases(5, MOST).find(|case| fails(case)).unwrap();
+    let small = shrink(&case, &fails);
+    // one token, its word, a window of two
+    assert_eq!(small.section, [1, 0, 0]);
+    assert_eq!(small.selection, [3, 0, 1, 7, 0, 1, 2]);
+    assert_eq!((small.work_len, small.buffer), (WORK, vec![0; BUFFER]));
+}
+
+/// Engines with one mistake each, by name.
+struct Mutants(Vec<(&'static str, Box<dyn Engine>)>);
+
+fn all() -> Vec<(&'static str, Box<dyn Engine>)> {
+    let mut list = Mutants(vec![]);
+    mutants_of_rules(&mut list);
+    mutants_of_filters(&mut list);
+    mutants_of_sizes(&mut list);
+    mutants_of_calls(&mut list);
+    mutants_of_checks(&mut list);
+    list.0
+}
+
+impl Mutants {
+    fn engine(&mut self, name: &'static str, engine: impl Engine + 'static) {
+        self.0.push((name, Box::new(engine)));
+    }
+
+    /// The second engine with one other rule.
+    fn book(&mut self, name: &'static str, change: impl Fn(&mut RuleBook)) {
+        self.engine(name, with(change));
+    }
+
+    fn listing(&mut self, name: &'static str, listing: ListingCall) {
+        self.engine(name, Calls { listing, ..right_calls() });
+    }
+
+    fn quick(&mut self, name: &'static str, quick: QuickCall) {
+        self.engine(name, Calls { quick, ..right_calls() });
+    }
+
+    fn snippet(&mut self, name: &'static str, snippet: SnippetCall) {
+        self.engine(name, Calls { snippet, ..right_calls() });
+    }
+
+    fn refusing(&mut self, name: &'static str, refuse: Refuse) {
+        self.engine(name, Checks { refuse, ..right_checks() });
+    }
+
+    fn repairing_section(&mut self, name: &'static str, repair_section: Repair) {
+        self.engine(name, Checks { repair_section, ..right_checks() });
+    }
+
+    fn repairing_selection(&mut self, name: &'static str, repair_selection: Repair) {
+        self.engine(name, Checks { repair_selection, ..right_checks() });
+    }
+}
+
+fn with(change: impl Fn(&mut RuleBook)) -> SecondEngine {
+    let mut book = RuleBook::paper();
+    change(&mut book);
+    SecondEngine { book }
+}
+
+fn kept(list: &[Match], test: impl Fn(&Match) -> bool) -> AllMatches {
+    list.iter().filter(|m| test(m)).cloned().collect()
+}
+
+/// The list with other excludes.
+fn excludes(list: AllMatches, change: impl Fn(&mut Vec<Str>)) -> AllMatches {
+    let mut list = list;
+    list.iter_mut().for_each(|m| change(&mut m.excludes));
+    list
+}
+
+fn window_merged(list: &[Match], size: u32) -> AllMatches {
+    let mut result = rules::window(list, size);
+    result.dedup();
+    result
+}
+
+// Phrases and combinations
+
+fn mutants_of_rules(list: &mut Mutants) {
+    list.book("phrase: finds don't overlap", |book| {
+        book.phrase = |section, words, query| {
+            let mut free = 1;
+            kept(&rules::phrase(section, words, query), |_| true)
+                .into_iter()
+                .filter(|m| {
+                    let starts = m.includes[0].start >= free;
+                    if starts {
+                        free = m.includes[0].end + 1;
+                    }
+                    starts
+                })
+                .collect()
+        }
+    });
+    list.book("phrase: descending", |book| {
+        book.phrase = |section, words, query| rules::phrase(section, words, query).into_iter().rev().collect()
+    });
+    list.book("phrase: words compared by 16 bits", |book| {
+        book.phrase = |section, words, query| {
+            let low = |words: &[u32]| words.iter().map(|word| word & 0xFFFF).collect::<Vec<u32>>();
+            rules::phrase(&Section { words: low(&section.words), ..section.clone() }, &low(words), query)
+        }
+    });
+    list.book("or: right before left", |book| book.or = |left, right| rules::or(right, left));
+    list.book("or: equal matches once", |book| {
+        book.or = |left, right| {
+            let new = kept(right, |m| !left.contains(m));
+            rules::or(left, &new)
+        }
+    });
+    list.book("and: right in the outer loop", |book| {
+        book.and = |left, right| {
+            let mut list = vec![];
+            for r in right {
+                for l in left {
+                    list.extend(rules::and(from_ref(l), from_ref(r)));
+                }
+            }
+            list
+        }
+    });
+    list.book("and: includes joined right then left", |book| {
+        book.and = |left, right| {
+            let mut list = vec![];
+            for l in left {
+                for r in right {
+                    list.extend(rules::and(from_ref(r), from_ref(l)));
+                }
+            }
+            list
+        }
+    });
+    list.book("and: the right excludes lost", |book| {
+        book.and = |left, right| rules::and(left, &excludes(right.to_vec(), Vec::clear))
+    });
+    list.book("and: a match with an exclude dropped early", |book| {
+        book.and = |left, right| kept(&rules::and(left, right), |m| m.excludes.is_empty())
+    });
+    list.book("not: of an empty list left empty", |book| {
+        book.not = |list| {
+            if list.is_empty() {
+                vec![]
+            } else {
+                rules::not(list)
+            }
+        }
+    });
+    list.book("not: excludes before includes", |book| {
+        book.not = |list| {
+            list.iter().rev().fold(vec![Match::default()], |rest, m| {
+                let one = |includes: &[Str], excludes: &[Str]| {
+                    let m = Match { includes: includes.to_vec(), excludes: excludes.to_vec() };
+                    rules::and(&rules::not(&[m]), &rest)
+                };
+                [one(&[], &m.excludes), one(&m.includes, &[])].concat()
+            })
+        }
+    });
+    list.book("not: put behind in its list", |book| {
+        book.not = |list| {
+            let backwards = |mut m: Match| {
+                m.includes.reverse();
+                m.excludes.reverse();
+                m
+            };
+            rules::not(list).into_iter().map(backwards).collect()
+        }
+    });
+    list.book("not: a string turned twice stays once", |book| {
+        book.not = |list| {
+            let once = |mut m: Match| {
+                m.includes.dedup();
+                m.excludes.dedup();
+                m
+            };
+            rules::not(list).into_iter().map(once).collect()
+        }
+    });
+    list.book("not: excludes stay excludes", |book| {
+        book.not = |list| {
+            let strings = |m: &Match| [&m.includes[..], &m.excludes].concat();
+            rules::not(&list.iter().map(|m| Match { includes: strings(m), excludes: vec![] }).collect::<Vec<_>>())
+        }
+    });
+    list.book("mild not: sides exchanged", |book| book.mild_not = |left, right| rules::mild_not(right, left));
+    list.book("mild not: covered by all of R together", |book| {
+        book.mild_not = |left, right| {
+            let together =
+                Match { includes: right.iter().flat_map(|m| m.includes.clone()).collect(), excludes: vec![] };
+            rules::mild_not(left, if right.is_empty() { &[] } else { from_ref(&together) })
+        }
+    });
+    list.book("mild not: no position may be covered", |book| {
+        book.mild_not = |left, right| {
+            let apart = |l: &Match, r: &Match| l.includes.iter().all(|s| (s.start..=s.end).all(|p| !r.covers(p)));
+            kept(left, |l| right.iter().all(|r| apart(l, r)))
+        }
+    });
+    list.book("mild not: only starts looked at", |book| {
+        book.mild_not =
+            |left, right| kept(left, |l| right.iter().all(|r| l.includes.iter().any(|s| !r.covers(s.start))))
+    });
+    list.book("mild not: every include must stick out", |book| {
+        book.mild_not = |left, right| {
+            let out = |s: &Str, r: &Match| (s.start..=s.end).any(|p| !r.covers(p));
+            kept(left, |l| right.iter().all(|r| l.includes.iter().all(|s| out(s, r))))
+        }
+    });
+}
+
+// Filters
+
+/// The window rule with another join.
+fn window_joined(list: &[Match], size: u32, join: fn(&[Str]) -> Option<Str>) -> AllMatches {
+    let mut result = vec![];
+    for m in list {
+        let mut copies = rules::window(from_ref(m), size);
+        copies.iter_mut().for_each(|copy| copy.includes = join(&m.includes).into_iter().collect());
+        result.extend(copies);
+    }
+    result
+}
+
+fn join_leftmost(includes: &[Str]) -> Option<Str> {
+    let leftmost = includes.iter().min_by_key(|s| s.start)?;
+    Some(Str { query: leftmost.query, ..join(includes)? })
+}
+
+fn join_all_contiguous(includes: &[Str]) -> Option<Str> {
+    let as_contiguous: Vec<Str> = includes.iter().map(|s| Str { contiguous: true, ..*s }).collect();
+    join(&as_contiguous)
+}
+
+fn join_uncovered(includes: &[Str]) -> Option<Str> {
+    Some(Str { contiguous: includes.iter().all(|s| s.contiguous), ..join(includes)? })
+}
+
+fn join_last_end(includes: &[Str]) -> Option<Str> {
+    let last = includes.iter().max_by_key(|s| (s.start, s.end))?;
+    let joined = join(includes)?;
+    Some(Str { end: last.end, ..joined })
+}
+
+/// The distance rule with another order of the includes and other tests.
+fn distance_by(
+    list: &[Match],
+    sort: fn(&mut [Str]),
+    lies: impl Fn(&Str, &Str) -> bool,
+    stays: impl Fn(&Str, &[Str]) -> bool,
+) -> AllMatches {
+    let mut result = vec![];
+    for m in list {
+        let mut sorted = m.includes.clone();
+        sort(&mut sorted);
+        if sorted.windows(2).all(|pair| lies(&pair[0], &pair[1])) {
+            let excludes = m.excludes.iter().filter(|e| stays(e, &m.includes)).copied().collect();
+            result.push(Match { includes: join(&m.includes).into_iter().collect(), excludes });
+        }
+    }
+    result
+}
+
+fn by_start_then_end(includes: &mut [Str]) {
+    includes.sort_by_key(|s| (s.start, s.end));
+}
+
+fn within(a: u32, b: u32, one: &Str, other: &Str) -> bool {
+    (a..=b).contains(&span_distance(one, other))
+}
+
+/// The different rule with another test of two ranges, and with or without a test of excludes.
+fn different_by(
+    section: &Section,
+    unit: Unit,
+    list: &[Match],
+    overlap: fn((u32, u32), (u32, u32)) -> bool,
+) -> AllMatches {
+    let range = |s: &Str| units(section, unit, s);
+    let nonzero = |s: &Str| range(s).0 != 0;
+    let mut result = vec![];
+    for m in list {
+        let includes = &m.includes;
+        let apart = (0..includes.len()).all(|i| (0..i).all(|j| !overlap(range(&includes[i]), range(&includes[j]))));
+        if includes.len() >= 2 && includes.iter().all(nonzero) && apart {
+            result.push(Match {
+                includes: includes.clone(),
+                excludes: m
+                    .excludes
+                    .iter()
+                    .filter(|e| nonzero(e) && !includes.iter().any(|i| overlap(range(e), range(i))))
+                    .copied()
+                    .collect(),
+            });
+        }
+    }
+    result
+}
+
+fn mutants_of_filters(list: &mut Mutants) {
+    list.book("ordered: only where nothing falls in the match's order", |book| {
+        book.ordered = |list| {
+            let rising =
+                |m: &Match| m.includes.windows(2).all(|p| p[0].start <= p[1].start && p[0].query <= p[1].query);
+            kept(&rules::ordered(list), rising)
+        }
+    });
+    list.book("ordered: neighbours only", |book| {
+        book.ordered = |list| {
+            let mut result = vec![];
+            for m in list.iter().filter(|m| m.includes.windows(2).all(|pair| agree(&pair[0], &pair[1]))) {
+                let stays = |e: &Str| m.includes.iter().all(|i| agree(e, i));
+                result.push(Match {
+                    includes: m.includes.clone(),
+                    excludes: m.excludes.iter().copied().filter(|e| stays(e)).collect(),
+                });
+            }
+            result
+        }
+    });
+    list.book("ordered: equal starts disagree", |book| {
+        book.ordered = |list| {
+            let equal = |m: &Match| {
+                (0..m.includes.len()).any(|i| {
+                    (0..i).any(|j| {
+                        m.includes[i].start == m.includes[j].start && m.includes[i].query != m.includes[j].query
+                    })
+                })
+            };
+            kept(&rules::ordered(list), |m| !equal(m))
+        }
+    });
+    list.book("ordered: all excludes stay", |book| {
+        book.ordered = |list| {
+            let ordered = |m: &Match| !rules::ordered(from_ref(m)).is_empty();
+            kept(list, ordered)
+        }
+    });
+    list.book("ordered: all excludes go", |book| book.ordered = |list| excludes(rules::ordered(list), Vec::clear));
+    list.book("ordered: excludes by ends", |book| {
+        book.ordered = |list| {
+            let ends = |s: &Str| Str { start: s.end, ..*s };
+            let mut result = vec![];
+            for m in list.iter().filter(|m| !rules::ordered(from_ref(m)).is_empty()) {
+                let stays = |e: &Str| m.includes.iter().all(|i| agree(&ends(e), &ends(i)));
+                result.push(Match {
+                    includes: m.includes.clone(),
+                    excludes: m.excludes.iter().copied().filter(|e| stays(e)).collect(),
+                });
+            }
+            result
+        }
+    });
+    list.book("join: leftmost include's query position", |book| {
+        book.window = |list, size| window_joined(list, size, join_leftmost)
+    });
+    list.book("join: contiguous though a part wasn't", |book| {
+        book.window = |list, size| window_joined(list, size, join_all_contiguous)
+    });
+    list.book("join: contiguous though not all is covered", |book| {
+        book.window = |list, size| window_joined(list, size, join_uncovered)
+    });
+    list.book("join: the last include's end", |book| {
+        book.window = |list, size| window_joined(list, size, join_last_end)
+    });
+    list.book("window: equal copies merged", |book| book.window = window_merged);
+    list.book("window: W not below 1", |book| {
+        book.window = |list, size| {
+            let mut result = vec![];
+            for m in list {
+                let copies = rules::window(from_ref(m), size);
+                let above = join(&m.includes).map_or(0, |joined| joined.start.min(copies.len() as u32)) as usize;
+                result.extend_from_slice(&copies[copies.len() - above..]);
+            }
+            result
+        }
+    });
+    list.book("window: W falling", |book| {
+        book.window =
+            |list, size| list.iter().flat_map(|m| rules::window(from_ref(m), size).into_iter().rev()).collect()
+    });
+    list.book("window: one word too wide", |book| book.window = |list, size| rules::window(list, size + 1));
+    list.book("window: one word too narrow", |book| book.window = |list, size| rules::window(list, size - 1));
+    list.book("window: a match without includes kept", |book| {
+        book.window = |list, size| {
+            let each = |m: &Match| match m.includes.is_empty() {
+                true => vec![m.clone()],
+                false => rules::window(from_ref(m), size),
+            };
+            list.iter().flat_map(each).collect()
+        }
+    });
+    list.book("window: the excludes lost", |book| {
+        book.window = |list, size| excludes(rules::window(list, size), Vec::clear)
+    });
+    list.book("window: an exclude inside by its start alone", |book| {
+        book.window = |list, size| {
+            let cut = excludes(list.to_vec(), |excludes| excludes.iter_mut().for_each(|e| e.end = e.start));
+            let mut result = rules::window(&cut, size);
+            let ends = list.iter().flat_map(|m| &m.excludes).copied().collect::<Vec<Str>>();
+            for e in result.iter_mut().flat_map(|m| m.excludes.iter_mut()) {
+                *e = *ends.iter().find(|end| (end.start, end.query) == (e.start, e.query)).unwrap();
+            }
+            result
+        }
+    });
+    list.book("distance: off by one", |book| {
+        book.distance = |list, a, b| {
+            let lies = |one: &Str, other: &Str| (a..=b).contains(&(span_distance(one, other) + 1));
+            distance_by(list, by_start_then_end, lies, |e, includes| includes.iter().all(|i| lies(e, i)))
+        }
+    });
+    list.book("distance: to, but not up to b", |book| {
+        book.distance = |list, a, b| rules::distance(list, a, b.max(a + 1) - 1)
+    });
+    list.book("distance: overlap is no distance", |book| {
+        book.distance = |list, a, b| {
+            let lies =
+                |one: &Str, other: &Str| within(a, b, one, other) && (one.end < other.start || other.end < one.start);
+            distance_by(list, by_start_then_end, lies, |e, includes| includes.iter().all(|i| lies(e, i)))
+        }
+    });
+    list.book("distance: excludes that overlap go", |book| {
+        book.distance = |list, a, b| {
+            let lies = |one: &Str, other: &Str| within(a, b, one, other);
+            let apart = |one: &Str, other: &Str| one.end < other.start || other.end < one.start;
+            distance_by(list, by_start_then_end, lies, |e, includes| includes.iter().all(|i| lies(e, i) && apart(e, i)))
+        }
+    });
+    list.book("distance: includes not sorted", |book| {
+        book.distance = |list, a, b| {
+            let lies = |one: &Str, other: &Str| within(a, b, one, other);
+            distance_by(list, |_| {}, lies, |e, includes| includes.iter().all(|i| lies(e, i)))
+        }
+    });
+    list.book("distance: sorted by start alone", |book| {
+        book.distance = |list, a, b| {
+            let lies = |one: &Str, other: &Str| within(a, b, one, other);
+            let sort = |includes: &mut [Str]| includes.sort_by_key(|s| s.start);
+            distance_by(list, sort, lies, |e, includes| includes.iter().all(|i| lies(e, i)))
+        }
+    });
+    list.book("distance: sorted by end, then start", |book| {
+        book.distance = |list, a, b| {
+            let lies = |one: &Str, other: &Str| within(a, b, one, other);
+            let sort = |includes: &mut [Str]| includes.sort_by_key(|s| (s.end, s.start));
+            distance_by(list, sort, lies, |e, includes| includes.iter().all(|i| lies(e, i)))
+        }
+    });
+    list.book("distance: all pairs, not neighbours", |book| {
+        book.distance = |list, a, b| {
+            let pairs = |m: &Match| {
+                let s = &m.includes;
+                (0..s.len()).all(|i| (0..i).all(|j| within(a, b, &s[i], &s[j])))
+            };
+            rules::distance(&kept(list, pairs), a, b)
+        }
+    });
+    list.book("distance: excludes by some include, as in the standard", |book| {
+        book.distance = |list, a, b| {
+            let lies = |one: &Str, other: &Str| within(a, b, one, other);
+            distance_by(list, by_start_then_end, lies, |e, includes| includes.iter().any(|i| lies(e, i)))
+        }
+    });
+    list.book("distance: all excludes stay", |book| {
+        book.distance =
+            |list, a, b| distance_by(list, by_start_then_end, |one, other| within(a, b, one, other), |_, _| true)
+    });
+    list.book("distance: without includes dropped", |book| {
+        book.distance = |list, a, b| kept(&rules::distance(list, a, b), |m| !m.includes.is_empty())
+    });
+    list.book("distance: includes not joined", |book| {
+        book.distance = |list, a, b| {
+            let mut result = vec![];
+            for m in list {
+                for near in rules::distance(from_ref(m), a, b) {
+                    result.push(Match { includes: m.includes.clone(), ..near });
+                }
+            }
+            result
+        }
+    });
+    list.book("same: without includes dropped", |book| {
+        book.same = |section, unit, list| kept(&rules::same(section, unit, list), |m| !m.includes.is_empty())
+    });
+    list.book("same: without includes all excludes stay", |book| {
+        book.same = |section, unit, list| {
+            list.iter()
+                .flat_map(|m| match m.includes.is_empty() {
+                    true => vec![m.clone()],
+                    false => rules::same(section, unit, from_ref(m)),
+                })
+                .collect()
+        }
+    });
+    list.book("same: without includes the excludes share a unit", |book| {
+        book.same = |section, unit, list| {
+            let mut result = rules::same(section, unit, list);
+            for m in result.iter_mut().filter(|m| m.includes.is_empty()) {
+                if let Some(home) = m.excludes.first().map(|e| units(section, unit, e)) {
+                    m.excludes.retain(|e| units(section, unit, e) == home);
+                }
+            }
+            result
+        }
+    });
+    list.book("same: only starts looked at", |book| {
+        book.same = |section, unit, list| {
+            let starts = |m: &Match| {
+                let start = |s: &Str| units(section, unit, s).0;
+                let home = m.includes.first().map(start)?;
+                (home != 0 && m.includes.iter().all(|s| start(s) == home)).then(|| Match {
+                    includes: m.includes.clone(),
+                    excludes: m.excludes.iter().filter(|e| start(e) == home).copied().collect(),
+                })
+            };
+            list.iter()
+                .flat_map(|m| match m.includes.is_empty() {
+                    true => rules::same(section, unit, from_ref(m)),
+                    false => starts(m).into_iter().collect(),
+                })
+                .collect()
+        }
+    });
+    list.book("same: zero is a unit", |book| {
+        book.same = |section, unit, list| {
+            let raised = |units: &[u32]| units.iter().map(|u| u + 1).collect();
+            let (sentences, paragraphs) = (raised(&section.sentences), raised(&section.paragraphs));
+            rules::same(&Section { words: section.words.clone(), sentences, paragraphs }, unit, list)
+        }
+    });
+    list.book("same: the paragraph for the sentence", |book| {
+        book.same = |section, _, list| rules::same(section, Unit::Paragraph, list)
+    });
+    list.book("same: a sentence ends with its paragraph", |book| {
+        book.same = |section, unit, list| {
+            let mut both = section.clone();
+            if unit == Unit::Sentence {
+                for (s, p) in both.sentences.iter_mut().zip(&section.paragraphs) {
+                    *s = if *s == 0 { 0 } else { *s + 65_536 * p };
+                }
+            }
+            rules::same(&both, unit, list)
+        }
+    });
+    list.book("same: excludes lost", |book| {
+        book.same = |section, unit, list| excludes(rules::same(section, unit, list), Vec::clear)
+    });
+    list.book("different: one include passes", |book| {
+        book.different = |section, unit, list| {
+            list.iter()
+                .flat_map(|m| match m.includes.len() {
+                    1 if units(section, unit, &m.includes[0]).0 != 0 => vec![m.clone()],
+                    _ => rules::different(section, unit, from_ref(m)),
+                })
+                .collect()
+        }
+    });
+    list.book("different: ranges may touch", |book| {
+        book.different = |section, unit, list| {
+            different_by(section, unit, list, |one, other| one == other || (one.0 < other.1 && other.0 < one.1))
+        }
+    });
+    list.book("different: only starts looked at", |book| {
+        book.different = |section, unit, list| different_by(section, unit, list, |one, other| one.0 == other.0)
+    });
+    list.book("different: some two differ", |book| {
+        book.different = |section, unit, list| {
+            let mut result = vec![];
+            for m in list {
+                let first = |s: &Str| units(section, unit, s).0;
+                if m.includes.len() >= 2 && m.includes.iter().any(|s| first(s) != first(&m.includes[0])) {
+                    result.push(m.clone());
+                }
+            }
+            result
+        }
+    });
+    list.book("different: all excludes stay", |book| {
+        book.different = |section, unit, list| kept(list, |m| !rules::different(section, unit, from_ref(m)).is_empty())
+    });
+    list.book("different: all excludes go", |book| {
+        book.different = |section, unit, list| excludes(rules::different(section, unit, list), Vec::clear)
+    });
+    list.book("at start: some include covers it, but only a contiguous one", |book| {
+        book.at_start = |_, list| kept(list, |m| m.includes.iter().any(|s| s.contiguous && s.covers(1)))
+    });
+    list.book("at start: the first include alone", |book| {
+        book.at_start = |_, list| kept(list, |m| m.includes.first().is_some_and(|s| s.covers(1)))
+    });
+    list.book("at start: with n = 0 all", |book| {
+        book.at_start = |section, list| {
+            if section.n() == 0 {
+                list.to_vec()
+            } else {
+                rules::at_start(section, list)
+            }
+        }
+    });
+    list.book("at end: some include starts there", |book| {
+        book.at_end = |section, list| kept(list, |m| m.includes.iter().any(|s| s.start == section.n()))
+    });
+    list.book("at end: excludes count", |book| {
+        book.at_end =
+            |section, list| kept(list, |m| m.includes.iter().chain(&m.excludes).any(|s| s.covers(section.n())))
+    });
+    list.book("entire content: any include", |book| {
+        book.entire_content = |section, list| kept(list, |m| (1..=section.n()).all(|p| m.covers(p)))
+    });
+    list.book("entire content: all by one include", |book| {
+        book.entire_content = |section, list| {
+            let whole = |s: &Str| s.contiguous && s.start == 1 && s.end == section.n();
+            kept(list, |m| section.n() == 0 || m.includes.iter().any(whole))
+        }
+    });
+    list.book("entire content: with n = 0 none", |book| {
+        book.entire_content = |section, list| {
+            if section.n() == 0 {
+                vec![]
+            } else {
+                rules::entire_content(section, list)
+            }
+        }
+    });
+    list.book("entire content: a match with an exclude dropped", |book| {
+        book.entire_content = |section, list| kept(&rules::entire_content(section, list), |m| m.excludes.is_empty())
+    });
+}
+
+// Sizes
+
+fn largest_product<'a>(list: impl Iterator<Item = &'a Match>) -> Size {
+    let (mut matches, mut strings) = (1u128, 0u128);
+    let mut largest = 1u128;
+    for m in list {
+        matches = matches.saturating_mul(m.strings() as u128);
+        largest = largest.max(matches);
+        strings += matches.min(1);
+    }
+    // within the limits the right size, so that only the product on the way is wrong
+    if largest > 256 {
+        Size { matches: largest, strings: largest }
+    } else {
+        Size { matches, strings: strings * matches }
+    }
+}
+
+fn mutants_of_sizes(list: &mut Mutants) {
+    list.book("limits: 255 matches", |book| book.limits = Limits { matches: 255, strings: 512 });
+    list.book("limits: 257 matches", |book| book.limits = Limits { matches: 257, strings: 512 });
+    list.book("limits: 511 strings", |book| book.limits = Limits { matches: 256, strings: 511 });
+    list.book("limits: 513 strings", |book| book.limits = Limits { matches: 256, strings: 513 });
+    list.book("limits: an intermediate product counted, from the front", |book| {
+        book.size_of_not = |list| largest_product(list.iter())
+    });
+    list.book("limits: an intermediate product counted, from the end", |book| {
+        book.size_of_not = |list| largest_product(list.iter().rev())
+    });
+    list.book("limits: a product that wraps round in 32 bits", |book| {
+        book.size_of_not = |list| {
+            let matches = list.iter().fold(1u32, |product, m| product.wrapping_mul(m.strings() as u32));
+            let size = Size { matches: matches.into(), strings: matches.wrapping_mul(list.len() as u32).into() };
+            // only the answer is wanted, not the list: a wrapped product has no list that could be made
+            if size == second_engine::sizes::not(list) {
+                size
+            } else {
+                Size { matches: 0, strings: 0 }
+            }
+        }
+    });
+}
+
+// The calls
+
+type ListingCall = fn(&[u32], &[u32], usize, &mut [u32]) -> Listing;
+type QuickCall = fn(&[u32], &[u32], usize) -> Quick;
+type SnippetCall = for<'a> fn(&'a [u32], u32, u32) -> &'a [u32];
+
+/// An engine of three calls, each the right one unless another is put in.
+struct Calls {
+    listing: ListingCall,
+    quick: QuickCall,
+    snippet: SnippetCall,
+}
+
+impl Engine for Calls {
+    fn listing(&self, section: &[u32], selection: &[u32], work: &mut [u32], buffer: &mut [u32]) -> Listing {
+        (self.listing)(section, selection, work.len(), buffer)
+    }
+
+    fn quick(&self, section: &[u32], selection: &[u32], work: &mut [u32]) -> Quick {
+        (self.quick)(section, selection, work.len())
+    }
+
+    fn snippet<'a>(&self, section: &'a [u32], from: u32, to: u32) -> &'a [u32] {
+        (self.snippet)(section, from, to)
+    }
+}
+
+fn right_calls() -> Calls {
+    Calls { listing: engine::listing, quick: engine::quick, snippet: engine::snippet }
+}
+
+/// The quick answer by another walk.
+fn walked(
+    section: &[u32],
+    selection: &[u32],
+    work_len: usize,
+    walk: impl Fn(&Section, &Tree) -> Result<(bool, usize), Refusal>,
+) -> Quick {
+    match check(section, selection, work_len, None).and_then(|(section, tree)| walk(&section, &tree)) {
+        Ok((yes, codes)) => Quick::Answered { yes, codes: codes as u32 },
+        Err(Refusal { number, place }) => Quick::Refused { number, place },
+    }
+}
+
+/// The right walk, but with one mistake.
+#[derive(Clone, Copy, PartialEq)]
+enum Walk {
+    MeasuresPhrases,
+    BothSidesOfOr,
+    BothSidesOfAnd,
+    RightFirst,
+    BuiltPartCountsOne,
+    NotUncounted,
+    NotBuilds,
+    YesIfNotEmpty,
+}
+
+fn walk(mistake: Walk, section: &Section, tree: &Tree) -> Result<(bool, usize), Refusal> {
+    let book = RuleBook::paper();
+    match (&tree.rule, &tree.below[..]) {
+        (Rule::Phrase { words, query }, _) => {
+            let list = rules::phrase(section, words, *query);
+            if mistake == Walk::MeasuresPhrases && list.len() > 256 {
+                return Err(Refusal { number: 9, place: tree.place as u32 });
+            }
+            Ok((!list.is_empty(), 1))
+        }
+        (Rule::Not, [side]) if mistake != Walk::NotBuilds => {
+            let (yes, codes) = walk(mistake, section, side)?;
+            Ok((!yes, codes + usize::from(mistake != Walk::NotUncounted)))
+        }
+        (Rule::Or | Rule::And, [left, right]) => {
+            let (left, right) = if mistake == Walk::RightFirst { (right, left) } else { (left, right) };
+            let decisive = tree.rule == Rule::Or;
+            let (yes, codes) = walk(mistake, section, left)?;
+            let both = match tree.rule {
+                Rule::Or => mistake == Walk::BothSidesOfOr,
+                _ => mistake == Walk::BothSidesOfAnd,
+            };
+            if yes == decisive && !both {
+                return Ok((yes, 1 + codes));
+            }
+            let (other, more) = walk(mistake, section, right)?;
+            Ok((if decisive { yes || other } else { yes && other }, 1 + codes + more))
+        }
+        _ => {
+            let list = book.build(section, tree)?;
+            let yes = if mistake == Walk::YesIfNotEmpty { !list.is_empty() } else { rules::is_yes(&list) };
+            Ok((yes, if mistake == Walk::BuiltPartCountsOne { 1 } else { tree.count() }))
+        }
+    }
+}
+
+fn mutants_of_calls(list: &mut Mutants) {
+    list.quick("quick: 9 for a long phrase list", |section, selection, work| {
+        walked(section, selection, work, |section, tree| walk(Walk::MeasuresPhrases, section, tree))
+    });
+    list.quick("quick: both sides of an or", |section, selection, work| {
+        walked(section, selection, work, |section, tree| walk(Walk::BothSidesOfOr, section, tree))
+    });
+    list.quick("quick: both sides of an and", |section, selection, work| {
+        walked(section, selection, work, |section, tree| walk(Walk::BothSidesOfAnd, section, tree))
+    });
+    list.quick("quick: right side first", |section, selection, work| {
+        walked(section, selection, work, |section, tree| walk(Walk::RightFirst, section, tree))
+    });
+    list.quick("quick: a built part counts one", |section, selection, work| {
+        walked(section, selection, work, |section, tree| walk(Walk::BuiltPartCountsOne, section, tree))
+    });
+    list.quick("quick: a not isn't counted", |section, selection, work| {
+        walked(section, selection, work, |section, tree| walk(Walk::NotUncounted, section, tree))
+    });
+    list.quick("quick: a not is built", |section, selection, work| {
+        walked(section, selection, work, |section, tree| walk(Walk::NotBuilds, section, tree))
+    });
+    list.quick("quick: a built list is yes if it isn't empty", |section, selection, work| {
+        walked(section, selection, work, |section, tree| walk(Walk::YesIfNotEmpty, section, tree))
+    });
+    list.quick("quick: words counted in a built part", |section, selection, work| {
+        walked(section, selection, work, |section, tree| {
+            let (yes, codes) = RuleBook::paper().walk(section, tree)?;
+            Ok((yes, if tree.rule.is_built() { tree.codes().len() } else { codes }))
+        })
+    });
+    list.quick("quick: the whole listing made for it", |section, selection, work| {
+        walked(section, selection, work, |section, tree| {
+            RuleBook::paper().build(section, tree)?;
+            RuleBook::paper().walk(section, tree)
+        })
+    });
+    list.quick("quick: the whole count always", |section, selection, work| {
+        walked(section, selection, work, |section, tree| Ok((RuleBook::paper().walk(section, tree)?.0, tree.count())))
+    });
+    list.listing("listing: the place of 9 without words", |section, selection, work, buffer| {
+        match engine::listing(section, selection, work, buffer) {
+            Listing::Refused { number: 9, place } => {
+                let words = selection[1..=place as usize].iter().filter(|&&kind| kind == 0).count() as u32;
+                Listing::Refused { number: 9, place: place - words }
+            }
+            other => other,
+        }
+    });
+    list.listing("listing: the rest of the buffer cleared", |section, selection, work, buffer| {
+        let answer = engine::listing(section, selection, work, buffer);
+        if let Listing::Listed { matches, strings, .. } = answer {
+            buffer[(2 + matches + 2 * strings) as usize..].fill(0);
+        }
+        answer
+    });
+    list.listing("listing: one number more written", |section, selection, work, buffer| {
+        let answer = engine::listing(section, selection, work, buffer);
+        if let Listing::Listed { matches, strings, .. } = answer {
+            if let Some(number) = buffer.get_mut((2 + matches + 2 * strings) as usize) {
+                *number = 0;
+            }
+        }
+        answer
+    });
+    list.listing("listing: the buffer cleared before a 9", |section, selection, work, buffer| {
+        let answer = engine::listing(section, selection, work, buffer);
+        if let Listing::Refused { number: 9, .. } = answer {
+            buffer[0] = 0;
+        }
+        answer
+    });
+    list.listing("listing: yes if the list isn't empty", |section, selection, work, buffer| {
+        match engine::listing(section, selection, work, buffer) {
+            Listing::Listed { matches, strings, .. } => Listing::Listed { matches, strings, yes: matches > 0 },
+            other => other,
+        }
+    });
+    list.listing("listing: yes only with an include", |section, selection, work, buffer| {
+        match engine::listing(section, selection, work, buffer) {
+            Listing::Listed { matches, strings, yes } => Listing::Listed { matches, strings, yes: yes && strings > 0 },
+            other => other,
+        }
+    });
+    list.snippet("snippet: one word too few", |section, from, to| engine::snippet(section, from, to.saturating_sub(1)));
+    list.snippet("snippet: the section's units unchecked", |section, from, to| {
+        let long = section.first().is_some_and(|&n| section.len() == 1 + 2 * n as usize && to <= n);
+        if long && 1 <= from && from <= to {
+            &section[from as usize..=to as usize]
+        } else {
+            &section[..0]
+        }
+    });
+    list.snippet("snippet: a copy, not a part", |section, from, to| {
+        // leaked, to live as long as the section
+        Box::leak(engine::snippet(section, from, to).to_vec().into_boxed_slice())
+    });
+    list.snippet("snippet: from 0 on", |section, from, to| engine::snippet(section, from.max(1), to));
+    list.snippet("snippet: cut at the end", |section, from, to| {
+        engine::snippet(section, from, to.min(section.first().copied().unwrap_or(0)))
+    });
+}
+
+// The checks
+
+type Refuse = fn(&[u32], &[u32], usize, Option<usize>) -> Option<(u32, usize)>;
+type Repair = fn(&[u32]) -> Vec<u32>;
+
+/// An engine that first refuses in its own way, or accepts a changed input.
+struct Checks {
+    refuse: Refuse,
+    repair_section: Repair,
+    repair_selection: Repair,
+    repair_work: fn(usize) -> usize,
+}
+
+impl Engine for Checks {
+    fn listing(&self, section: &[u32], selection: &[u32], work: &mut [u32], buffer: &mut [u32]) -> Listing {
+        if let Some((number, place)) = (self.refuse)(section, selection, work.len(), Some(buffer.len())) {
+            return Listing::Refused { number, place: place as u32 };
+        }
+        let work = (self.repair_work)(work.len());
+        engine::listing(&(self.repair_section)(section), &(self.repair_selection)(selection), work, buffer)
+    }
+
+    fn quick(&self, section: &[u32], selection: &[u32], work: &mut [u32]) -> Quick {
+        if let Some((number, place)) = (self.refuse)(section, selection, work.len(), None) {
+            return Quick::Refused { number, place: place as u32 };
+        }
+        let work = (self.repair_work)(work.len());
+        engine::quick(&(self.repair_section)(section), &(self.repair_selection)(selection), work)
+    }
+
+    fn snippet<'a>(&self, section: &'a [u32], from: u32, to: u32) -> &'a [u32] {
+        engine::snippet(section, from, to)
+    }
+}
+
+fn right_checks() -> Checks {
+    Checks {
+        refuse: |_, _, _, _| None,
+        repair_section: <[u32]>::to_vec,
+        repair_selection: <[u32]>::to_vec,
+        repair_work: |work| work,
+    }
+}
+
+/// The right refusal of section and selection, if any.
+fn refusal(section: &[u32], selection: &[u32]) -> Option<(u32, usize)> {
+    let refused = check(section, selection, WORK, None).err()?;
+    Some((refused.number, refused.place as usize))
+}
+
+fn kinds_and_operands(selection: &[u32]) -> impl Iterator<Item = (usize, u32, u32)> + '_ {
+    let m = selection[0] as usize;
+    (1..=m).map(move |at| (at, selection[at], selection[at + m]))
+}
+
+fn mutants_of_checks(list: &mut Mutants) {
+    list.repairing_section("checks: 1 + 2n wraps round", |section| {
+        let mut repaired = section.to_vec();
+        if let Some(n) = repaired.first_mut() {
+            *n &= 0x7FFF_FFFF;
+        }
+        repaired
+    });
+    list.repairing_selection("checks: 1 + 2m wraps round", |selection| {
+        let mut repaired = selection.to_vec();
+        if let Some(m) = repaired.first_mut() {
+            *m &= 0x7FFF_FFFF;
+        }
+        repaired
+    });
+    list.refusing("checks: n = 0 refused", |section, _, _, _| (section == [0]).then_some((1, 0)));
+    list.refusing("checks: n = 4,096 refused", |section, _, _, _| (section.first() == Some(&4_096)).then_some((1, 0)));
+    list.repairing_section("checks: n = 4,097 accepted", |section| match section::read(section) {
+        Err(Refusal { number: 1, .. }) if section.len() == 1 + 2 * 4_097 && section[0] == 4_097 => vec![0],
+        _ => section.to_vec(),
+    });
+    list.refusing("checks: sentences all before paragraphs", |section, _, _, _| {
+        let Err(Refusal { number: 2, .. }) = section::read(section) else { return None };
+        let n = section[0] as usize;
+        let only = |change: fn(u32) -> u32| {
+            let places = section[1 + n..].iter().map(|&place| change(place));
+            let changed: Vec<u32> = section[..1 + n].iter().copied().chain(places).collect();
+            section::read(&changed).err().map(|refused| (2, refused.place as usize))
+        };
+        only(|place| place & 0xFFFF).or_else(|| only(|place| place & 0xFFFF_0000))
+    });
+    list.repairing_section("checks: a zero after nonzero ones alone is faulty", |section| {
+        let Err(Refusal { number: 2, place }) = section::read(section) else { return section.to_vec() };
+        let n = section[0] as usize;
+        let (before, here) = (section[n + place as usize - 1], section[n + place as usize]);
+        let falls = here >> 16 < before >> 16 || here & 0xFFFF < before & 0xFFFF;
+        if falls {
+            section.to_vec()
+        } else {
+            vec![0]
+        }
+    });
+    list.refusing("checks: position 1 can be faulty", |section, _, _, _| {
+        let n = *section.first()? as usize;
+        let place = section::read(section).ok().and_then(|_| section.get(1 + n))?;
+        ((place >> 16 == 0) != (place & 0xFFFF == 0)).then_some((2, 1))
+    });
+    list.refusing("checks: m = 64 refused", |section, selection, _, _| {
+        (section::read(section).is_ok() && selection.first() == Some(&64)).then_some((3, 0))
+    });
+    list.refusing("checks: 4 and 5 in one scan", |section, selection, _, _| {
+        let (4 | 5, _) = refusal(section, selection)? else { return None };
+        kinds_and_operands(selection).find_map(|(at, kind, operand)| match kind {
+            16.. => Some((4, at)),
+            _ => (!selection::operand_in_table(selection::Code { kind, operand })).then_some((5, at)),
+        })
+    });
+    list.repairing_selection("checks: kinds by 8 bits", |selection| {
+        let mut repaired = selection.to_vec();
+        let m = selection.first().map_or(0, |&m| m as usize);
+        if selection.len() == 1 + 2 * m {
+            repaired[1..=m].iter_mut().for_each(|kind| *kind &= 0xFF);
+        }
+        repaired
+    });
+    list.repairing_selection("checks: an operand of a plain filter isn't looked at", |selection| {
+        let mut repaired = selection.to_vec();
+        let m = selection.first().map_or(0, |&m| m as usize);
+        if selection.len() == 1 + 2 * m {
+            for at in 1..=m {
+                if selection[at] >= 9 {
+                    repaired[at + m] = 0;
+                }
+            }
+        }
+        repaired
+    });
+    list.repairing_selection("checks: distance a > b accepted", |selection| {
+        let mut repaired = selection.to_vec();
+        let m = selection.first().map_or(0, |&m| m as usize);
+        if selection.len() == 1 + 2 * m {
+            for at in 1..=m {
+                let (a, b) = (selection[at + m] >> 16, selection[at + m] & 0xFFFF);
+                if selection[at] == 8 && a > b && a <= 4_095 {
+                    repaired[at + m] = b << 16 | b;
+                }
+            }
+        }
+        repaired
+    });
+    list.repairing_selection("checks: distance b = 4,096 accepted", |selection| {
+        let mut repaired = selection.to_vec();
+        let m = selection.first().map_or(0, |&m| m as usize);
+        if selection.len() == 1 + 2 * m {
+            for at in 1..=m {
+                if selection[at] == 8 && selection[at + m] & 0xFFFF == 4_096 && selection[at + m] >> 16 <= 4_095 {
+                    repaired[at + m] -= 1;
+                }
+            }
+        }
+        repaired
+    });
+    list.refusing("checks: window 4,096 refused", |section, selection, _, _| match refusal(section, selection) {
+        Some((1..=4, _)) => None,
+        _ => kinds_and_operands(selection)
+            .find_map(|(at, kind, operand)| (kind == 7 && operand == 4_096).then_some((5, at))),
+    });
+    list.refusing("checks: a seventh waiting list is the last", |section, selection, _, _| {
+        if let Some((1..=5, _)) = refusal(section, selection) {
+            return None;
+        }
+        let (mut waiting, mut found) = (0i32, None);
+        for (at, kind, _) in kinds_and_operands(selection) {
+            waiting += match kind {
+                1 => 1,
+                2 | 3 | 5 => -1,
+                _ => 0,
+            };
+            if waiting == 8 && found.is_none() {
+                found = Some((6, at));
+            }
+        }
+        match refusal(section, selection) {
+            Some((6, place)) if found.is_none_or(|(_, at)| at > place) => None,
+            _ => found,
+        }
+    });
+    list.refusing("checks: a wrong end is at m + 1", |section, selection, _, _| match refusal(section, selection) {
+        Some((6, place)) if place == selection[0] as usize && selection[place] <= 1 => Some((6, place + 1)),
+        _ => None,
+    });
+    list.refusing("checks: the last such kind 5", |section, selection, _, _| match refusal(section, selection) {
+        Some((7, _)) => {
+            kinds_and_operands(selection).filter(|(_, kind, _)| *kind == 5).last().map(|(at, _, _)| (7, at))
+        }
+        _ => None,
+    });
+    list.refusing("checks: the place of the not, not of the mild not", |section, selection, _, _| {
+        match refusal(section, selection) {
+            Some((7, _)) => kinds_and_operands(selection).find(|(_, kind, _)| *kind == 4).map(|(at, _, _)| (7, at)),
+            _ => None,
+        }
+    });
+    list.refusing("checks: any kind 4 before a kind 5", |section, selection, _, _| {
+        if refusal(section, selection).is_some() {
+            return None;
+        }
+        let not = kinds_and_operands(selection).find(|(_, kind, _)| *kind == 4)?.0;
+        kinds_and_operands(selection).find(|(at, kind, _)| *kind == 5 && *at > not).map(|(at, _, _)| (7, at))
+    });
+    list.refusing("checks: 8 before 3", |section, _, work, buffer| {
+        let short = work < WORK || buffer.is_some_and(|length| length < BUFFER);
+        (section::read(section).is_ok() && short).then_some((8, 0))
+    });
+    list.engine(
+        "checks: working memory of 12,799 accepted",
+        Checks { repair_work: |work| if work == WORK - 1 { WORK } else { work }, ..right_checks() },
+    );
+    list.refusing("checks: working memory of 12,800 refused", |section, selection, work, _| {
+        (refusal(section, selection).is_none() && work == WORK).then_some((8, 0))
+    });
+    list.refusing("checks: a buffer of 1,282 refused", |section, selection, _, buffer| {
+        (refusal(section, selection).is_none() && buffer == Some(BUFFER)).then_some((8, 0))
+    });
+    list.listing("checks: a buffer of 1,281 accepted", |section, selection, work, buffer| {
+        if buffer.len() != BUFFER - 1 {
+            return engine::listing(section, selection, work, buffer);
+        }
+        let mut longer = [&buffer[..], &[0]].concat();
+        let answer = engine::listing(section, selection, work, &mut longer);
+        buffer.copy_from_slice(&longer[..BUFFER - 1]);
+        answer
+    });
+}

@@ -1,0 +1,190 @@
+//! Random cases: what they hold, and that the second engine agrees with itself and with the unlimited lists on them.
+
+use second_engine::gen::{self, Case};
+use second_engine::selection::{self, Rule, Tree};
+use second_engine::{cases, engine, hunt, section, text, Listing, Quick, SecondEngine, BUFFER, WORK};
+use std::collections::BTreeMap;
+use std::time::Instant;
+
+/// 100,000 in release, fewer without optimisation; or as the environment says: `CASES=1000000 SEED=7 cargo test ...`.
+fn how_many() -> usize {
+    number("CASES").unwrap_or(if cfg!(debug_assertions) { 5_000 } else { 100_000 }) as usize
+}
+
+fn number(variable: &str) -> Option<u64> {
+    std::env::var(variable).ok()?.parse().ok()
+}
+
+#[test]
+fn the_second_engine_agrees_with_itself() {
+    let begun = Instant::now();
+    if let Err(wrong) = hunt(&SecondEngine::new(), number("SEED").unwrap_or(1), how_many()) {
+        panic!("{wrong}");
+    }
+    println!("{} cases in {:?}", how_many(), begun.elapsed());
+}
+
+/// A case depends on its seed and its index alone.
+#[test]
+fn cases_can_be_made_again() {
+    let first: Vec<Case> = cases(7, 300).collect();
+    let again: Vec<Case> = cases(7, 300).collect();
+    assert!(first == again);
+    assert!(first[299] == gen::case(7, 299));
+    let other: Vec<Case> = cases(8, 300).collect();
+    assert!(first != other);
+}
+
+/// Counts what the cases are about: every answer, refusal, kind and limit must be met, and often enough.
+#[test]
+fn cases_meet_everything() {
+    let mut met: BTreeMap<String, usize> = BTreeMap::new();
+    let mut meet = |what: String| *met.entry(what).or_insert(0) += 1;
+    let count = how_many() / 5;
+    for case in cases(2, count) {
+        let mut buffer = case.buffer.clone();
+        match second_engine::listing(&case.section, &case.selection, case.work_len, &mut buffer) {
+            Listing::Refused { number, .. } => meet(format!("listing refused {number}")),
+            Listing::Listed { matches, strings, yes } => {
+                meet(format!("listed {}", if yes { "yes" } else { "no" }));
+                meet(format!("matches {}", bucket(matches, 256)));
+                meet(format!("strings {}", bucket(strings, 512)));
+                if buffer[2..2 + matches as usize].contains(&0) {
+                    meet("a match without strings".into());
+                }
+                let tags = &buffer[(2 + matches + strings) as usize..(2 + matches + 2 * strings) as usize];
+                if tags.iter().any(|tag| tag & 3 == 3) && tags.iter().any(|tag| tag & 3 == 2) {
+                    meet("includes and excludes".into());
+                }
+                if tags.iter().any(|tag| tag & 3 == 1) {
+                    meet("an exclude that isn't contiguous".into());
+                }
+            }
+        }
+        match second_engine::quick(&case.section, &case.selection, case.work_len) {
+            Quick::Refused { number, .. } => meet(format!("quick refused {number}")),
+            Quick::Answered { yes, codes } => {
+                let tree = selection::read(&case.selection).unwrap();
+                meet(format!(
+                    "quick {yes}, {}",
+                    if codes as usize == tree.count() { "all codes" } else { "some codes" }
+                ));
+            }
+        }
+        if let Ok(section) = section::read(&case.section) {
+            meet(format!("n {}", bucket(section.n(), 4_096)));
+        }
+        if let Ok(tree) = selection::read(&case.selection) {
+            meet(format!("waiting {}", waiting(&tree)));
+            let m = case.selection[0];
+            meet(format!("m {}", if m == 64 { "64".into() } else { format!("{}0s", m / 10) }));
+            if let Some(lists) = engine::unlimited_lists(&case.section, &case.selection) {
+                let kinds: Vec<(usize, u32)> = (1..=m as usize).map(|at| (at, case.selection[at])).collect();
+                for code in &lists {
+                    let kind = kinds.iter().find(|(at, _)| *at == code.place).unwrap().1;
+                    match &code.list {
+                        Some(list) if list.is_empty() => meet(format!("kind {kind:2} empty")),
+                        Some(list) if list.iter().any(|m| !m.excludes.is_empty()) => {
+                            meet(format!("kind {kind:2} with excludes"))
+                        }
+                        Some(_) => meet(format!("kind {kind:2} without excludes")),
+                        None => meet(format!("kind {kind:2} too large or unknown")),
+                    }
+                }
+            }
+        }
+        meet(format!("work {}", length(case.work_len, WORK)));
+        meet(format!("buffer {}", length(case.buffer.len(), BUFFER)));
+    }
+    for (what, times) in &met {
+        println!("{times:7}  {what}");
+    }
+
+    let mut needed: Vec<String> = (1..=9).map(|number| format!("listing refused {number}")).collect();
+    needed.extend((1..=9).map(|number| format!("quick refused {number}")));
+    needed.extend((1..=15).map(|kind| format!("kind {kind:2} without excludes")).filter(|what| !what.contains(" 4 ")));
+    needed.extend((2..=15).filter(|kind| *kind != 5).map(|kind| format!("kind {kind:2} with excludes")));
+    needed.extend((1..=8).map(|lists| format!("waiting {lists}")));
+    let others = [
+        "listed yes",
+        "listed no",
+        "matches 256",
+        "matches 255",
+        "strings 512",
+        "strings 511",
+        "n 0",
+        "n 4096",
+        "m 64",
+        "a match without strings",
+        "an exclude that isn't contiguous",
+        "includes and excludes",
+        "quick true, some codes",
+        "quick false, some codes",
+        "quick true, all codes",
+        "quick false, all codes",
+        "work one too short",
+        "work one more",
+        "buffer one too short",
+        "buffer one more",
+    ];
+    needed.extend(others.map(String::from));
+    if count < 20_000 {
+        println!("too few cases to judge by");
+        return;
+    }
+    for what in needed {
+        let times = met.get(&what).copied().unwrap_or(0);
+        assert!(times * 10_000 >= count, "met only {times} times in {count}: {what}");
+    }
+}
+
+fn bucket(number: u32, limit: u32) -> String {
+    match number {
+        0 | 1 => number.to_string(),
+        2..=9 => "2 to 9".into(),
+        _ if number + 2 >= limit => number.to_string(),
+        _ => "10 and more".into(),
+    }
+}
+
+fn length(length: usize, needed: usize) -> &'static str {
+    match length {
+        0 => "none",
+        _ if length + 1 == needed => "one too short",
+        _ if length < needed => "too short",
+        _ if length == needed => "just enough",
+        _ if length == needed + 1 => "one more",
+        _ => "more",
+    }
+}
+
+/// How many lists wait at most.
+fn waiting(tree: &Tree) -> usize {
+    match &tree.rule {
+        Rule::Phrase { .. } => 1,
+        _ => tree.below.iter().enumerate().map(|(already, side)| already + waiting(side)).max().unwrap(),
+    }
+}
+
+/// The program's printing of random bytes has the form that the paper gives, and says what the listing says.
+#[test]
+fn random_bytes() {
+    for bytes in gen::inputs(3, how_many() / 10) {
+        let printed = text::ftlist(&bytes);
+        assert!(printed.ends_with('\n'));
+        let lines: Vec<&str> = printed.lines().collect();
+        let head: Vec<&str> = lines[0].split(' ').collect();
+        assert_eq!(head.len(), 3);
+        match head[0] {
+            "refused" => assert_eq!(lines.len(), 1),
+            "yes" | "no" => {
+                assert_eq!(lines.len(), 1 + head[1].parse::<usize>().unwrap());
+                let strings: usize = lines[1..].iter().map(|line| line.matches('q').count()).sum();
+                assert_eq!(strings, head[2].parse::<usize>().unwrap());
+                let without_exclude = lines[1..].iter().any(|line| !line.contains('!'));
+                assert_eq!(without_exclude, head[0] == "yes");
+            }
+            other => panic!("{other}"),
+        }
+    }
+}

@@ -1,0 +1,308 @@
+//! Every refusal with an accepted neighbour, and the order in which they are tried.
+
+mod common;
+
+use common::*;
+use second_engine::{engine, Listing, Quick, BUFFER, WORK};
+
+/// The refusal that both calls give for these inputs, or `None` if both accept them.
+fn refused(section: &[u32], selection: &[u32]) -> Option<(u32, u32)> {
+    refused_with(section, selection, WORK, BUFFER)
+}
+
+fn refused_with(section: &[u32], selection: &[u32], work: usize, buffer: usize) -> Option<(u32, u32)> {
+    let before: Vec<u32> = (0..buffer as u32).map(|number| number ^ 0x5555).collect();
+    let mut after = before.clone();
+    let listing = match second_engine::listing(section, selection, work, &mut after) {
+        Listing::Listed { .. } => None,
+        Listing::Refused { number, place } => {
+            assert_eq!(before, after, "a refusal leaves the buffer unchanged");
+            Some((number, place))
+        }
+    };
+    let quick = match second_engine::quick(section, selection, work) {
+        Quick::Answered { .. } => None,
+        Quick::Refused { number, place } => Some((number, place)),
+    };
+    // the quick answer has no buffer and fewer limits
+    match listing {
+        Some((9, _)) => {}
+        Some((8, 0)) if work >= WORK => assert_eq!(quick, None),
+        _ => assert_eq!(listing, quick),
+    }
+    listing
+}
+
+fn ok() -> Vec<u32> {
+    word(10).numbers()
+}
+
+#[test]
+fn one_section_size() {
+    assert_eq!(refused(&[], &ok()), Some((1, 0)));
+    assert_eq!(refused(&[0], &ok()), None);
+    assert_eq!(refused(&[0, 0], &ok()), Some((1, 0)));
+    assert_eq!(refused(&[1, 10, 0], &ok()), None);
+    assert_eq!(refused(&[1, 10], &ok()), Some((1, 0)));
+    assert_eq!(refused(&[1, 10, 0, 0], &ok()), Some((1, 0)));
+    assert_eq!(refused(&[2, 10, 0], &ok()), Some((1, 0)));
+    assert_eq!(refused(&[0, 10, 0], &ok()), Some((1, 0)));
+    assert_eq!(refused(&plain(&[1; 4_096]), &ok()), None);
+    assert_eq!(refused(&plain(&[1; 4_097]), &ok()), Some((1, 0)));
+    // 1 + 2n doesn't wrap round
+    assert_eq!(refused(&[1 << 31], &ok()), Some((1, 0)));
+    assert_eq!(refused(&[(1 << 31) + 1, 10, 0], &ok()), Some((1, 0)));
+    assert_eq!(refused(&[u32::MAX], &ok()), Some((1, 0)));
+}
+
+#[test]
+fn two_units() {
+    let sentences = |sentences: &[u32]| section(&vec![1; sentences.len()], sentences, &vec![0; sentences.len()]);
+    let paragraphs = |paragraphs: &[u32]| section(&vec![1; paragraphs.len()], &vec![3; paragraphs.len()], paragraphs);
+    for units in [sentences, paragraphs] {
+        for accepted in [&[][..], &[0], &[65_535], &[0, 0, 0], &[1, 1, 2], &[5, 5, 65_535], &[7, 8, 9]] {
+            assert_eq!(refused(&units(accepted), &ok()), None, "{accepted:?}");
+        }
+        let faulty = [
+            (&[2, 1][..], 2),
+            (&[1, 2, 1], 3),
+            (&[0, 1], 2),
+            (&[1, 0], 2),
+            (&[0, 0, 1, 0], 3),
+            (&[1, 1, 0, 0], 3),
+            (&[3, 2, 1], 2),
+            (&[65_535, 65_534], 2),
+        ];
+        for (units_refused, place) in faulty {
+            assert_eq!(refused(&units(units_refused), &ok()), Some((2, place)), "{units_refused:?}");
+        }
+    }
+    // one scan, both countings at each position
+    assert_eq!(refused(&section(&[1; 3], &[1, 1, 0], &[1, 0, 0]), &ok()), Some((2, 2)));
+    assert_eq!(refused(&section(&[1; 3], &[1, 0, 0], &[1, 1, 0]), &ok()), Some((2, 2)));
+    // each counting by itself: the one may be zero where the other isn't, and rise where the other doesn't
+    assert_eq!(refused(&section(&[1; 3], &[0, 0, 0], &[1, 2, 3]), &ok()), None);
+    assert_eq!(refused(&section(&[1; 3], &[1, 2, 3], &[9, 9, 9]), &ok()), None);
+}
+
+#[test]
+fn three_selection_size() {
+    let six = six_tokens();
+    assert_eq!(refused(&six, &[]), Some((3, 0)));
+    assert_eq!(refused(&six, &[0]), Some((3, 0)));
+    assert_eq!(refused(&six, &[2, 0, 1, 10, 1]), None);
+    assert_eq!(refused(&six, &[2, 0, 1, 10]), Some((3, 0)));
+    assert_eq!(refused(&six, &[2, 0, 1, 10, 1, 0]), Some((3, 0)));
+    assert_eq!(refused(&six, &[1, 0, 1, 10, 1]), Some((3, 0)));
+    assert_eq!(refused(&six, &[3, 0, 1, 10, 1]), Some((3, 0)));
+    let nots = |m: usize| (2..m).fold(word(99), |selection, _| selection.not()).numbers();
+    assert_eq!(refused(&six, &nots(64)), None);
+    assert_eq!(refused(&six, &nots(65)), Some((3, 0)));
+    assert_eq!(refused(&six, &[1 << 31]), Some((3, 0)));
+    assert_eq!(refused(&six, &[(1 << 31) + 2, 0, 1, 10, 1]), Some((3, 0)));
+    assert_eq!(refused(&six, &[u32::MAX]), Some((3, 0)));
+}
+
+#[test]
+fn four_kinds() {
+    let six = six_tokens();
+    assert_eq!(refused(&six, &word(10).then(15, 0).numbers()), None);
+    for kind in [16, 17, 255, 256, 65_536, 1 << 31, (1 << 31) + 4, u32::MAX] {
+        assert_eq!(refused(&six, &word(10).then(kind, 0).numbers()), Some((4, 3)));
+        assert_eq!(refused(&six, &word(10).then(kind, 0).then(kind, 0).numbers()), Some((4, 3)));
+    }
+}
+
+#[test]
+fn five_operands() {
+    let six = six_tokens();
+    for any in [0, 1, 1 << 31, u32::MAX] {
+        assert_eq!(refused(&six, &word(any).numbers()), None);
+    }
+    // phrases
+    assert_eq!(refused(&six, &phrase(&[1; 8]).numbers()), None);
+    assert_eq!(refused(&six, &word(1).then(0, 1).then(1, 0).numbers()), Some((5, 4)));
+    assert_eq!(refused(&six, &[2, 0, 1, 10, 0]), Some((5, 2)));
+    assert_eq!(refused(&six, &[2, 0, 1, 10, 9]), Some((5, 2)));
+    // 8 is within the table, but not the number of loose words
+    assert_eq!(refused(&six, &[2, 0, 1, 10, 8]), Some((6, 2)));
+    // combinations and plain filters
+    for kind in [2, 3, 5] {
+        let mut both = word(1);
+        both.0.extend(word(2).0);
+        assert_eq!(refused(&six, &both.clone().then(kind, 0).numbers()), None);
+        for operand in [1, 1 << 16, u32::MAX] {
+            assert_eq!(refused(&six, &both.clone().then(kind, operand).numbers()), Some((5, 5)));
+        }
+    }
+    for kind in [4, 6, 9, 10, 11, 12, 13, 14, 15] {
+        assert_eq!(refused(&six, &word(1).then(kind, 0).numbers()), None);
+        for operand in [1, 1 << 16, u32::MAX] {
+            assert_eq!(refused(&six, &word(1).then(kind, operand).numbers()), Some((5, 3)));
+        }
+    }
+    // windows
+    for size in [1, 4_096] {
+        assert_eq!(refused(&six, &word(99).window(size).numbers()), None);
+    }
+    for size in [0, 4_097, 65_536, u32::MAX] {
+        assert_eq!(refused(&six, &word(99).window(size).numbers()), Some((5, 3)));
+    }
+    // distances
+    for (a, b) in [(0, 0), (0, 4_095), (4_095, 4_095), (1, 1), (0, 1)] {
+        assert_eq!(refused(&six, &word(99).distance(a, b).numbers()), None);
+    }
+    for (a, b) in [(1, 0), (0, 4_096), (4_095, 4_096), (4_096, 4_096), (4_096, 4_095), (65_535, 65_535), (65_535, 0)] {
+        assert_eq!(refused(&six, &word(99).distance(a, b).numbers()), Some((5, 3)));
+    }
+}
+
+#[test]
+fn six_shape() {
+    let six = six_tokens();
+    // kind 0 needs p < 8
+    assert_eq!(refused(&six, &phrase(&[1; 8]).numbers()), None);
+    let nine_words = Selection(phrase(&[1; 8]).0[..8].to_vec()).then(0, 1).then(1, 8);
+    assert_eq!(refused(&six, &nine_words.numbers()), Some((6, 9)));
+    // kind 1 needs p = k
+    assert_eq!(refused(&six, &[3, 0, 0, 1, 10, 20, 2]), None);
+    assert_eq!(refused(&six, &[3, 0, 0, 1, 10, 20, 1]), Some((6, 3)));
+    assert_eq!(refused(&six, &[3, 0, 0, 1, 10, 20, 3]), Some((6, 3)));
+    assert_eq!(refused(&six, &[1, 1, 1]), Some((6, 1)));
+    // kind 1 needs w < 8
+    let waiting = |lists: usize| Selection((0..lists).flat_map(|_| word(99).0).collect());
+    let combined = |lists: usize| (1..lists).fold(waiting(lists), |selection, _| selection.then(2, 0));
+    assert_eq!(refused(&six, &combined(8).numbers()), None);
+    assert_eq!(refused(&six, &combined(9).numbers()), Some((6, 18)));
+    // other kinds need p = 0
+    for kind in [2, 3, 4, 5, 6, 9, 15] {
+        let mut loose = waiting(2).then(0, 1).then(kind, 0);
+        assert_eq!(refused(&six, &loose.numbers()), Some((6, 6)));
+        loose.0.remove(4);
+        let end = if [2, 3, 5].contains(&kind) { loose } else { loose.then(2, 0) };
+        assert_eq!(refused(&six, &end.numbers()), None);
+    }
+    // kinds 2, 3 and 5 need w ≥ 2, the rest w ≥ 1
+    for kind in [2, 3, 5] {
+        assert_eq!(refused(&six, &word(1).then(kind, 0).numbers()), Some((6, 3)));
+        assert_eq!(refused(&six, &[1, kind, 0]), Some((6, 1)));
+    }
+    for kind in [4, 6, 10, 13] {
+        assert_eq!(refused(&six, &[1, kind, 0]), Some((6, 1)));
+        assert_eq!(refused(&six, &word(1).then(kind, 0).numbers()), None);
+    }
+    // "m if only the end does"
+    assert_eq!(refused(&six, &waiting(2).numbers()), Some((6, 4)));
+    assert_eq!(refused(&six, &word(1).then(0, 1).numbers()), Some((6, 3)));
+    assert_eq!(refused(&six, &[1, 0, 1]), Some((6, 1)));
+}
+
+#[test]
+fn seven_a_not_under_a_mild_not() {
+    let six = six_tokens();
+    assert_eq!(refused(&six, &word(1).mild_not(word(2)).numbers()), None);
+    assert_eq!(refused(&six, &word(1).mild_not(word(2)).not().numbers()), None);
+    assert_eq!(refused(&six, &word(1).not().or(word(3).mild_not(word(2))).numbers()), None);
+    assert_eq!(refused(&six, &word(1).not().mild_not(word(2)).numbers()), Some((7, 6)));
+    assert_eq!(refused(&six, &word(1).mild_not(word(2).not()).numbers()), Some((7, 6)));
+    // at any depth
+    let deep = word(1).mild_not(word(2).or(word(3).and(word(4).not()).window(3)).ordered());
+    assert_eq!(refused(&six, &deep.numbers()), Some((7, 14)));
+    // the lowest such kind 5: the one in the middle, not the sound one below it, not the one above
+    let sound = word(1).mild_not(word(2));
+    let several = sound.clone().mild_not(word(3).not()).mild_not(word(4));
+    assert_eq!(refused(&six, &several.numbers()), Some((7, 9)));
+    let beside = sound.or(word(3).not()).mild_not(word(4));
+    assert_eq!(refused(&six, &beside.numbers()), Some((7, 12)));
+}
+
+#[test]
+fn eight_memory() {
+    let six = six_tokens();
+    assert_eq!(refused_with(&six, &ok(), WORK, BUFFER), None);
+    assert_eq!(refused_with(&six, &ok(), WORK + 1, BUFFER + 1), None);
+    assert_eq!(refused_with(&six, &ok(), WORK - 1, BUFFER), Some((8, 0)));
+    assert_eq!(refused_with(&six, &ok(), WORK, BUFFER - 1), Some((8, 0)));
+    assert_eq!(refused_with(&six, &ok(), 0, 0), Some((8, 0)));
+    assert_eq!((WORK, BUFFER), (12_800, 1_282));
+}
+
+#[test]
+fn nine_size() {
+    // the first such code built, kind 0 codes counted
+    let many = plain(&[vec![1; 20], vec![2; 20]].concat());
+    let product = word(3).or(word(1).and(word(2)));
+    assert_eq!(refused(&many, &product.clone().numbers()), Some((9, 7)));
+    assert_eq!(refused(&many, &product.clone().and(product).numbers()), Some((9, 7)));
+    // 256 matches of one string
+    assert_eq!(refused(&plain(&[1; 256]), &word(1).numbers()), None);
+    assert_eq!(refused(&plain(&[1; 257]), &word(1).numbers()), Some((9, 2)));
+    // 512 strings in few matches: 2^6 matches of 6 + 2, or 6 + 3 strings
+    let not = word(1).and(word(2)).or(word(3)).not();
+    let counts = |third: usize| plain(&[vec![1; 1], vec![2; 6], vec![3; third]].concat());
+    assert_eq!(lines(&counts(2), &not)[0], "no 64 512");
+    assert_eq!(refused(&counts(3), &not.numbers()), Some((9, 9)));
+    // windows
+    assert_eq!(lines(&plain(&[1]), &word(1).window(256))[0], "yes 256 256");
+    assert_eq!(refused(&plain(&[1]), &word(1).window(257).numbers()), Some((9, 3)));
+}
+
+/// "Tried in this order, each over the whole input before the next."
+#[test]
+fn order() {
+    let six = six_tokens();
+    let faulty_section = section(&[1, 2], &[2, 1], &[0, 0]);
+    let refused_9 = plain(&[7; 300]);
+    assert_eq!(refused_with(&[], &[], 0, 0), Some((1, 0)));
+    assert_eq!(refused_with(&faulty_section, &[], 0, 0), Some((2, 2)));
+    assert_eq!(refused_with(&six, &[], 0, 0), Some((3, 0)));
+    // "kind 2 with operand 1 at code 1 and kind 22 at code 2 is 4 at 2"
+    assert_eq!(refused_with(&six, &[2, 2, 22, 1, 0], 0, 0), Some((4, 2)));
+    assert_eq!(refused_with(&six, &[2, 2, 6, 1, 0], 0, 0), Some((5, 1)));
+    assert_eq!(refused_with(&six, &[2, 2, 6, 0, 1], 0, 0), Some((5, 2)));
+    assert_eq!(refused_with(&six, &[2, 2, 6, 0, 0], 0, 0), Some((6, 1)));
+    // a not under a mild not, in a wrong shape
+    let mild = word(1).not().mild_not(word(2));
+    assert_eq!(refused_with(&six, &mild.clone().then(0, 1).numbers(), 0, 0), Some((6, 7)));
+    assert_eq!(refused_with(&six, &mild.numbers(), 0, 0), Some((7, 6)));
+    assert_eq!(refused_with(&refused_9, &word(7).numbers(), 0, 0), Some((8, 0)));
+    assert_eq!(refused_with(&refused_9, &word(7).numbers(), WORK, BUFFER), Some((9, 2)));
+}
+
+/// The quick answer: "Limits on size hold only for lists built at or under kinds 5 to 15."
+#[test]
+fn nine_in_the_quick_answer() {
+    let many = plain(&[vec![1; 300], vec![2; 300]].concat());
+    let yes = |codes| Quick::Answered { yes: true, codes };
+    let no = |codes| Quick::Answered { yes: false, codes };
+    let refused = |place| Quick::Refused { number: 9, place };
+    assert_eq!(quick(&many, &word(1).and(word(2)).numbers()), yes(3));
+    assert_eq!(quick(&many, &word(1).and(word(2)).not().numbers()), no(4));
+    assert_eq!(quick(&many, &word(1).ordered().numbers()), refused(2));
+    assert_eq!(quick(&many, &word(3).and(word(1)).ordered().numbers()), refused(4));
+    assert_eq!(quick(&many, &word(3).mild_not(word(1)).numbers()), refused(4));
+    // what isn't walked isn't built
+    assert_eq!(quick(&many, &word(1).or(word(1).ordered()).numbers()), yes(2));
+    assert_eq!(quick(&many, &word(3).and(word(1).ordered()).numbers()), no(2));
+    assert_eq!(quick(&many, &word(3).or(word(1).ordered()).numbers()), refused(4));
+    assert_eq!(quick(&many, &word(1).and(word(1).ordered()).numbers()), refused(4));
+    // "The walk ends at its first refusal."
+    assert_eq!(quick(&many, &word(1).ordered().or(word(2).ordered()).numbers()), refused(2));
+}
+
+/// Sizes far beyond every number: counted, never made.
+#[test]
+fn astronomical() {
+    let many = plain(&[vec![1; 16], vec![2; 16]].concat());
+    let not = word(1).and(word(2)).not();
+    assert_eq!(refused(&many, &not.numbers()), Some((9, 6)));
+    let lists = engine::unlimited_lists(&many, &not.numbers()).unwrap();
+    let last = lists.last().unwrap();
+    assert!(last.list.is_none());
+    assert_eq!(last.size.unwrap().matches, u128::MAX, "2^256 stops at the top");
+    // 2^120 is still exact
+    let some = plain(&[vec![1; 10], vec![2; 12]].concat());
+    let lists = engine::unlimited_lists(&some, &not.numbers()).unwrap();
+    assert_eq!(lists.last().unwrap().size.unwrap().matches, 1 << 120);
+    assert_eq!(lists.last().unwrap().size.unwrap().strings, 120 << 120);
+}
