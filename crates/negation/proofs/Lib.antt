@@ -1,0 +1,4 @@
+pub mod Counting
+pub mod Turning
+pub mod Sides
+pub mod Choosing

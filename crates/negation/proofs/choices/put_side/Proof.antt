@@ -1,0 +1,127 @@
+-- Invariant: what is written, and the strings of choice number rest from the matches left, are the strings of choice number c; weight is the number of these
+-- choices (Sides). Measure: n - i. The next match's string is the digit of most weight of rest.
+use Prim.Native.Nat.{_-_, _≤_}
+use native.Mathlib.Omega.{arith}
+use borrow.Author.Needs.{needs}
+use mathlib.Core.Path.{_≡_, refl}
+use lib.ListN.{length}
+use Rattle.store.specs.Stream.{Header}
+use Rattle.negation.specs.Chosen.{SideAt}
+use Rattle.negation.proofs.Sides.{Going, Turn, start, here, turn, step, finish}
+use Rattle.negation.proofs.choices.put_side.Statement.{statement}
+use Rattle.negation.proofs.choices.put_side.Tie as tie
+
+abbrev Inv-loop : tie.InvT-loop
+Inv-loop mem₀ src total c sort at n p₀ q₀ rest₀ weight₀ i₀ mem p q rest weight i =
+    (i ≤ n) × (length mem ≡ length mem₀) × ((w : SideAt mem₀ src total c sort at) → Going (w .list) mem₀ n c sort at mem p q rest weight i)
+
+abbrev μ-loop : tie.MeasureT-loop
+μ-loop mem₀ src total c sort at n p₀ q₀ rest₀ weight₀ i₀ mem p q rest weight i = n - i
+
+-- the header of the match in hand; and the turn's numbers, by its strings
+one : (c : tie.In-loop Inv-loop μ-loop) → Header (c .before .loop .mem) (c .before .loop .p)
+one c = here (c .before .loop .inv .2 (c .before .before .before .before .pre)) (c .loop-test .taken) .held .header
+
+here-turn : (c : tie.After-strings-in Inv-loop μ-loop)
+    → let a = c .before .before .before in Turn (a .loop .mem) (a .before .before .before .args .sort) (a .loop .p) (a .loop .q) (a .loop .rest) (a .loop .weight) (c .strings-in .result)
+here-turn c =
+    let l = c .before .before in
+    turn (l .before .loop .inv .2 (l .before .before .before .before .pre)) (l .loop-test .taken) (c .strings-in .ensures)
+
+mul-n : tie.Need-mul-n Inv-loop μ-loop
+mul-n c = search needs
+
+slice-read-n : tie.Need-slice-read-n Inv-loop μ-loop
+slice-read-n c = search needs
+
+add-p : tie.Need-add-p Inv-loop μ-loop
+add-p c = search needs
+
+loop-holds : tie.Need-loop-holds Inv-loop μ-loop
+loop-holds c = (search needs, refl, λ w. start w)
+
+mul-strings-in : tie.Need-mul-strings-in Inv-loop μ-loop
+mul-strings-in c = omega (arith, one c)
+
+slice-read-strings-in : tie.Need-slice-read-strings-in Inv-loop μ-loop
+slice-read-strings-in c = omega (arith, one (c .before))
+
+strings-in-requires : tie.Need-strings-in-requires Inv-loop μ-loop
+strings-in-requires c κs = search needs
+
+div-weight : tie.Need-div-weight Inv-loop μ-loop
+div-weight c = here-turn c .some
+
+add-put-turned : tie.Need-add-put-turned Inv-loop μ-loop
+add-put-turned c = omega (arith, here-turn (c .before) .ends)
+
+div-put-turned : tie.Need-div-put-turned Inv-loop μ-loop
+div-put-turned c = here-turn (c .before) .weighs
+
+mul-put-turned : tie.Need-mul-put-turned Inv-loop μ-loop
+mul-put-turned c = omega (arith, here-turn (c .before) .digit, here-turn (c .before) .few)
+
+add-put-turned-2 : tie.Need-add-put-turned-2 Inv-loop μ-loop
+add-put-turned-2 c = omega (arith, here-turn (c .before) .digit, here-turn (c .before) .ends)
+
+put-turned-requires : tie.Need-put-turned-requires Inv-loop μ-loop
+put-turned-requires c κs = here-turn (c .before) .turnable
+
+rem-rest : tie.Need-rem-rest Inv-loop μ-loop
+rem-rest c = here-turn (c .before .before .before .before) .weighs
+
+mul-p : tie.Need-mul-p Inv-loop μ-loop
+mul-p c = omega (arith, here-turn (c .before .before .before .before) .few)
+
+add-p-2 : tie.Need-add-p-2 Inv-loop μ-loop
+add-p-2 c = omega (arith, here-turn (c .before .before .before .before) .few)
+
+add-p-3 : tie.Need-add-p-3 Inv-loop μ-loop
+add-p-3 c = omega (arith, here-turn (c .before .before .before .before) .ends)
+
+add-i : tie.Need-add-i Inv-loop μ-loop
+add-i c = search needs
+
+loop-less : tie.Need-loop-less Inv-loop μ-loop
+loop-less c = search needs
+
+loop-again : tie.Need-loop-again Inv-loop μ-loop
+loop-again c =
+    let s = c .before .before .before .before in
+    let l = s .before .before in
+    (search needs, search needs, λ w. step (l .before .loop .inv .2 w) (l .loop-test .taken) (s .strings-in .ensures) (c .before .before .put-turned .ensures))
+
+same-length : tie.Need-same-length Inv-loop μ-loop
+same-length c = search needs
+
+returns : tie.Need-returns Inv-loop μ-loop
+returns c w = finish (c .before .loop .inv .2 w) (c .loop-test .left)
+
+pub put-side-spec : {M : Type 1} → statement M
+put-side-spec =
+    tie.close
+    (tie.spec
+    Inv-loop
+    μ-loop
+    mul-n
+    slice-read-n
+    add-p
+    loop-holds
+    mul-strings-in
+    slice-read-strings-in
+    strings-in-requires
+    div-weight
+    add-put-turned
+    div-put-turned
+    mul-put-turned
+    add-put-turned-2
+    put-turned-requires
+    rem-rest
+    mul-p
+    add-p-2
+    add-p-3
+    add-i
+    loop-less
+    loop-again
+    same-length
+    returns)

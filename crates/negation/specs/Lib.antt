@@ -1,0 +1,4 @@
+pub mod Sizes
+pub mod Turned
+pub mod Chosen
+pub mod Examples

@@ -1,0 +1,67 @@
+// How many matches a not has: the product of the numbers of strings of its operand's matches. The product may be far above any u32, so it is counted with
+// a ceiling; a match without strings makes it 0 all the same, wherever it stands.
+use model::MAX_MATCHES;
+use model::MAX_STRINGS;
+use store::Built;
+ghost use mathlib.Core.Path.{_≡_};
+ghost use Prim.Native.Nat.{_+_, _*_, _≤_};
+ghost use Rattle.model.specs.Choices.{choices};
+ghost use Rattle.model.specs.Limits.{maxStrings};
+ghost use Rattle.model.specs.Rules.{notList};
+ghost use Rattle.store.specs.Built.{builtOf};
+ghost use Rattle.store.specs.Layout.{excludesIn, includesIn};
+ghost use Rattle.store.specs.Slot.{SlotAt};
+ghost use Rattle.negation.specs.Sizes.{capped, ceiling};
+
+// How many strings a match has, by its header.
+pub fn strings_in(header: u32) -> usize
+    ensures { λ r. ⌜ r ≡ includesIn header + excludesIn header ⌝ }
+{
+    store::includes_in(header) + store::excludes_in(header)
+}
+
+// A product, or the first number above the limit of matches, 257, where it is above the limit.
+fn product(total: u32, strings: u32) -> u32
+    requires { ⌜ (total ≤ ceiling) × (strings ≤ maxStrings) ⌝ }
+    ensures { λ r. ⌜ r ≡ capped (total * strings) ⌝ }
+{
+    let exact = total * strings;
+    if exact <= MAX_MATCHES {
+        return exact;
+    }
+    MAX_MATCHES + 1
+}
+
+// The number of choices from the list in the slot at src, up to the ceiling.
+fn count_choices(mem: &[u32], src: usize) -> u32
+    requires { ⌜ SlotAt (now mem) src ⌝ }
+    ensures { λ r. ⌜ ((w : SlotAt (now (mem .entry)) src) → r ≡ capped (choices (w .list))) ⌝ }
+{
+    let n = mem[src];
+    let mut p = src + 2;
+    let mut total = 1;
+    let mut i = 0;
+    while i < n {
+        let strings = strings_in(mem[p]);
+        total = product(total, strings as u32);
+        p += 1 + 2 * strings;
+        i += 1;
+    }
+    total
+}
+
+// The sizes of the not of the list in the slot at src: a string of each of its matches in each choice.
+pub fn not_size(mem: &[u32], src: usize) -> Built
+    requires { ⌜ SlotAt (now mem) src ⌝ }
+    ensures { λ r. ⌜ ((w : SlotAt (now (mem .entry)) src) → r ≡ builtOf (notList (w .list))) ⌝ }
+{
+    let matches = count_choices(mem, src);
+    if MAX_MATCHES < matches {
+        return Built::TooLong;
+    }
+    let strings = matches * mem[src];
+    if MAX_STRINGS < strings {
+        return Built::TooLong;
+    }
+    Built::Made { matches, strings }
+}
