@@ -1,20 +1,18 @@
--- Two spans are in the order of the numbers that they are written as, and a list's neighbours are tested pair by pair.
-use Prim.Native.Nat.{ℕ, _+_, _/_, _%_, _<_, _≤_}
-use native.Mathlib.Numerals.{add-one}
+-- Two spans are in the order of the numbers that they are written as, and their distance is told from these numbers.
+use Prim.Native.Nat.{ℕ, _/_, _%_, _<_, _≤_}
 use native.Mathlib.Omega.{arith}
 use mathlib.Core.Bool.{Bool, true, false, _&&_, _||_}
 use mathlib.Core.List.{List, [], _∷_, map}
 use mathlib.Core.Path.{_≡_, refl, ap, ap₂, sym, _∙_}
 use borrow.Author.Tests.{ltb-true, ltb-false, leb-true, leb-false, eqb-true, eqb-false, le-leb, lt-leb}
 use lib.Dec.{leb, ltb, eqb}
-use lib.ListN.{length, drop, getD, length-drop}
-use lib.Seq.{drop-cons}
 use Rattle.model.specs.AllStrings.{AllStrs, Every}
 use Rattle.model.specs.Answers.{spanOf}
 use Rattle.model.specs.Limits.{radix}
 use Rattle.model.specs.Lists.{neighbours}
 use Rattle.model.specs.Matches.{Str}
 use Rattle.model.specs.Rules.{notAfter, between, distanceOf, within}
+use Rattle.strings.specs.Sorting.{spansWithin}
 use Rattle.strings.specs.Strings.{strOf}
 use Rattle.strings.proofs.StringsLaws.{spanOf-strOf}
 
@@ -43,28 +41,6 @@ module _ (a b t u : ℕ) where
 
 -- ---- neighbours
 
-one-more : (l : List ℕ) (i : ℕ) → i < length l → drop i l ≡ getD l i 0 ∷ drop (i + 1) l
-one-more l i h = rw add-one (drop-cons l i 0 h)
-
-module _ (r : ℕ → ℕ → Bool) (l : List ℕ) (i : ℕ) where
-  pub neighbours-none : length l ≤ i + 1 → neighbours r (drop i l) ≡ true
-  unfolding neighbours
-  neighbours-none h = short (drop i l) (simp length-drop (omega arith))
-    where
-      short : (xs : List ℕ) → length xs ≤ 1 → neighbours r xs ≡ true
-      short [] h = refl
-      short (x ∷ []) h = refl
-      short (x ∷ y ∷ ys) h = absurd (omega arith)
-
-  module _ (more : i + 1 < length l) where
-    pub neighbours-here : r (getD l i 0) (getD l (i + 1) 0) ≡ false → neighbours r (drop i l) ≡ false
-    unfolding neighbours
-    neighbours-here e = rw (one-more l i (omega arith), one-more l (i + 1) more, e)
-
-    pub neighbours-later : r (getD l i 0) (getD l (i + 1) 0) ≡ true → neighbours r (drop i l) ≡ neighbours r (drop (i + 1) l)
-    unfolding neighbours
-    neighbours-later e = rw (one-more l i (omega arith), one-more l (i + 1) more, e)
-
 -- a list's neighbours, and those of a list made of it
 neighbours-map : {A B : Type 0} (P : A → Type 0) (f : A → B) (q : A → A → Bool) (r : B → B → Bool) → ((x y : A) → P x → P y → r (f x) (f y) ≡ q x y)
     → (xs : List A) → Every P xs → neighbours r (map f xs) ≡ neighbours q xs
@@ -84,5 +60,5 @@ distanceOf-spanOf s t h k = rw (start-spanOf s h, end-spanOf s h, start-spanOf t
 
 -- the test on strings, made on their spans
 pub neighbours-spanOf : (least most : ℕ) (ss : List Str) → AllStrs (λ s. s .end < radix) ss
-    → neighbours (λ a b. within least most (distanceOf (strOf a 0) (strOf b 0))) (map spanOf ss) ≡ neighbours (λ s t. within least most (distanceOf s t)) ss
+    → neighbours (spansWithin least most) (map spanOf ss) ≡ neighbours (λ s t. within least most (distanceOf s t)) ss
 neighbours-spanOf least most ss a = neighbours-map _ spanOf _ _ (λ s t h k. ap (within least most) (distanceOf-spanOf s t h k)) ss a

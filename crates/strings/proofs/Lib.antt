@@ -1,7 +1,6 @@
--- Loops over the strings of a part, and runs of stores ..
+-- Loops over the strings of a part ..
 pub mod StringsLaws
-pub mod SetsLaws
--- .. and the laws behind each module of src/.
+-- .. and the laws behind src/.
 pub mod CoveringLaws
 pub mod JoiningLaws
 pub mod DistancesLaws

@@ -17,7 +17,7 @@ ghost use Rattle.model.specs.Rules.{greatestEnd, join, leastStart};
 ghost use Rattle.strings.specs.Strings.{strsAt};
 
 // The lesser of two numbers.
-fn lesser(a: u32, b: u32) -> u32
+pub fn lesser(a: u32, b: u32) -> u32
     ensures { λ r. ⌜ r ≡ min a b ⌝ }
 {
     if a <= b {

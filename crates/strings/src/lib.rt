@@ -4,7 +4,6 @@ pub mod covering;
 pub mod distances;
 pub mod joining;
 pub mod ordering;
-pub mod sorting;
 pub mod spans;
 
 pub use spans::end_of;
