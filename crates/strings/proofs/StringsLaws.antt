@@ -1,6 +1,6 @@
 -- Loops over the strings of a part. What such a loop returns is some function of the strings that are left: the first pair of numbers left is the first
 -- string left, and where less than a pair is left no string is.
-use Prim.Native.Nat.{ℕ, suc, _+_, _-_, _≤_, _<_}
+use Prim.Native.Nat.{_/_, ℕ, suc, _+_, _-_, _≤_, _<_}
 use native.Mathlib.Nat.{div-add-mod'}
 use native.Mathlib.Numerals.{towards-suc}
 use native.Mathlib.Omega.{arith}
@@ -64,6 +64,12 @@ module _ (l : List ℕ) {s : Str} {ss : List Str} (e : strsAt l ≡ s ∷ ss) wh
       let z₁ : strAt l 0 ≡ s = cc in
       let z₂ : strsAt (drop 2 l) ≡ ss = cc in
       ap₂ g z₁ z₂
+
+pub length-strsAt : (l : List ℕ) → length (strsAt l) ≡ length l / 2
+unfolding strsAt
+length-strsAt [] = refl
+length-strsAt (x ∷ []) = refl
+length-strsAt (x ∷ y ∷ r) = omega (arith, length-strsAt r)
 
 -- ---- loops
 
