@@ -12,7 +12,7 @@ use Rattle.model.specs.declared.Filter.{Filter}
 use Rattle.model.specs.declared.Filter.the-variants.{Ordered, Window, Distance, SameSentence, SameParagraph, DifferentSentence, DifferentParagraph, AtStart, AtEnd, EntireContent}
 use Rattle.model.specs.declared.Pair.{Pair}
 use Rattle.model.specs.declared.Pair.the-variants.{Or, And, MildNot}
-use Rattle.model.specs.Lists.{all, keep, range}
+use Rattle.model.specs.Lists.{allOf, keep, fromTo}
 use Rattle.model.specs.Matches.{Str, Match}
 use Rattle.model.specs.Rules.{standFrom, found, phraseList, orList, joined, andList, noStrings, withInclude, withExclude, notList, reachesBeyond, mildNotList, keptIf, ordered, join, insideWindow, windowTo, windowEnds, window, distance, same, different, atStart, atEnd, entireContent}
 use Rattle.model.specs.Choices.{turnedStrings}
@@ -53,8 +53,8 @@ module _ (P : Str → Type 0) where
   all-phrase s rank ws h =
       every-map (AllMatch P) _ (found rank (length ws))
       (λ p k. all-include _ (h p (k .0 .0) (stand-within s ws p (omega arith) (k .1))))
-      (keep (standFrom s ws) (range 1 (s .tokens)))
-      (every-kept _ (standFrom s ws) (range 1 (s .tokens)) (every-range 1 (s .tokens)))
+      (keep (standFrom s ws) (fromTo 1 (s .tokens)))
+      (every-kept _ (standFrom s ws) (fromTo 1 (s .tokens)) (every-range 1 (s .tokens)))
 
   -- ---- or
 
@@ -92,7 +92,7 @@ module _ (P : Str → Type 0) where
 
   pub all-mildNot : (ls rs : List Match) → AllList P ls → AllList P (mildNotList ls rs)
   unfolding mildNotList
-  all-mildNot ls rs a = every-keep _ (λ l. all (reachesBeyond l) rs) ls a
+  all-mildNot ls rs a = every-keep _ (λ l. allOf (reachesBeyond l) rs) ls a
 
   -- ---- or, and, mild not
 

@@ -16,7 +16,7 @@ use Rattle.model.specs.Answers.{faultOf, checkedOf, isAccepted, complete
 use Rattle.model.specs.Checks.{Refusal, refusal, otherwise, roomRefusal, inputRefusal, listingChecks, quickChecks}
 use Rattle.model.specs.Demand3.{Passes, walkBuilds, walkReaches}
 use Rattle.model.specs.Limits.{maxMatches, maxStrings, workLength, bufferLength}
-use Rattle.model.specs.Matches.{Str, Match, hasFree, stringsIn, strings, tooLong}
+use Rattle.model.specs.Matches.{Str, Match, isYes, stringsIn, strings, tooLong}
 use Rattle.model.specs.Section.{sectionOf}
 use Rattle.model.specs.Trees.{treeOf, parts}
 use Rattle.model.specs.Walk.{firstTooLong, unlessTooLong}
@@ -58,7 +58,7 @@ pub record ListingPasses (section selection : List ℕ) (work buffer : ℕ) : Ty
   pub fits : firstTooLong (sectionOf section) (parts (treeOf selection)) ≡ none
 
 answerUnless-listed : (r : Option Refusal) (ms : List Match) (m k : ℕ) (y : Bool) → answerUnless r ms ≡ Listed m k y
-    → (r ≡ none) × (m ≡ length ms) × (k ≡ strings ms) × (y ≡ hasFree ms)
+    → (r ≡ none) × (m ≡ length ms) × (k ≡ strings ms) × (y ≡ isYes ms)
 answerUnless-listed none ms m k y e = (refl, cc, cc, cc)
 answerUnless-listed (some r) ms m k y e = let z : _≡_ {A = ℕ} 0 1 = cc in absurd (omega arith)
 
@@ -101,7 +101,7 @@ module _ (section selection : List ℕ) (work buffer : ℕ) where
       → (listingRefusal section selection work buffer ≡ none)
       × (m ≡ length (completeList section selection))
       × (k ≡ strings (completeList section selection))
-      × (y ≡ hasFree (completeList section selection))
+      × (y ≡ isYes (completeList section selection))
   unfolding listingAnswer
   listingAnswer-listed m k y e = answerUnless-listed (listingRefusal section selection work buffer) (completeList section selection) m k y e
 
@@ -132,7 +132,7 @@ module _ (section selection : List ℕ) (work : ℕ) where
   -- complete list has a match without excludes, and counts what its walk reaches.
   pub quickAnswer-is : Passes section selection work
       → quickAnswer section selection work
-      ≡ unlessTooLong (firstTooLong (sectionOf section) (walkBuilds section selection)) (hasFree (completeList section selection))
+      ≡ unlessTooLong (firstTooLong (sectionOf section) (walkBuilds section selection)) (isYes (completeList section selection))
       (length (walkReaches section selection))
   unfolding quickAnswer
   quickAnswer-is p = rw (quickChecks-passes p, walk-is (sectionOf section) (treeOf selection), says-free (sectionOf section) (treeOf selection))

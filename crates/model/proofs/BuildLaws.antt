@@ -115,10 +115,10 @@ module _ (at : ℕ → Code) (hi lo : ℕ) (w : PartAt at hi) (e : lo ≡ partSt
         let F = upTo own n in
         let R = upTo (λ i. own (n + i)) (hi - lo - n) in
         let s = fresh (lo + 1) rank in
-        let all : upTo own (hi - lo) ≡ F ++ R = upTo-split own n (hi - lo) h in
-        let f = fitsAll-split F R 0 0 (ap (λ (l : List Code). fitsAll l 0 0) (sym all) ∙ formed (upTo own (hi - lo)) alone .fit) in
+        let allOf : upTo own (hi - lo) ≡ F ++ R = upTo-split own n (hi - lo) h in
+        let f = fitsAll-split F R 0 0 (ap (λ (l : List Code). fitsAll l 0 0) (sym allOf) ∙ formed (upTo own (hi - lo)) alone .fit) in
         let g = steps F s (f .0) in
         let r = steps R (readAll F s) (rw (g .lists, g .loose) (f .1)) in
-        let whole = sym (readAll-append F R s) ∙ ap (λ (l : List Code). readAll l s) (sym all) ∙ sym (state-read at lo rank (hi - lo)) ∙ built-tree in
+        let whole = sym (readAll-append F R s) ∙ ap (λ (l : List Code). readAll l s) (sym allOf) ∙ sym (state-read at lo rank (hi - lo)) ∙ built-tree in
         let here = ap (λ (z : State). waitingParts (z .trees) ++ r .newer) (sym (state-read at lo rank n)) in
         (r .newer, ap (λ (z : State). waitingParts (z .trees)) (sym whole) ∙ r .adds ∙ here)

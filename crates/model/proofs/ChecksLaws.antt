@@ -12,10 +12,10 @@ use borrow.Author.Tests.{eqb-true, eq-eqb, ltb-false, leb-false, not-false}
 use Rattle.model.specs.declared.Code.{Code}
 use Rattle.model.specs.declared.Code.the-variants.{Word, Phrase, Combine, Not, Filter as Filtered}
 use Rattle.model.specs.Limits.{maxTokens, maxCodes, maxWaiting}
-use Rattle.model.specs.Lists.{all, any, first}
+use Rattle.model.specs.Lists.{allOf, anyOf, first}
 use Rattle.model.specs.Section.{size, wellSized, sentenceAt, paragraphAt}
 use Rattle.model.specs.Selection.{kindAt, operandAt, codeOf, codeAt, codesOf}
-use Rattle.model.specs.Trees.{Tree, phrase, pair, negation, filter, placeOf, last, treeOf, parts}
+use Rattle.model.specs.Trees.{Tree, phrase, pair, negation, filter, placeOf, topTree, treeOf, parts}
 use Rattle.model.specs.Parts.{isNotCode, hasWords, postfix, placed, wellFormed, PartAt, spelled, phrasesAll}
 use Rattle.model.specs.Checks.{Refusal, refusal, otherwise, Check, tried, wrongSection, faultyIn, faultyAt, faultyPosition, sectionRefusal, wrongSelection, unknownKind}
 use Rattle.model.specs.Checks.{operandFits, wrongOperand, wrongShape, isNot, hasNot, mildOverNot, notUnderMildNot, selectionRefusal}
@@ -113,18 +113,18 @@ fitting-operands sel h c l g = not-false _ (first-range-none (λ i. not (operand
 
 -- ---- hasNot
 
-any-words : (ws : List ℕ) → any isNotCode (map Word ws) ≡ false
-unfolding any
+any-words : (ws : List ℕ) → anyOf isNotCode (map Word ws) ≡ false
+unfolding anyOf
 any-words [] = refl
 any-words (w ∷ ws) = any-words ws
 
-any-both : (xs ys : List Tree) (cs ds : List Code) → any isNot xs ≡ any isNotCode cs → any isNot ys ≡ any isNotCode ds
-    → any isNot (xs ++ ys) ≡ any isNotCode (cs ++ ds)
+any-both : (xs ys : List Tree) (cs ds : List Code) → anyOf isNot xs ≡ anyOf isNotCode cs → anyOf isNot ys ≡ anyOf isNotCode ds
+    → anyOf isNot (xs ++ ys) ≡ anyOf isNotCode (cs ++ ds)
 any-both xs ys cs ds e f = any-append isNot xs ys ∙ ap₂ (λ (a b : Bool). a || b) e f ∙ sym (any-append isNotCode cs ds)
 
 -- a tree has a not where its codes have one
-pub has-not : (t : Tree) → hasNot t ≡ any isNotCode (postfix t)
-unfolding parts postfix any
+pub has-not : (t : Tree) → hasNot t ≡ anyOf isNotCode (postfix t)
+unfolding parts postfix anyOf
 has-not (phrase c r ws) = any-both [] (phrase c r ws ∷ []) (map Word ws) (Phrase (length ws) ∷ []) (sym (any-words ws)) refl
 has-not (pair k c t u) =
     let sides = any-both (parts t) (parts u) (postfix t) (postfix u) (has-not t) (has-not u) in
@@ -144,10 +144,10 @@ has-words k o h = codeOf-cases (λ c. hasWords c ≡ true) k o (λ e. refl) some
 
 -- a selection that passes the rule is its tree
 tree-spelt : (sel : List ℕ) → wellFormed (codesOf sel) ≡ true → (postfix (treeOf sel) ≡ codesOf sel) × (placed 1 1 (treeOf sel) ≡ treeOf sel)
-unfolding treeOf last
+unfolding treeOf topTree
 tree-spelt sel well =
     let P = parsed (codesOf sel) well in
-    let is : treeOf sel ≡ P .tree = ap last (P .alone) in
+    let is : treeOf sel ≡ P .tree = ap topTree (P .alone) in
     (ap postfix is ∙ P .spelt, ap (placed 1 1) is ∙ P .numbered ∙ sym is)
 
 -- what holds of a selection that is not refused
@@ -164,7 +164,7 @@ accepted-selection sel h =
     let codes = all-upTo (codeAt sel) hasWords (size sel) (λ c l g. has-words (kindAt sel c) (operandAt sel c) (operands c l g)) in
     let well = break-none (codesOf sel) .0 (six .0) in
     let tree = tree-spelt sel well in
-    let words = ap (all hasWords) (tree .0) ∙ codes in
+    let words = ap (allOf hasWords) (tree .0) ∙ codes in
     let half = phrases-few (treeOf sel) words in
     record {
       sized = size-is .long;

@@ -12,7 +12,7 @@ use Rattle.model.specs.declared.Listing.the-variants.{Listed, Refused}
 use Rattle.model.specs.Answers.{completeList, listingRefusal, listingAnswer, listingNumbers, bufferUnless, listingBuffer}
 use Rattle.model.specs.Checks.{Refusal, inputRefusal}
 use Rattle.model.specs.Limits.{maxMatches, maxStrings, workLength, bufferLength}
-use Rattle.model.specs.Matches.{hasFree, strings}
+use Rattle.model.specs.Matches.{isYes, strings}
 use Rattle.model.specs.Section.{sectionOf}
 use Rattle.model.specs.Trees.{treeOf, parts}
 use Rattle.model.specs.Walk.{firstTooLong}
@@ -29,7 +29,7 @@ module _ (section selection : List ℕ) (work : ℕ) where
 
   -- "It answers M, S and yes or no": those of the complete AllMatches, which is within the limits.
   pub yes-exactly : (buffer m k : ℕ) (y : Bool) → listingAnswer section selection work buffer ≡ Listed m k y
-      → (y ≡ hasFree (completeList section selection))
+      → (y ≡ isYes (completeList section selection))
       × (m ≡ length (completeList section selection))
       × (k ≡ strings (completeList section selection))
       × (m ≤ maxMatches)

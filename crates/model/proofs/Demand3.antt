@@ -14,7 +14,7 @@ use Rattle.model.specs.Answers.{completeList, listingAnswer, quickAnswer
 use Rattle.model.specs.Checks.{Refusal, sectionRefusal, selectionRefusal, inputRefusal, quickChecks}
 use Rattle.model.specs.Demand3.{Passes, walkBuilds, walkReaches, TooLongFirst}
 use Rattle.model.specs.Limits.{workLength}
-use Rattle.model.specs.Matches.{hasFree}
+use Rattle.model.specs.Matches.{isYes}
 use Rattle.model.specs.Section.{sectionOf}
 use Rattle.model.specs.Trees.{treeOf}
 use Rattle.model.specs.Walk.{firstTooLong, unlessTooLong, ownCount}
@@ -29,7 +29,7 @@ module _ (section selection : List ℕ) (work : ℕ) where
   long = firstTooLong (sectionOf section) (walkBuilds section selection)
 
   abbrev answer : Bool
-  answer = hasFree (completeList section selection)
+  answer = isYes (completeList section selection)
 
   abbrev count : ℕ
   count = length (walkReaches section selection)
@@ -71,7 +71,7 @@ module _ (section selection : List ℕ) (work : ℕ) where
   -- ---- "agrees with the complete unlimited AllMatches"
 
   pub agrees-with-complete : Passes section selection work → (y : Bool) (n : ℕ) → quickAnswer section selection work ≡ Answered y n
-      → y ≡ hasFree (completeList section selection)
+      → y ≡ isYes (completeList section selection)
   agrees-with-complete p y n e = unlessTooLong-answered long answer y count n (sym (is p) ∙ e) .0
 
   -- ---- "and with the listing"

@@ -5,7 +5,7 @@ use mathlib.Core.Path.{_≡_, refl}
 use mathlib.Core.Bool.{Bool, true, false, cond}
 use mathlib.Core.List.{List, [], _∷_, _++_, map, flatMap}
 use lib.ListN.{length, getD}
-use Rattle.model.specs.Lists.{keep, upFrom, range}
+use Rattle.model.specs.Lists.{keep, upFrom, fromTo}
 use Rattle.model.specs.AllStrings.{Every}
 
 pub every-weaker : {A : Type 0} (P Q : A → Type 0) → ((x : A) → P x → Q x) → (xs : List A) → Every P xs → Every Q xs
@@ -59,6 +59,6 @@ unfolding Every upFrom
 every-upFrom a zero = tt
 every-upFrom a (suc n) = (omega arith, every-weaker _ _ (λ p h. omega arith) (upFrom (a + 1) n) (every-upFrom (a + 1) n))
 
-pub every-range : (a b : ℕ) → Every (λ p. (a ≤ p) × (p ≤ b)) (range a b)
-unfolding range
+pub every-range : (a b : ℕ) → Every (λ p. (a ≤ p) × (p ≤ b)) (fromTo a b)
+unfolding fromTo
 every-range a b = every-weaker _ _ (λ p h. omega arith) (upFrom a (b + 1 - a)) (every-upFrom a (b + 1 - a))

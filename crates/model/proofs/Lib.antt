@@ -13,7 +13,7 @@ pub mod PartsLaws
 pub mod BuildLaws
 pub mod RulesLaws
 pub mod AllStringsLaws
-pub mod FreeLaws
+pub mod YesLaws
 pub mod ChecksLaws
 pub mod WalkLaws
 pub mod AnswersLaws

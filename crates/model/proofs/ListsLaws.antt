@@ -8,7 +8,7 @@ use mathlib.Core.List.{List, [], _∷_, _++_, append-assoc, flatMap, Sublistᴰ,
 use mathlib.Core.Logic.{_↔_, ⊎-elim}
 use mathlib.Core.Option.{some, none, orElse, Option·none-ne-some, Option·some-ne-none}
 use lib.ListN.{length}
-use Rattle.model.specs.Lists.{all, any, isEmpty, keep, first, upFrom, range}
+use Rattle.model.specs.Lists.{allOf, anyOf, isEmpty, keep, first, upFrom, fromTo}
 use Rattle.model.proofs.TestsLaws.{both-true}
 
 -- ---- flatMap
@@ -20,18 +20,18 @@ flatMap-append f (x ∷ xs) ys = ap (λ zs. f x ++ zs) (flatMap-append f xs ys) 
 
 -- ---- all, any
 
-pub all-append : {A : Type 0} (p : A → Bool) (xs ys : List A) → all p (xs ++ ys) ≡ (all p xs && all p ys)
-unfolding all
+pub all-append : {A : Type 0} (p : A → Bool) (xs ys : List A) → allOf p (xs ++ ys) ≡ (allOf p xs && allOf p ys)
+unfolding allOf
 all-append p [] ys = refl
-all-append p (x ∷ xs) ys = ap (λ b. p x && b) (all-append p xs ys) ∙ sym (and-assoc (p x) (all p xs) (all p ys))
+all-append p (x ∷ xs) ys = ap (λ b. p x && b) (all-append p xs ys) ∙ sym (and-assoc (p x) (allOf p xs) (allOf p ys))
 
-pub all-split : {A : Type 0} (p : A → Bool) (xs ys : List A) → all p (xs ++ ys) ≡ true → (all p xs ≡ true) × (all p ys ≡ true)
-all-split p xs ys e = both-true (all p xs) (all p ys) (sym (all-append p xs ys) ∙ e)
+pub all-split : {A : Type 0} (p : A → Bool) (xs ys : List A) → allOf p (xs ++ ys) ≡ true → (allOf p xs ≡ true) × (allOf p ys ≡ true)
+all-split p xs ys e = both-true (allOf p xs) (allOf p ys) (sym (all-append p xs ys) ∙ e)
 
-pub any-append : {A : Type 0} (p : A → Bool) (xs ys : List A) → any p (xs ++ ys) ≡ (any p xs || any p ys)
-unfolding any
+pub any-append : {A : Type 0} (p : A → Bool) (xs ys : List A) → anyOf p (xs ++ ys) ≡ (anyOf p xs || anyOf p ys)
+unfolding anyOf
 any-append p [] ys = refl
-any-append p (x ∷ xs) ys = ap (λ b. p x || b) (any-append p xs ys) ∙ sym (or-assoc (p x) (any p xs) (any p ys))
+any-append p (x ∷ xs) ys = ap (λ b. p x || b) (any-append p xs ys) ∙ sym (or-assoc (p x) (anyOf p xs) (anyOf p ys))
 
 -- ---- isEmpty
 
@@ -67,12 +67,12 @@ pub record FirstIn {A : Type 0} (p : A → Bool) (xs : List A) (x : A) : Type 0 
   pub before : List A
   pub after : List A
   pub split : xs ≡ before ++ x ∷ after
-  pub none-before : all (λ y. not (p y)) before ≡ true
+  pub none-before : allOf (λ y. not (p y)) before ≡ true
   pub passes : p x ≡ true
 
 module _ {A : Type 0} (p : A → Bool) where
   first-found : (xs : List A) (x : A) → first p xs ≡ some x → FirstIn p xs x
-  unfolding first all
+  unfolding first allOf
   first-found [] x e = absurd (Option·none-ne-some x e)
   first-found (y ∷ xs) x e = at (p y) refl e (first-found xs x)
     where
@@ -84,13 +84,13 @@ module _ {A : Type 0} (p : A → Bool) where
           let f = later e' in
           record { before = y ∷ f .before; after = f .after; split = ap (λ zs. y ∷ zs) (f .split); none-before = rw h (f .none-before); passes = f .passes }
 
-  first-is : (before after : List A) (x : A) → all (λ y. not (p y)) before ≡ true → p x ≡ true → first p (before ++ x ∷ after) ≡ some x
-  unfolding first all
+  first-is : (before after : List A) (x : A) → allOf (λ y. not (p y)) before ≡ true → p x ≡ true → first p (before ++ x ∷ after) ≡ some x
+  unfolding first allOf
   first-is [] after x h e = rw e
   first-is (y ∷ before) after x h e = at (p y) h (first-is before after x)
     where
-      at : (b : Bool) → (not b && all (λ z. not (p z)) before) ≡ true
-          → (all (λ z. not (p z)) before ≡ true → p x ≡ true → first p (before ++ x ∷ after) ≡ some x)
+      at : (b : Bool) → (not b && allOf (λ z. not (p z)) before) ≡ true
+          → (allOf (λ z. not (p z)) before ≡ true → p x ≡ true → first p (before ++ x ∷ after) ≡ some x)
           → cond b (some y) (first p (before ++ x ∷ after)) ≡ some x
       at true h' later = absurd (false≢true h')
       at false h' later = later h' e
@@ -120,41 +120,41 @@ upFrom-snoc a (suc n) =
     let e : a + 1 + n ≡ a + suc n = omega arith in
     ap (λ l. a ∷ l) (upFrom-snoc (a + 1) n ∙ ap (λ k. upFrom (a + 1) n ++ k ∷ []) e)
 
-pub length-range : (a b : ℕ) → length (range a b) ≡ b + 1 - a
-unfolding range
+pub length-range : (a b : ℕ) → length (fromTo a b) ≡ b + 1 - a
+unfolding fromTo
 length-range a b = length-upFrom a (b + 1 - a)
 
-pub range-empty : (a b : ℕ) → b < a → range a b ≡ []
-unfolding range upFrom
+pub range-empty : (a b : ℕ) → b < a → fromTo a b ≡ []
+unfolding fromTo upFrom
 range-empty a b h = let e : b + 1 - a ≡ 0 = omega arith in rw e
 
-pub range-cons : (a b : ℕ) → a ≤ b → range a b ≡ a ∷ range (a + 1) b
-unfolding range upFrom
+pub range-cons : (a b : ℕ) → a ≤ b → fromTo a b ≡ a ∷ fromTo (a + 1) b
+unfolding fromTo upFrom
 range-cons a b h = let e : b + 1 - a ≡ suc (b + 1 - (a + 1)) = omega arith in rw e
 
 -- ---- first, over a range: what a search from a up finds
 
 module _ (p : ℕ → Bool) where
-  pub first-range-empty : (a b : ℕ) → b < a → first p (range a b) ≡ none
+  pub first-range-empty : (a b : ℕ) → b < a → first p (fromTo a b) ≡ none
   unfolding first
   first-range-empty a b h = rw (range-empty a b h)
 
-  pub first-range-here : (a b : ℕ) → a ≤ b → p a ≡ true → first p (range a b) ≡ some a
+  pub first-range-here : (a b : ℕ) → a ≤ b → p a ≡ true → first p (fromTo a b) ≡ some a
   unfolding first
   first-range-here a b h e = rw (range-cons a b h, e)
 
-  pub first-range-later : (a b : ℕ) → a ≤ b → p a ≡ false → first p (range a b) ≡ first p (range (a + 1) b)
+  pub first-range-later : (a b : ℕ) → a ≤ b → p a ≡ false → first p (fromTo a b) ≡ first p (fromTo (a + 1) b)
   unfolding first
   first-range-later a b h e = rw (range-cons a b h, e)
 
-  none-here : (a b : ℕ) → a ≤ b → first p (range a b) ≡ none → p a ≡ false
-  none-here a b h e = first-none p a (range (a + 1) b) (ap (first p) (sym (range-cons a b h)) ∙ e) .0
+  none-here : (a b : ℕ) → a ≤ b → first p (fromTo a b) ≡ none → p a ≡ false
+  none-here a b h e = first-none p a (fromTo (a + 1) b) (ap (first p) (sym (range-cons a b h)) ∙ e) .0
 
   -- where the search finds nothing, nothing passes
-  pub first-range-none : (a b : ℕ) → first p (range a b) ≡ none → (i : ℕ) → a ≤ i → i ≤ b → p i ≡ false
+  pub first-range-none : (a b : ℕ) → first p (fromTo a b) ≡ none → (i : ℕ) → a ≤ i → i ≤ b → p i ≡ false
   first-range-none a b e i h k = go (b + 1 - a) a (omega arith) e h
     where
-      go : (n a : ℕ) → b + 1 ≤ a + n → first p (range a b) ≡ none → a ≤ i → p i ≡ false
+      go : (n a : ℕ) → b + 1 ≤ a + n → first p (fromTo a b) ≡ none → a ≤ i → p i ≡ false
       go zero a m e h = absurd (omega arith)
       go (suc n) a m e h =
           let here = none-here a b (omega arith) e in

@@ -13,11 +13,11 @@ use Rattle.model.specs.declared.Code.{Code}
 use Rattle.model.specs.declared.Code.the-variants.{Word, Phrase, Combine, Not, Filter as Filtered}
 use Rattle.model.specs.declared.Filter.{Filter}
 use Rattle.model.specs.declared.Pair.{Pair}
-use Rattle.model.specs.Lists.{keep, upFrom, range}
+use Rattle.model.specs.Lists.{keep, upFrom, fromTo}
 use Rattle.model.specs.Section.{size}
 use Rattle.model.specs.Selection.{kindAt, operandAt, codeOf, codeAt, upTo, codesOf}
 use Rattle.model.specs.Waiting.{fits}
-use Rattle.model.specs.Trees.{last, Tree, phrase, pair, negation, filter, placeOf, State, readAll, fresh, treeOf, parts}
+use Rattle.model.specs.Trees.{topTree, Tree, phrase, pair, negation, filter, placeOf, State, readAll, fresh, treeOf, parts}
 use Rattle.model.specs.Parts.{headOf, heads, postfix, phrases, placed, state, spelled, phrasesAll, placeAfter, rankAfter}
 use Rattle.model.specs.Parts.{fitsAll, listsAll, wordsAll, wellFormed, stops, needs, back, partStart, PartAt}
 use Rattle.model.specs.Walk.{ownCount}
@@ -96,8 +96,8 @@ module _ (at : ℕ → Code) where
   ends-last : (hi : ℕ) (t : Tree) (ts : List Tree) → upTo at hi ≡ spelled (t ∷ ts) → Ends at hi (spelled ts ++ front t) (lastCode t)
   unfolding spelled
   ends-last hi t ts e =
-      let last = ap (λ (l : List Code). spelled ts ++ l) (front-last t) ∙ sym (append-assoc (spelled ts) (front t) (lastCode t ∷ [])) in
-      ends at hi (spelled ts ++ front t) (lastCode t) (e ∙ last)
+      let ended = ap (λ (l : List Code). spelled ts ++ l) (front-last t) ∙ sym (append-assoc (spelled ts) (front t) (lastCode t ∷ [])) in
+      ends at hi (spelled ts ++ front t) (lastCode t) (e ∙ ended)
 
   -- one step back
   on : (hi n m : ℕ) (xs : List Code) (c : Code) → Ends at hi xs c → stops c n ≡ false → needs c n ≡ m → back at hi n ≡ back at (length xs) m
@@ -178,13 +178,13 @@ module _ (at : ℕ → Code) (hi : ℕ) where
   unfolding placedAll
   part-of [] ws a c d e = absurd (omega arith)
   part-of (t ∷ ts) (w ∷ ws) a c d e = absurd (omega arith)
-  part-of (t ∷ ts) [] a c d e = record { tree = t; below = ts; spells = all; numbered = cc again }
+  part-of (t ∷ ts) [] a c d e = record { tree = t; below = ts; spells = allOf; numbered = cc again }
     where
-      all : upTo at hi ≡ spelled (t ∷ ts)
-      all = sym e ∙ append-nil (spelled (t ∷ ts))
+      allOf : upTo at hi ≡ spelled (t ∷ ts)
+      allOf = sym e ∙ append-nil (spelled (t ∷ ts))
 
       again : placed (placeAfter ts) (rankAfter ts) t ∷ placedAll ts ≡ t ∷ ts
-      again = sym (ap (λ (s : State). s .trees) (read-spelled (t ∷ ts))) ∙ ap (λ (l : List Code). readAll l (fresh 1 1) .trees) (sym all) ∙ a
+      again = sym (ap (λ (s : State). s .trees) (read-spelled (t ∷ ts))) ∙ ap (λ (l : List Code). readAll l (fresh 1 1) .trees) (sym allOf) ∙ a
 
 -- every code but a word ends a part
 pub part-at : (at : ℕ → Code) (m : ℕ) → wellFormed (upTo at m) ≡ true → (hi : ℕ) → 1 ≤ hi → hi ≤ m → headOf (at hi) ≡ 1 → PartAt at hi
@@ -213,11 +213,11 @@ module _ (at : ℕ → Code) (hi : ℕ) (w : PartAt at hi) where
   part-place = omega (arith, place-of (placeAfter (w .below)) (rankAfter (w .below)) (w .tree) (w .numbered), part-length)
 
   -- and is the last that waits when the codes up to it are read
-  pub part-read : last (readAll (upTo at hi) (fresh 1 1) .trees) ≡ w .tree
-  unfolding last placedAll
+  pub part-read : topTree (readAll (upTo at hi) (fresh 1 1) .trees) ≡ w .tree
+  unfolding topTree placedAll
   part-read =
-      ap (λ (l : List Code). last (readAll l (fresh 1 1) .trees)) (w .spells)
-      ∙ ap (λ (s : State). last (s .trees)) (read-spelled (w .tree ∷ w .below))
+      ap (λ (l : List Code). topTree (readAll l (fresh 1 1) .trees)) (w .spells)
+      ∙ ap (λ (s : State). topTree (s .trees)) (read-spelled (w .tree ∷ w .below))
       ∙ w .numbered
 
   -- a part of codes that pass the rule passes it alone
@@ -358,7 +358,7 @@ heads-keep at q h (x ∷ xs) = ap₂ (λ (a b : ℕ). a + b) (h x) (heads-keep a
 
 -- a selection's own count is that of its codes but the words, and of its tree's parts
 pub heads-codes : (sel : List ℕ) → heads (codesOf sel) ≡ ownCount sel
-unfolding codesOf ownCount range
+unfolding codesOf ownCount fromTo
 heads-codes sel =
     let n = size sel in
     let e : n ≡ n + 1 - 1 = omega arith in

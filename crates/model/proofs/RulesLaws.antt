@@ -11,7 +11,7 @@ use lib.ListN.{length, getD, length-append, length-map, List·getD-append}
 use lib.Seq.{getD-append-add}
 use Rattle.model.specs.declared.Filter.{Filter}
 use Rattle.model.specs.declared.Filter.the-variants.{Ordered, Window, Distance, SameSentence, SameParagraph, DifferentSentence, DifferentParagraph, AtStart, AtEnd, EntireContent}
-use Rattle.model.specs.Lists.{all, keep, allPairs, neighbours, sort, range}
+use Rattle.model.specs.Lists.{allOf, keep, allPairs, neighbours, sort, fromTo}
 use Rattle.model.specs.Matches.{Str, Match, stringsIn, strings}
 use Rattle.model.specs.Rules.{standFrom, found, phraseList, orList, joined, andList, noStrings, withInclude, withExclude, notList, reachesBeyond, covered, mildNotList, keptIf, agree, ordered, leastStart, greatestEnd, join, windowTo, windowEnds, window, notAfter, distanceOf, within, distance, inUnitOf, same, hasUnits, apart, different, atStart, atEnd, entireContent}
 use Rattle.model.specs.Choices.{choices, turnedStrings, choice}
@@ -57,12 +57,12 @@ strings-singles (m ∷ ms) a = omega (arith, strings-singles ms (a .1))
 
 pub length-phrase : (s : Section) (rank : ℕ) (ws : List ℕ) → length (phraseList s rank ws) ≤ s .tokens
 unfolding phraseList
-length-phrase s rank ws = simp length-map (omega (arith, length-keep (standFrom s ws) (range 1 (s .tokens)), length-range 1 (s .tokens)))
+length-phrase s rank ws = simp length-map (omega (arith, length-keep (standFrom s ws) (fromTo 1 (s .tokens)), length-range 1 (s .tokens)))
 
 pub strings-phrase : (s : Section) (rank : ℕ) (ws : List ℕ) → strings (phraseList s rank ws) ≡ length (phraseList s rank ws)
 unfolding phraseList
 strings-phrase s rank ws =
-    strings-singles (phraseList s rank ws) (every-value Single (found rank (length ws)) (λ p. refl) (keep (standFrom s ws) (range 1 (s .tokens))))
+    strings-singles (phraseList s rank ws) (every-value Single (found rank (length ws)) (λ p. refl) (keep (standFrom s ws) (fromTo 1 (s .tokens))))
 
 -- ---- or
 
@@ -180,7 +180,7 @@ strings-choice (m ∷ ms) c h =
 
 pub length-mildNot : (ls rs : List Match) → length (mildNotList ls rs) ≤ length ls
 unfolding mildNotList
-length-mildNot ls rs = length-keep (λ l. all (reachesBeyond l) rs) ls
+length-mildNot ls rs = length-keep (λ l. allOf (reachesBeyond l) rs) ls
 
 strings-keep : (p : Match → Bool) (ms : List Match) → strings (keep p ms) ≤ strings ms
 unfolding keep strings
@@ -193,7 +193,7 @@ strings-keep p (m ∷ ms) = at (p m) (strings-keep p ms)
 
 pub strings-mildNot : (ls rs : List Match) → strings (mildNotList ls rs) ≤ strings ls
 unfolding mildNotList
-strings-mildNot ls rs = strings-keep (λ l. all (reachesBeyond l) rs) ls
+strings-mildNot ls rs = strings-keep (λ l. allOf (reachesBeyond l) rs) ls
 
 -- ---- filters
 
@@ -233,7 +233,7 @@ kept-whole test m = record { test = test; passes = λ e. true; is = rw keep-all 
 
 pub kept-ordered : (m : Match) → Kept m (m .includes) (ordered m)
 unfolding ordered
-kept-ordered m = record { test = allPairs agree (m .includes); passes = λ e. all (agree e) (m .includes); is = refl }
+kept-ordered m = record { test = allPairs agree (m .includes); passes = λ e. allOf (agree e) (m .includes); is = refl }
 
 -- ---- join
 
@@ -292,7 +292,7 @@ unfolding distance
 kept-distance a b m =
     record {
       test = neighbours (λ s t. within a b (distanceOf s t)) (sort notAfter (m .includes));
-      passes = λ e. all (λ s. within a b (distanceOf e s)) (m .includes);
+      passes = λ e. allOf (λ s. within a b (distanceOf e s)) (m .includes);
       is = refl;
     }
 
@@ -300,14 +300,14 @@ kept-distance a b m =
 
 pub kept-same : (unit : ℕ → ℕ) (m : Match) → Kept m (m .includes) (same unit m)
 unfolding same
-kept-same unit m = record { test = all (inUnitOf unit (m .includes)) (m .includes); passes = inUnitOf unit (m .includes); is = refl }
+kept-same unit m = record { test = allOf (inUnitOf unit (m .includes)) (m .includes); passes = inUnitOf unit (m .includes); is = refl }
 
 pub kept-different : (unit : ℕ → ℕ) (m : Match) → Kept m (m .includes) (different unit m)
 unfolding different
 kept-different unit m =
     record {
-      test = leb 2 (length (m .includes)) && all (hasUnits unit) (m .includes) && allPairs (apart unit) (m .includes);
-      passes = λ e. hasUnits unit e && all (apart unit e) (m .includes);
+      test = leb 2 (length (m .includes)) && allOf (hasUnits unit) (m .includes) && allPairs (apart unit) (m .includes);
+      passes = λ e. hasUnits unit e && allOf (apart unit e) (m .includes);
       is = refl;
     }
 
@@ -323,7 +323,7 @@ kept-atEnd s m = kept-whole (leb 1 (s .tokens) && covered (m .includes) (s .toke
 
 pub kept-entireContent : (s : Section) (m : Match) → Kept m (m .includes) (entireContent s m)
 unfolding entireContent
-kept-entireContent s m = kept-whole (all (covered (keep (λ i. i .contiguous) (m .includes))) (range 1 (s .tokens))) m
+kept-entireContent s m = kept-whole (allOf (covered (keep (λ i. i .contiguous) (m .includes))) (fromTo 1 (s .tokens))) m
 
 -- ---- every filter but window, which is kind 7
 

@@ -17,7 +17,7 @@ use Rattle.model.specs.declared.Filter.the-variants.{Ordered, Window, Di
 use Rattle.model.specs.declared.Pair.{Pair}
 use Rattle.model.specs.declared.Pair.the-variants.{Or, And, MildNot}
 use Rattle.model.specs.Limits.{radix}
-use Rattle.model.specs.Lists.{all, upFrom}
+use Rattle.model.specs.Lists.{allOf, upFrom}
 use Rattle.model.specs.Selection.{kindOf, operandOf, filterOf, codeOf, upTo}
 use Rattle.model.specs.Checks.{operandFits}
 use Rattle.model.specs.Parts.{mostOf}
@@ -170,8 +170,8 @@ module _ (at : ℕ → Code) where
       ap₂ (λ (l : List Code) (i : ℕ). l ++ at i ∷ []) (upTo-map n) e ∙ sym (ap (map at) (upFrom-snoc 1 n) ∙ map-append at (upFrom 1 n) ((1 + n) ∷ []))
 
   -- a test that all codes pass, from each of them
-  pub all-upTo : (p : Code → Bool) (n : ℕ) → ((c : ℕ) → 1 ≤ c → c ≤ n → p (at c) ≡ true) → all p (upTo at n) ≡ true
-  unfolding upTo all
+  pub all-upTo : (p : Code → Bool) (n : ℕ) → ((c : ℕ) → 1 ≤ c → c ≤ n → p (at c) ≡ true) → allOf p (upTo at n) ≡ true
+  unfolding upTo allOf
   all-upTo p zero h = refl
   all-upTo p (suc n) h =
       let before = all-upTo p n (λ c l g. h c l (omega arith)) in

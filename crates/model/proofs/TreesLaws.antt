@@ -12,7 +12,7 @@ use borrow.Author.Tests.{leb-true}
 use Rattle.model.specs.declared.Code.{Code}
 use Rattle.model.specs.declared.Code.the-variants.{Word, Phrase, Combine, Not, Filter as Filtered}
 use Rattle.model.specs.declared.Pair.{Pair}
-use Rattle.model.specs.Lists.{all}
+use Rattle.model.specs.Lists.{allOf}
 use Rattle.model.specs.Trees.{Tree, phrase, pair, negation, filter, placeOf, State, combine, wrap, read, readAll, parts}
 use Rattle.model.specs.AllStrings.{EveryPhrase, RanksUpTo}
 use Rattle.model.specs.Parts.{headOf, heads, hasWords, postfix, phrases, placed, state}
@@ -84,11 +84,11 @@ place-of p r t e = ap (λ (u : Tree). placeOf u + 1) (sym e) ∙ place-placed p 
 -- ---- ranks
 
 -- a phrase whose code says that it has a word has one
-some-word : (c r : ℕ) (ws : List ℕ) → all hasWords (postfix (phrase c r ws)) ≡ true → 1 ≤ length ws
-unfolding postfix all
+some-word : (c r : ℕ) (ws : List ℕ) → allOf hasWords (postfix (phrase c r ws)) ≡ true → 1 ≤ length ws
+unfolding postfix allOf
 some-word c r ws h = leb-true 1 (length ws) (both-true (leb 1 (length ws)) true (all-split hasWords (map Word ws) _ h .1) .0)
 
-ranks-placed : (n p r : ℕ) (t : Tree) → 1 ≤ r → r + phrases t ≤ n + 1 → all hasWords (postfix t) ≡ true → RanksUpTo n (placed p r t)
+ranks-placed : (n p r : ℕ) (t : Tree) → 1 ≤ r → r + phrases t ≤ n + 1 → allOf hasWords (postfix t) ≡ true → RanksUpTo n (placed p r t)
 unfolding placed phrases EveryPhrase postfix
 ranks-placed n p r (phrase c s ws) g h w = record { from-one = g; up-to = omega arith; has-word = some-word c s ws w }
 ranks-placed n p r (pair k c t u) g h w =
@@ -99,14 +99,14 @@ ranks-placed n p r (negation c t) g h w = ranks-placed n p r t g h (all-split ha
 ranks-placed n p r (filter f c t) g h w = ranks-placed n p r t g h (all-split hasWords (postfix t) _ w .0)
 
 -- ranks run from the first phrase's on
-pub ranks-to : (n p r : ℕ) (t : Tree) → placed p r t ≡ t → 1 ≤ r → r + phrases t ≤ n + 1 → all hasWords (postfix t) ≡ true → RanksUpTo n t
+pub ranks-to : (n p r : ℕ) (t : Tree) → placed p r t ≡ t → 1 ≤ r → r + phrases t ≤ n + 1 → allOf hasWords (postfix t) ≡ true → RanksUpTo n t
 ranks-to n p r t e g h w = rw e at (ranks-placed n p r t g h w)
 
 -- ---- phrases
 
 -- a phrase is its words and one code more
-pub phrases-few : (t : Tree) → all hasWords (postfix t) ≡ true → phrases t + phrases t ≤ length (postfix t)
-unfolding postfix phrases all
+pub phrases-few : (t : Tree) → allOf hasWords (postfix t) ≡ true → phrases t + phrases t ≤ length (postfix t)
+unfolding postfix phrases allOf
 phrases-few (phrase c r ws) h =
     omega (arith, length-phrase c r ws, some-word c r ws h)
 phrases-few (pair k c t u) h =

@@ -18,8 +18,8 @@ use Rattle.model.specs.declared.Pair.{Pair}
 use Rattle.model.specs.declared.Filter.{Filter}
 use Rattle.model.specs.Limits.{maxWaiting}
 use Rattle.model.specs.Selection.{upTo}
-use Rattle.model.specs.Waiting.{fits, listsBehind, wordsBehind, atRest, breakFrom, break}
-use Rattle.model.specs.Trees.{Tree, phrase, pair, negation, filter, placeOf, State, combine, wrap, read, readAll, fresh, last, parts}
+use Rattle.model.specs.Waiting.{fits, listsBehind, wordsBehind, atRest, breakFrom, firstBreak}
+use Rattle.model.specs.Trees.{Tree, phrase, pair, negation, filter, placeOf, State, combine, wrap, read, readAll, fresh, topTree, parts}
 use Rattle.model.specs.Parts.{headOf, postfix, placed, state, spelled, waitingParts, newest, fitsAll, listsAll, wordsAll, wellFormed}
 use Rattle.model.proofs.TestsLaws.{false-true, both-true, and-join}
 use Rattle.model.proofs.SelectionLaws.{length-upTo, drop-upTo}
@@ -156,9 +156,9 @@ is-none none h = refl
 is-none (some c) h = false-true h
 
 -- no code breaks the rule just where the whole rule holds
-pub break-none : (cs : List Code) → (break cs ≡ none) ↔ (wellFormed cs ≡ true)
+pub break-none : (cs : List Code) → (firstBreak cs ≡ none) ↔ (wellFormed cs ≡ true)
 unfolding wellFormed isNone
-break-none cs = (λ h. sym (breakFrom-none 0 cs 0 0) ∙ ap isNone h, λ h. is-none (break cs) (breakFrom-none 0 cs 0 0 ∙ h))
+break-none cs = (λ h. sym (breakFrom-none 0 cs 0 0) ∙ ap isNone h, λ h. is-none (firstBreak cs) (breakFrom-none 0 cs 0 0 ∙ h))
 
 -- the search for the first break, behind i codes of a row of m
 module _ (at : ℕ → Code) (m : ℕ) where
@@ -187,11 +187,11 @@ pub record Step (c : Code) (s : State) : Type 0 where
   pub lists : length (read c s .trees) ≡ listsBehind c (length (s .trees))
   pub loose : length (read c s .words) ≡ wordsBehind c (length (s .words))
   pub adds : waitingParts (read c s .trees) ≡ waitingParts (s .trees) ++ newest c (read c s .trees)
-  pub placed-last : headOf c ≡ 1 → placeOf (last (read c s .trees)) ≡ s .place
+  pub placed-last : headOf c ≡ 1 → placeOf (topTree (read c s .trees)) ≡ s .place
 
 -- by the sort of the code; a code that fits finds the trees that it takes
 pub step : (c : Code) (ts : List Tree) (ws : List ℕ) (p r : ℕ) → fits c (length ts) (length ws) ≡ true → Step c (state ts ws p r)
-unfolding read combine wrap last placeOf parts spelled postfix waitingParts
+unfolding read combine wrap topTree placeOf parts spelled postfix waitingParts
 step (Word w) ts ws p r h = record {
   spelt = simp (map-append, append-assoc);
   lists = refl;

@@ -13,11 +13,11 @@ use Rattle.model.specs.declared.Quick.the-variants.{Answered, Refused}
 use Rattle.model.specs.AllMatches.{allMatches}
 use Rattle.model.specs.Demand3.{isTooLong, TooLongFirst}
 use Rattle.model.specs.Lists.{first}
-use Rattle.model.specs.Matches.{hasFree, tooLong}
+use Rattle.model.specs.Matches.{isYes, tooLong}
 use Rattle.model.specs.Section.{Section}
 use Rattle.model.specs.Trees.{Tree, phrase, pair, negation, filter, placeOf, parts}
 use Rattle.model.specs.Walk.{firstTooLong, unlessTooLong, build, turned, orWalk, andWalk, walk, says, built, reached}
-use Rattle.model.proofs.FreeLaws.{free-phrase, free-or, free-and, free-not}
+use Rattle.model.proofs.YesLaws.{yes-phrase, yes-or, yes-and, yes-not}
 use Rattle.model.proofs.ListsLaws.{FirstIn, first-append, first-none, first-some, first-sublist, length-sublist, sublist-append}
 
 -- ---- parts
@@ -142,13 +142,13 @@ walk-is s (filter f c t) = refl
 
 -- ---- says
 
-pub says-free : (s : Section) (t : Tree) → says s t ≡ hasFree (allMatches s t)
+pub says-free : (s : Section) (t : Tree) → says s t ≡ isYes (allMatches s t)
 unfolding says allMatches
-says-free s (phrase c rank ws) = sym (free-phrase s rank ws)
-says-free s (pair Or c t u) = ap₂ _||_ (says-free s t) (says-free s u) ∙ sym (free-or (allMatches s t) (allMatches s u))
-says-free s (pair And c t u) = ap₂ _&&_ (says-free s t) (says-free s u) ∙ sym (free-and (allMatches s t) (allMatches s u))
+says-free s (phrase c rank ws) = sym (yes-phrase s rank ws)
+says-free s (pair Or c t u) = ap₂ _||_ (says-free s t) (says-free s u) ∙ sym (yes-or (allMatches s t) (allMatches s u))
+says-free s (pair And c t u) = ap₂ _&&_ (says-free s t) (says-free s u) ∙ sym (yes-and (allMatches s t) (allMatches s u))
 says-free s (pair MildNot c t u) = refl
-says-free s (negation c t) = ap not (says-free s t) ∙ sym (free-not (allMatches s t))
+says-free s (negation c t) = ap not (says-free s t) ∙ sym (yes-not (allMatches s t))
 says-free s (filter f c t) = refl
 
 -- ---- built, reached

@@ -16,7 +16,7 @@ use Rattle.model.specs.declared.Quick.the-variants.{Answered, Refused as
 use Rattle.model.specs.AllMatches.{allMatches}
 use Rattle.model.specs.Checks.{Refusal, refusal, otherwise, sectionRefusal, listingChecks, quickChecks}
 use Rattle.model.specs.Limits.{radix}
-use Rattle.model.specs.Matches.{Str, Match, hasFree, stringsIn, strings}
+use Rattle.model.specs.Matches.{Str, Match, isYes, stringsIn, strings}
 use Rattle.model.specs.Section.{size, sectionOf}
 use Rattle.model.specs.Trees.{treeOf, parts}
 use Rattle.model.specs.Walk.{firstTooLong, walk}
@@ -43,7 +43,7 @@ listingRefusal section selection work buffer =
 
 -- "It answers M, S and yes or no, or a refusal with its place."
 abbrev pub listed : List Match → Listing
-listed ms = Listed (length ms) (strings ms) (hasFree ms)
+listed ms = Listed (length ms) (strings ms) (isYes ms)
 
 abbrev pub answerUnless : Option Refusal → List Match → Listing
 answerUnless (some r) ms = ListingRefused (r .number) (r .place)

@@ -6,10 +6,10 @@ use mathlib.Core.Option.{Option, some, none, Option·map}
 use lib.Dec.{leb, ltb, eqb}
 use Rattle.model.specs.declared.Pair.the-variants.{Or, And, MildNot}
 use Rattle.model.specs.Limits.{maxTokens, maxCodes, maxWaiting, maxWindow, maxDistance, workLength, bufferLength, radix}
-use Rattle.model.specs.Lists.{any, first, range}
+use Rattle.model.specs.Lists.{anyOf, first, fromTo}
 use Rattle.model.specs.Section.{size, wellSized, sentenceAt, paragraphAt}
 use Rattle.model.specs.Selection.{kindAt, operandAt, codesOf}
-use Rattle.model.specs.Waiting.{break}
+use Rattle.model.specs.Waiting.{firstBreak}
 use Rattle.model.specs.Trees.{Tree, phrase, pair, negation, filter, placeOf, treeOf, parts}
 
 -- a refusal by number and place
@@ -47,7 +47,7 @@ unfoldable pub faultyAt : List ℕ → ℕ → Bool
 faultyAt section p = faultyIn (sentenceAt section) p || faultyIn (paragraphAt section) p
 
 unfoldable pub faultyPosition : List ℕ → Option ℕ
-faultyPosition section = first (faultyAt section) (range 2 (size section))
+faultyPosition section = first (faultyAt section) (fromTo 2 (size section))
 
 -- 3, place 0: "selection empty, m not 1 to 64, or length wrong"
 unfoldable pub wrongSelection : List ℕ → Option ℕ
@@ -55,7 +55,7 @@ wrongSelection selection = cond (wellSized 1 maxCodes selection) none (some 0)
 
 -- 4, first such code: "kind unknown"; "16 and up are unknown"
 unfoldable pub unknownKind : List ℕ → Option ℕ
-unknownKind selection = first (λ c. leb 16 (kindAt selection c)) (range 1 (size selection))
+unknownKind selection = first (λ c. leb 16 (kindAt selection c)) (fromTo 1 (size selection))
 
 -- 5, first such code: "operand outside the table"
 -- "k, 1 to 8"; "N, 1 to 4,096"; "a × 65,536 + b, a ≤ b ≤ 4,095"; any word number; 0 for the rest
@@ -68,11 +68,11 @@ operandFits kind operand =
     (eqb operand 0))))
 
 unfoldable pub wrongOperand : List ℕ → Option ℕ
-wrongOperand selection = first (λ c. not (operandFits (kindAt selection c) (operandAt selection c))) (range 1 (size selection))
+wrongOperand selection = first (λ c. not (operandFits (kindAt selection c) (operandAt selection c))) (fromTo 1 (size selection))
 
 -- 6, "first code breaking the waiting rule (m if only the end does)": "shape wrong"
 unfoldable pub wrongShape : List ℕ → Option ℕ
-wrongShape selection = break (codesOf selection)
+wrongShape selection = firstBreak (codesOf selection)
 
 -- 7, the first such kind 5: "a not under a mild not"; "No kind 4 may stand in either side of a kind 5."
 abbrev pub isNot : Tree → Bool
@@ -82,7 +82,7 @@ isNot (negation c t) = true
 isNot (filter f c t) = false
 
 abbrev pub hasNot : Tree → Bool
-hasNot t = any isNot (parts t)
+hasNot t = anyOf isNot (parts t)
 
 abbrev pub mildOverNot : Tree → Bool
 mildOverNot (phrase c r ws) = false

@@ -8,7 +8,7 @@ use mathlib.Core.Option.{none}
 use Rattle.model.specs.AllMatches.{allMatches}
 use Rattle.model.specs.Checks.{inputRefusal}
 use Rattle.model.specs.Limits.{workLength}
-use Rattle.model.specs.Lists.{all}
+use Rattle.model.specs.Lists.{allOf}
 use Rattle.model.specs.Matches.{tooLong}
 use Rattle.model.specs.Section.{Section, sectionOf}
 use Rattle.model.specs.Trees.{Tree, placeOf, treeOf}
@@ -37,6 +37,6 @@ pub record TooLongFirst (s : Section) (codes : List Tree) (c : ℕ) : Type 0 whe
   pub code : Tree
   pub after : List Tree
   pub order : codes ≡ before ++ code ∷ after
-  pub others-fit : all (λ t. not (isTooLong s t)) before ≡ true
+  pub others-fit : allOf (λ t. not (isTooLong s t)) before ≡ true
   pub is-long : isTooLong s code ≡ true
   pub place : placeOf code ≡ c

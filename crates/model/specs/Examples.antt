@@ -14,12 +14,12 @@ use Rattle.model.specs.AllMatches.{filterList, allMatches}
 use Rattle.model.specs.Answers.{completeList, listingRefusal, listingAnswer, listingNumbers, listingBuffer, quickAnswer}
 use Rattle.model.specs.Checks.{tried, wrongSection, faultyAt, faultyPosition, wrongSelection, unknownKind, operandFits, wrongOperand, wrongShape, notUnderMildNot, sectionRefusal, selectionRefusal, inputRefusal, listingChecks, quickChecks}
 use Rattle.model.specs.Limits.{workLength, bufferLength, radix}
-use Rattle.model.specs.Lists.{all, any, isEmpty, keep, first, allPairs, neighbours, insert, sort, upFrom, range}
+use Rattle.model.specs.Lists.{allOf, anyOf, isEmpty, keep, first, allPairs, neighbours, insertSorted, sort, upFrom, fromTo}
 use Rattle.model.specs.Matches.{Str, Match, strings}
 use Rattle.model.specs.Rules.{standFrom, phraseList, noStrings, andList, notList, mildNotList, ordered, leastStart, greatestEnd, join, windowEnds, window, distance, inUnitOf, same, different, atStart, atEnd, entireContent}
 use Rattle.model.specs.Section.{wellSized}
 use Rattle.model.specs.Selection.{upTo, codesOf}
-use Rattle.model.specs.Trees.{placeOf, combine, wrap, read, readAll, last, treeOf, parts}
+use Rattle.model.specs.Trees.{placeOf, combine, wrap, read, readAll, topTree, treeOf, parts}
 use Rattle.model.specs.Waiting.{breakFrom}
 use Rattle.model.specs.Walk.{firstTooLong, build, walk}
 
@@ -77,7 +77,7 @@ holds section selection (answers b) =
     listingSays (listingAnswer section selection workLength bufferLength) b && quickSays (quickAnswer section selection workLength) b
 
 pub right : Example → Bool
-right e = all (holds (e .section) (e .selection)) (e .claims)
+right e = allOf (holds (e .section) (e .selection)) (e .claims)
 
 -- ---- sections, selections and matches, as the paper writes them
 
@@ -142,9 +142,9 @@ entries =
     }
     ∷ []
 
-pub examples-hold : all right entries ≡ true
+pub examples-hold : allOf right entries ≡ true
 unfolding eachSame sameStr sameMatch countsMatches countsStrings listingSays quickSays buffered holds right inParagraph select one six emptySection four entries
-    xor all any isEmpty keep first allPairs neighbours insert sort upFrom range flatMap wellSized upTo codesOf breakFrom placeOf combine wrap read readAll last treeOf parts strings
+    xor allOf anyOf isEmpty keep first allPairs neighbours insertSorted sort upFrom fromTo flatMap wellSized upTo codesOf breakFrom placeOf combine wrap read readAll topTree treeOf parts strings
     standFrom phraseList andList notList mildNotList ordered leastStart greatestEnd join windowEnds window distance inUnitOf same different atStart atEnd entireContent filterList allMatches
     tried wrongSection faultyAt faultyPosition wrongSelection unknownKind operandFits wrongOperand wrongShape notUnderMildNot sectionRefusal selectionRefusal inputRefusal listingChecks quickChecks
     firstTooLong build walk listingRefusal listingAnswer listingNumbers listingBuffer quickAnswer

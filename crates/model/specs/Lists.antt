@@ -5,13 +5,13 @@ use mathlib.Core.List.{List, [], _∷_}
 use mathlib.Core.Option.{Option, some, none}
 
 module _ {A : Type 0} where
-  unfoldable pub all : (A → Bool) → List A → Bool
-  all p [] = true
-  all p (x ∷ xs) = p x && all p xs
+  unfoldable pub allOf : (A → Bool) → List A → Bool
+  allOf p [] = true
+  allOf p (x ∷ xs) = p x && allOf p xs
 
-  unfoldable pub any : (A → Bool) → List A → Bool
-  any p [] = false
-  any p (x ∷ xs) = p x || any p xs
+  unfoldable pub anyOf : (A → Bool) → List A → Bool
+  anyOf p [] = false
+  anyOf p (x ∷ xs) = p x || anyOf p xs
 
   unfoldable pub isEmpty : List A → Bool
   isEmpty [] = true
@@ -30,7 +30,7 @@ module _ {A : Type 0} where
   -- every pair of an earlier and a later element
   unfoldable pub allPairs : (A → A → Bool) → List A → Bool
   allPairs r [] = true
-  allPairs r (x ∷ xs) = all (r x) xs && allPairs r xs
+  allPairs r (x ∷ xs) = allOf (r x) xs && allPairs r xs
 
   -- each element and the next
   unfoldable pub neighbours : (A → A → Bool) → List A → Bool
@@ -38,13 +38,13 @@ module _ {A : Type 0} where
   neighbours r (x ∷ []) = true
   neighbours r (x ∷ y ∷ ys) = r x y && neighbours r (y ∷ ys)
 
-  unfoldable pub insert : (A → A → Bool) → A → List A → List A
-  insert le x [] = x ∷ []
-  insert le x (y ∷ ys) = cond (le x y) (x ∷ y ∷ ys) (y ∷ insert le x ys)
+  unfoldable pub insertSorted : (A → A → Bool) → A → List A → List A
+  insertSorted le x [] = x ∷ []
+  insertSorted le x (y ∷ ys) = cond (le x y) (x ∷ y ∷ ys) (y ∷ insertSorted le x ys)
 
   unfoldable pub sort : (A → A → Bool) → List A → List A
   sort le [] = []
-  sort le (x ∷ xs) = insert le x (sort le xs)
+  sort le (x ∷ xs) = insertSorted le x (sort le xs)
 
 -- n numbers, rising from a
 unfoldable pub upFrom : ℕ → ℕ → List ℕ
@@ -52,5 +52,5 @@ upFrom a zero = []
 upFrom a (suc n) = a ∷ upFrom (a + 1) n
 
 -- the numbers from a to b; none where b is below a
-unfoldable pub range : ℕ → ℕ → List ℕ
-range a b = upFrom a (b + 1 - a)
+unfoldable pub fromTo : ℕ → ℕ → List ℕ
+fromTo a b = upFrom a (b + 1 - a)

@@ -5,7 +5,7 @@ use mathlib.Core.List.{List, [], _∷_}
 use lib.Dec.{ltb}
 use lib.ListN.{length}
 use Rattle.model.specs.Limits.{maxMatches, maxStrings}
-use Rattle.model.specs.Lists.{any, isEmpty}
+use Rattle.model.specs.Lists.{anyOf, isEmpty}
 
 pub record Str : Type 0 where
   pub start : ℕ
@@ -18,11 +18,11 @@ pub record Match : Type 0 where
   pub excludes : List Str
 
 -- "looks for a match without excludes": yes where there is one, also where it has no strings at all
-abbrev pub free : Match → Bool
-free m = isEmpty (m .excludes)
+abbrev pub noExclude : Match → Bool
+noExclude m = isEmpty (m .excludes)
 
-abbrev pub hasFree : List Match → Bool
-hasFree ms = any free ms
+abbrev pub isYes : List Match → Bool
+isYes ms = anyOf noExclude ms
 
 -- how many strings a match has, and a list
 abbrev pub stringsIn : Match → ℕ

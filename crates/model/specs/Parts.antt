@@ -12,7 +12,7 @@ use Rattle.model.specs.declared.Filter.{Filter}
 use Rattle.model.specs.declared.Filter.the-variants.{Ordered, Window, Distance, SameSentence, SameParagraph, DifferentSentence, DifferentParagraph, AtStart, AtEnd, EntireContent}
 use Rattle.model.specs.Selection.{upTo}
 use Rattle.model.specs.Waiting.{fits, listsBehind, wordsBehind, atRest}
-use Rattle.model.specs.Trees.{Tree, phrase, pair, negation, filter, State, read, fresh, last, parts}
+use Rattle.model.specs.Trees.{Tree, phrase, pair, negation, filter, State, read, fresh, topTree, parts}
 
 -- ---- tests of one code
 
@@ -114,10 +114,10 @@ waitingParts (t ∷ ts) = waitingParts ts ++ parts t
 -- the part that a code ends, where the given trees wait behind it
 abbrev pub newest : Code → List Tree → List Tree
 newest (Word w) ts = []
-newest (Phrase k) ts = last ts ∷ []
-newest (Combine k) ts = last ts ∷ []
-newest Not ts = last ts ∷ []
-newest (Filtered f) ts = last ts ∷ []
+newest (Phrase k) ts = topTree ts ∷ []
+newest (Combine k) ts = topTree ts ∷ []
+newest Not ts = topTree ts ∷ []
+newest (Filtered f) ts = topTree ts ∷ []
 
 -- ---- the waiting rule over many codes
 

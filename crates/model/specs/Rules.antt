@@ -4,7 +4,7 @@ use mathlib.Core.Bool.{Bool, true, not, _&&_, _||_, cond}
 use mathlib.Core.List.{List, [], _∷_, _++_, map, flatMap}
 use lib.Dec.{leb, ltb, eqb}
 use lib.ListN.{length}
-use Rattle.model.specs.Lists.{all, any, keep, allPairs, neighbours, sort, range}
+use Rattle.model.specs.Lists.{allOf, anyOf, keep, allPairs, neighbours, sort, fromTo}
 use Rattle.model.specs.Matches.{Str, Match}
 use Rattle.model.specs.Section.{Section}
 
@@ -18,7 +18,7 @@ abbrev pub found : ℕ → ℕ → ℕ → Match
 found rank k p = record { includes = record { start = p; end = p + k - 1; query = rank; contiguous = true } ∷ []; excludes = [] }
 
 unfoldable pub phraseList : Section → ℕ → List ℕ → List Match
-phraseList s rank ws = map (found rank (length ws)) (keep (standFrom s ws) (range 1 (s .tokens)))
+phraseList s rank ws = map (found rank (length ws)) (keep (standFrom s ws) (fromTo 1 (s .tokens)))
 
 -- Or: "L's matches, then R's."
 
@@ -56,16 +56,16 @@ abbrev pub covers : Str → ℕ → Bool
 covers s p = leb (s .start) p && leb p (s .end)
 
 abbrev pub covered : List Str → ℕ → Bool
-covered ss p = any (λ s. covers s p) ss
+covered ss p = anyOf (λ s. covers s p) ss
 
 abbrev pub positions : Str → List ℕ
-positions s = range (s .start) (s .end)
+positions s = fromTo (s .start) (s .end)
 
 abbrev pub reachesBeyond : Match → Match → Bool
-reachesBeyond l r = any (λ s. any (λ p. not (covered (r .includes) p)) (positions s)) (l .includes)
+reachesBeyond l r = anyOf (λ s. anyOf (λ p. not (covered (r .includes) p)) (positions s)) (l .includes)
 
 unfoldable pub mildNotList : List Match → List Match → List Match
-mildNotList ls rs = keep (λ l. all (reachesBeyond l) rs) ls
+mildNotList ls rs = keep (λ l. allOf (reachesBeyond l) rs) ls
 
 -- A filter works on one match: the matches that it gives, in order.
 
@@ -79,7 +79,7 @@ abbrev pub agree : Str → Str → Bool
 agree a b = leb (a .start) (b .start) && leb (a .query) (b .query) || leb (b .start) (a .start) && leb (b .query) (a .query)
 
 unfoldable pub ordered : Match → List Match
-ordered m = keptIf (allPairs agree (m .includes)) (record { includes = m .includes; excludes = keep (λ e. all (agree e) (m .includes)) (m .excludes) })
+ordered m = keptIf (allPairs agree (m .includes)) (record { includes = m .includes; excludes = keep (λ e. allOf (agree e) (m .includes)) (m .excludes) })
 
 -- Join: "no includes give none. Otherwise one include from least start to greatest end, with the first include's query position; contiguous if
 -- every position in it is covered and all were contiguous."
@@ -99,7 +99,7 @@ join (s ∷ ss) =
       start = leastStart s ss;
       end = greatestEnd s ss;
       query = s .query;
-      contiguous = all (covered (s ∷ ss)) (range (leastStart s ss) (greatestEnd s ss)) && all (λ t. t .contiguous) (s ∷ ss);
+      contiguous = allOf (covered (s ∷ ss)) (fromTo (leastStart s ss) (greatestEnd s ss)) && allOf (λ t. t .contiguous) (s ∷ ss);
     } ∷ []
 
 -- Window: "for each match with includes and each W from (greatest end − N + 1) up to least start, one match: the join, and the excludes inside
@@ -115,7 +115,7 @@ windowTo n m last = record { includes = join (m .includes); excludes = keep (ins
 
 unfoldable pub windowEnds : ℕ → List Str → List ℕ
 windowEnds n [] = []
-windowEnds n (s ∷ ss) = range (greatestEnd s ss) (leastStart s ss + n - 1)
+windowEnds n (s ∷ ss) = fromTo (greatestEnd s ss) (leastStart s ss + n - 1)
 
 unfoldable pub window : ℕ → Match → List Match
 window n m = map (windowTo n m) (windowEnds n (m .includes))
@@ -139,7 +139,7 @@ within a b d = leb a d && leb d b
 unfoldable pub distance : ℕ → ℕ → Match → List Match
 distance a b m =
     keptIf (neighbours (λ s t. within a b (distanceOf s t)) (sort notAfter (m .includes)))
-    (record { includes = join (m .includes); excludes = keep (λ e. all (λ s. within a b (distanceOf e s)) (m .includes)) (m .excludes) })
+    (record { includes = join (m .includes); excludes = keep (λ e. allOf (λ s. within a b (distanceOf e s)) (m .includes)) (m .excludes) })
 
 -- "A sentence or paragraph of a span's start or end is that of the token there." A unit is either, as the number at a position.
 
@@ -158,7 +158,7 @@ inUnitOf unit [] = inOneUnit unit
 inUnitOf unit (s ∷ ss) = inUnit unit (unit (s .start))
 
 unfoldable pub same : (ℕ → ℕ) → Match → List Match
-same unit m = keptIf (all (inUnitOf unit (m .includes)) (m .includes)) (record { includes = m .includes; excludes = keep (inUnitOf unit (m .includes)) (m .excludes) })
+same unit m = keptIf (allOf (inUnitOf unit (m .includes)) (m .includes)) (record { includes = m .includes; excludes = keep (inUnitOf unit (m .includes)) (m .excludes) })
 
 -- Different: "at least two includes, all units nonzero, and no two includes' unit ranges overlapping. An exclude stays if its units are nonzero
 -- and overlap no include's."
@@ -171,8 +171,8 @@ apart unit s t = ltb (unit (s .end)) (unit (t .start)) || ltb (unit (t .end)) (u
 
 unfoldable pub different : (ℕ → ℕ) → Match → List Match
 different unit m =
-    keptIf (leb 2 (length (m .includes)) && all (hasUnits unit) (m .includes) && allPairs (apart unit) (m .includes))
-    (record { includes = m .includes; excludes = keep (λ e. hasUnits unit e && all (apart unit e) (m .includes)) (m .excludes) })
+    keptIf (leb 2 (length (m .includes)) && allOf (hasUnits unit) (m .includes) && allPairs (apart unit) (m .includes))
+    (record { includes = m .includes; excludes = keep (λ e. hasUnits unit e && allOf (apart unit e) (m .includes)) (m .excludes) })
 
 -- "At start, at end: some include covers position 1, or n. With n = 0 none does."
 
@@ -188,4 +188,4 @@ atEnd s m = atPosition s (s .tokens) m
 -- "Entire content: every position 1 to n is covered by some contiguous include."
 
 unfoldable pub entireContent : Section → Match → List Match
-entireContent s m = keptIf (all (covered (keep (λ i. i .contiguous) (m .includes))) (range 1 (s .tokens))) m
+entireContent s m = keptIf (allOf (covered (keep (λ i. i .contiguous) (m .includes))) (fromTo 1 (s .tokens))) m

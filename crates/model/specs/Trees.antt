@@ -55,12 +55,12 @@ abbrev pub fresh : ℕ → ℕ → State
 fresh place rank = record { trees = []; words = []; place = place; rank = rank }
 
 -- the last tree that waits. Of a selection that keeps the waiting rule it is the only one; the other case never meets such a selection
-unfoldable pub last : List Tree → Tree
-last [] = phrase 0 0 []
-last (t ∷ ts) = t
+unfoldable pub topTree : List Tree → Tree
+topTree [] = phrase 0 0 []
+topTree (t ∷ ts) = t
 
 unfoldable pub treeOf : List ℕ → Tree
-treeOf selection = last (readAll (codesOf selection) (fresh 1 1) .trees)
+treeOf selection = topTree (readAll (codesOf selection) (fresh 1 1) .trees)
 
 -- The part of a code "is its code and every code below it": the parts in a tree, one for each code but those of kind 0, in postfix order.
 unfoldable pub parts : Tree → List Tree

@@ -41,5 +41,5 @@ unfoldable pub breakFrom : ℕ → List Code → ℕ → ℕ → Option ℕ
 breakFrom c [] w p = cond (atRest w p) none (some c)
 breakFrom c (x ∷ xs) w p = let later = breakFrom (c + 1) xs (listsBehind x w) (wordsBehind x p) in cond (fits x w p) later (some (c + 1))
 
-abbrev pub break : List Code → Option ℕ
-break codes = breakFrom 0 codes 0 0
+abbrev pub firstBreak : List Code → Option ℕ
+firstBreak codes = breakFrom 0 codes 0 0

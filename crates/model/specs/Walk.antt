@@ -9,8 +9,8 @@ use Rattle.model.specs.declared.Pair.the-variants.{Or, And, MildNot}
 use Rattle.model.specs.declared.Quick.{Quick}
 use Rattle.model.specs.declared.Quick.the-variants.{Answered, Refused}
 use Rattle.model.specs.AllMatches.{allMatches}
-use Rattle.model.specs.Lists.{first, isEmpty, keep, range}
-use Rattle.model.specs.Matches.{hasFree, tooLong}
+use Rattle.model.specs.Lists.{first, isEmpty, keep, fromTo}
+use Rattle.model.specs.Matches.{isYes, tooLong}
 use Rattle.model.specs.Rules.{phraseList}
 use Rattle.model.specs.Section.{Section, size}
 use Rattle.model.specs.Selection.{kindAt}
@@ -28,7 +28,7 @@ unlessTooLong (some place) answer codes = Refused 9 place
 unlessTooLong none answer codes = Answered answer codes
 
 unfoldable pub build : Section → Tree → Quick
-build s t = unlessTooLong (firstTooLong s (parts t)) (hasFree (allMatches s t)) (length (parts t))
+build s t = unlessTooLong (firstTooLong s (parts t)) (isYes (allMatches s t)) (length (parts t))
 
 -- "not turns the answer round"; "each walked code counts once"; "The walk ends at its first refusal."
 abbrev pub turned : Quick → Quick
@@ -64,8 +64,8 @@ says s (phrase c rank ws) = not (isEmpty (phraseList s rank ws))
 says s (negation c t) = not (says s t)
 says s (pair Or c t u) = says s t || says s u
 says s (pair And c t u) = says s t && says s u
-says s (pair MildNot c t u) = hasFree (allMatches s (pair MildNot c t u))
-says s (filter f c t) = hasFree (allMatches s (filter f c t))
+says s (pair MildNot c t u) = isYes (allMatches s (pair MildNot c t u))
+says s (filter f c t) = isYes (allMatches s (filter f c t))
 
 -- .. the codes that it would build, were no list too long, in order ..
 unfoldable pub built : Section → Tree → List Tree
@@ -87,4 +87,4 @@ reached s (filter f c t) = parts (filter f c t)
 
 -- "The selection's own count is that of all its codes but those of kind 0."
 unfoldable pub ownCount : List ℕ → ℕ
-ownCount selection = length (keep (λ c. leb 1 (kindAt selection c)) (range 1 (size selection)))
+ownCount selection = length (keep (λ c. leb 1 (kindAt selection c)) (fromTo 1 (size selection)))

@@ -86,7 +86,7 @@ module _ {mem : List ℕ} {src total c at : ℕ} (w : ChoiceAt mem src total c a
 
       pub ends : Ends (length F) at b e
       ends =
-          let all : stringsIn (choice (w .list) c) ≡ length (w .list) = strings-choice (w .list) c (rw (← w .source .total-is) (w .in-range)) in
+          let allOf : stringsIn (choice (w .list) c) ≡ length (w .list) = strings-choice (w .list) c (rw (← w .source .total-is) (w .in-range)) in
           omega (arith, includes-are, excludes-are, w .source .slot .few, w .room, length-match (choice (w .list) c), length-put includes-put, length-put excludes-put)
 
       pub whole : {header : ℕ} → header ≡ headerOf ((b - (at + 1)) / 2) ((e - b) / 2) → Put mem (set F at header) at (matchNumbers (choice (w .list) c)) e
@@ -140,8 +140,8 @@ module _ {mem₀ : List ℕ} {src total at : ℕ} (w : ChoicesAt mem₀ src tota
 
 module _ {mem : List ℕ} {src at m s : ℕ} {size : Built} (w : SlotAt mem src) (u : Under (length mem) src at)
     (e : size ≡ builtOf (notList (w .list))) (t : size ≡ Made m s) where
-  pub all : ChoicesAt mem src m (at + 2)
-  all =
+  pub allOf : ChoicesAt mem src m (at + 2)
+  allOf =
       let z = answer-made (notList (w .list)) (sym t ∙ e) in
       record {
         list = w .list;
@@ -149,7 +149,7 @@ module _ {mem : List ℕ} {src at m s : ℕ} {size : Built} (w : SlotAt mem src)
         room = omega (arith, length-matches (notList (w .list)), z .small .few, z .small .strs, u .room);
       }
 
-  pub made : {E exit : List ℕ} {next : ℕ} → Put mem E (at + 2) (matchesNumbers (notList (all .list))) next → exit ≡ sets E at (m ∷ s ∷ [])
+  pub made : {E exit : List ℕ} {next : ℕ} → Put mem E (at + 2) (matchesNumbers (notList (allOf .list))) next → exit ≡ sets E at (m ∷ s ∷ [])
       → Outcome (notList (w .list)) mem exit at (Made m s)
-  unfolding all
+  unfolding allOf
   made v f = filled (sym t ∙ e) v f

@@ -9,7 +9,7 @@ use mathlib.Core.Option.{Option, some, none}
 use lib.ListN.{drop}
 use borrow.Author.Tests.{eq-eqb, ne-eqb}
 use Rattle.model.specs.declared.Code.{Code}
-use Rattle.model.specs.Lists.{any}
+use Rattle.model.specs.Lists.{anyOf}
 use Rattle.model.specs.Parts.{isNotCode, stops, needs, back, partStart}
 use Rattle.model.specs.Selection.{upTo}
 use Rattle.model.specs.Waiting.{fits, listsBehind, wordsBehind, atRest, breakFrom}
@@ -61,15 +61,15 @@ back-zero at c n e = sym (ap (λ k. back at k n) e ∙ back-none at n)
 
 module _ (at : ℕ → Code) (lo : ℕ) where
   abbrev nots : ℕ → Bool
-  nots c = any isNotCode (upTo (λ i. at (lo + i)) (c - lo))
+  nots c = anyOf isNotCode (upTo (λ i. at (lo + i)) (c - lo))
 
   module _ (c : ℕ) (h : lo < c) (code : Code) (e : code ≡ at c) where
     last-is : nots c ≡ (nots (c - 1) || isNotCode code)
-    unfolding upTo any
+    unfolding upTo anyOf
     last-is =
         let n : c - lo ≡ suc (c - 1 - lo) = omega arith in
         let k : lo + suc (c - 1 - lo) ≡ c = omega arith in
-        ap (λ d. any isNotCode (upTo (λ i. at (lo + i)) d)) n
+        ap (λ d. anyOf isNotCode (upTo (λ i. at (lo + i)) d)) n
         ∙ any-append isNotCode (upTo (λ i. at (lo + i)) (c - 1 - lo)) (at (lo + suc (c - 1 - lo)) ∷ [])
         ∙ ap (λ b. nots (c - 1) || b) (or-false (isNotCode (at (lo + suc (c - 1 - lo)))) ∙ ap (λ d. isNotCode (at d)) k ∙ ap isNotCode (sym e))
 
@@ -84,5 +84,5 @@ module _ (at : ℕ → Code) (lo : ℕ) where
     nots-before f = sym (last-is ∙ ap (λ b. nots (c - 1) || b) f ∙ or-false (nots (c - 1)))
 
   pub nots-none : (c : ℕ) → c ≤ lo → false ≡ nots c
-  unfolding upTo any
-  nots-none c h = let n : c - lo ≡ 0 = omega arith in sym (ap (λ d. any isNotCode (upTo (λ i. at (lo + i)) d)) n)
+  unfolding upTo anyOf
+  nots-none c h = let n : c - lo ≡ 0 = omega arith in sym (ap (λ d. anyOf isNotCode (upTo (λ i. at (lo + i)) d)) n)

@@ -12,11 +12,11 @@ use Rattle.model.specs.declared.Code.{Code}
 use Rattle.model.specs.declared.Code.the-variants.{Word, Phrase, Combine, Not, Filter}
 use Rattle.model.specs.declared.Pair.the-variants.{Or, And, MildNot}
 use Rattle.model.specs.Checks.{isNot, hasNot, mildOverNot, notUnderMildNot}
-use Rattle.model.specs.Lists.{any, first}
+use Rattle.model.specs.Lists.{anyOf, first}
 use Rattle.model.specs.Parts.{isNotCode, postfix, fitsAll, wellFormed, headOf, newest, waitingParts, PartAt, partStart}
 use Rattle.model.specs.Section.{size}
 use Rattle.model.specs.Selection.{upTo, codeAt, codesOf}
-use Rattle.model.specs.Trees.{Tree, pair, placeOf, State, read, readAll, fresh, last, treeOf, parts}
+use Rattle.model.specs.Trees.{Tree, pair, placeOf, State, read, readAll, fresh, topTree, treeOf, parts}
 use Rattle.model.proofs.BuildLaws.{part-codes}
 use Rattle.model.proofs.ChecksLaws.{has-not}
 use Rattle.model.proofs.ListsLaws.{any-append, first-append}
@@ -30,21 +30,21 @@ use Rattle.selection.specs.PartCodes.{partCodes, isMildNot}
 -- ---- one part
 
 -- a mild not over a not is told by its code and its codes
-mild-tree : (k c : ℕ) (t u : Tree) → mildOverNot (pair MildNot c t u) ≡ any isNotCode (postfix (pair MildNot c t u))
-unfolding parts any
+mild-tree : (k c : ℕ) (t u : Tree) → mildOverNot (pair MildNot c t u) ≡ anyOf isNotCode (postfix (pair MildNot c t u))
+unfolding parts anyOf
 mild-tree k c t u =
-    sym (any-append isNot (parts t ++ parts u) (pair MildNot c t u ∷ []) ∙ or-false (any isNot (parts t ++ parts u)) ∙ any-append isNot (parts t) (parts u))
+    sym (any-append isNot (parts t ++ parts u) (pair MildNot c t u ∷ []) ∙ or-false (anyOf isNot (parts t ++ parts u)) ∙ any-append isNot (parts t) (parts u))
     ∙ has-not (pair MildNot c t u)
 
 module _ (at : ℕ → Code) (hi : ℕ) (w : PartAt at hi) where
-  pub mild-part : (code : Code) → at hi ≡ code → mildOverNot (w .tree) ≡ (isMildNot code && any isNotCode (postfix (w .tree)))
+  pub mild-part : (code : Code) → at hi ≡ code → mildOverNot (w .tree) ≡ (isMildNot code && anyOf isNotCode (postfix (w .tree)))
   mild-part (Word v) e = word-at at hi w v e
   mild-part (Phrase k) e = ap mildOverNot (phrase-at at hi w k e .is)
   mild-part (Combine Or) e = ap mildOverNot (pair-at at hi w Or _ refl e .is)
   mild-part (Combine And) e = ap mildOverNot (pair-at at hi w And _ refl e .is)
   mild-part (Combine MildNot) e =
       let is = pair-at at hi w MildNot _ refl e .is in
-      ap mildOverNot is ∙ mild-tree 0 hi _ _ ∙ ap (λ t. any isNotCode (postfix t)) (sym is)
+      ap mildOverNot is ∙ mild-tree 0 hi _ _ ∙ ap (λ t. anyOf isNotCode (postfix t)) (sym is)
   mild-part Not e = ap mildOverNot (negation-at at hi w e .is)
   mild-part (Filter f) e = ap mildOverNot (filter-at at hi w f e .is)
 
@@ -79,7 +79,7 @@ unfolding first
 placeIn-one t e = rw e
 
 -- a word ends no part, any other code one
-ends-part : (code : Code) → ((isMildNot code ≡ false) × ((ts : List Tree) → newest code ts ≡ [])) ⊎ ((headOf code ≡ 1) × ((ts : List Tree) → newest code ts ≡ last ts ∷ []))
+ends-part : (code : Code) → ((isMildNot code ≡ false) × ((ts : List Tree) → newest code ts ≡ [])) ⊎ ((headOf code ≡ 1) × ((ts : List Tree) → newest code ts ≡ topTree ts ∷ []))
 ends-part (Word v) = inl (refl, λ ts. refl)
 ends-part (Phrase k) = inr (refl, λ ts. refl)
 ends-part (Combine k) = inr (refl, λ ts. refl)
@@ -105,13 +105,13 @@ module _ (at : ℕ → Code) (m : ℕ) (well : wellFormed (upTo at m) ≡ true) 
     part e = part-at at m well (suc c) (omega arith) h e
 
     module _ (e : headOf (at (suc c)) ≡ 1) where
-      is-mild : (code : Code) → at (suc c) ≡ code → mildOverNot (last (behind at (suc c) .trees)) ≡ (isMildNot code && any isNotCode (partCodes at (suc c)))
+      is-mild : (code : Code) → at (suc c) ≡ code → mildOverNot (topTree (behind at (suc c) .trees)) ≡ (isMildNot code && anyOf isNotCode (partCodes at (suc c)))
       unfolding partCodes
       is-mild code d =
           ap mildOverNot (part-read at (suc c) (part e)) ∙ mild-part at (suc c) (part e) code d
-          ∙ ap (λ cs. isMildNot code && any isNotCode cs) (sym (part-codes at (suc c) (partStart at (suc c)) (part e) refl))
+          ∙ ap (λ cs. isMildNot code && anyOf isNotCode cs) (sym (part-codes at (suc c) (partStart at (suc c)) (part e) refl))
 
-      its-place : placeOf (last (behind at (suc c) .trees)) ≡ suc c
+      its-place : placeOf (topTree (behind at (suc c) .trees)) ≡ suc c
       its-place = ap placeOf (part-read at (suc c) (part e)) ∙ part-place at (suc c) (part e)
 
   -- ---- the turns of the search
@@ -122,15 +122,15 @@ module _ (at : ℕ → Code) (m : ℕ) (well : wellFormed (upTo at m) ≡ true) 
         ap placeIn (adds c h) ∙ placeIn-append (waitingParts (behind at c .trees)) (newest (at (suc c)) (behind at (suc c) .trees)) none-yet
         ∙ ap placeIn (ap (λ k. newest k (behind at (suc c) .trees)) (sym d) ∙ e)
 
-    not-here : (isMildNot code && any isNotCode (partCodes at (suc c))) ≡ false → found at (suc c) ≡ none
+    not-here : (isMildNot code && anyOf isNotCode (partCodes at (suc c))) ≡ false → found at (suc c) ≡ none
     unfolding first
     not-here q =
         ⊎-elim
         (λ w. newer [] (w .1 _))
-        (λ w. newer _ (w .1 _) ∙ placeIn-none (last (behind at (suc c) .trees)) (is-mild c h (ap headOf (sym d) ∙ w .0) code (sym d) ∙ q))
+        (λ w. newer _ (w .1 _) ∙ placeIn-none (topTree (behind at (suc c) .trees)) (is-mild c h (ap headOf (sym d) ∙ w .0) code (sym d) ∙ q))
         (ends-part code)
 
-    found-here : isMildNot code ≡ true → any isNotCode (partCodes at (suc c)) ≡ true → found at (suc c) ≡ some (suc c)
+    found-here : isMildNot code ≡ true → anyOf isNotCode (partCodes at (suc c)) ≡ true → found at (suc c) ≡ some (suc c)
     found-here k q =
         ⊎-elim
         (λ w. false-true (sym (w .0) ∙ k))
@@ -144,13 +144,13 @@ module _ (at : ℕ → Code) (m : ℕ) (well : wellFormed (upTo at m) ≡ true) 
     d' : code ≡ at (suc c)
     d' = d ∙ ap at (add-one c)
 
-    pub none-behind : (isMildNot code && any isNotCode (partCodes at (c + 1))) ≡ false → found at (c + 1) ≡ none
+    pub none-behind : (isMildNot code && anyOf isNotCode (partCodes at (c + 1))) ≡ false → found at (c + 1) ≡ none
     none-behind q =
-        ap (found at) (add-one c) ∙ not-here c h none-yet code d' (ap (λ n. isMildNot code && any isNotCode (partCodes at n)) (sym (add-one c)) ∙ q)
+        ap (found at) (add-one c) ∙ not-here c h none-yet code d' (ap (λ n. isMildNot code && anyOf isNotCode (partCodes at n)) (sym (add-one c)) ∙ q)
 
-    pub some-behind : isMildNot code ≡ true → any isNotCode (partCodes at (c + 1)) ≡ true → found at (c + 1) ≡ some (c + 1)
+    pub some-behind : isMildNot code ≡ true → anyOf isNotCode (partCodes at (c + 1)) ≡ true → found at (c + 1) ≡ some (c + 1)
     some-behind k q =
-        ap (found at) (add-one c) ∙ found-here c h none-yet code d' k (ap (λ n. any isNotCode (partCodes at n)) (sym (add-one c)) ∙ q) ∙ ap some (sym (add-one c))
+        ap (found at) (add-one c) ∙ found-here c h none-yet code d' k (ap (λ n. anyOf isNotCode (partCodes at n)) (sym (add-one c)) ∙ q) ∙ ap some (sym (add-one c))
 
 -- ---- the whole selection
 
@@ -160,7 +160,7 @@ module _ (sel : List ℕ) (well : wellFormed (codesOf sel) ≡ true) where
 
   -- all codes read, the parts are the tree's
   whole : waitingParts (behind row (size sel) .trees) ≡ parts (treeOf sel)
-  unfolding treeOf waitingParts codesOf last
+  unfolding treeOf waitingParts codesOf topTree
   whole = let P = parsed (codesOf sel) well in rw (P .alone)
 
   pub found-none : found row (size sel) ≡ none → notUnderMildNot sel ≡ none
@@ -172,10 +172,10 @@ module _ (sel : List ℕ) (well : wellFormed (codesOf sel) ≡ true) where
   unfolding notUnderMildNot codesOf
   found-some c h place e =
       let rest = upTo (λ i. row (c + i)) (size sel - c) in
-      let all = upTo-split row c (size sel) h in
-      let f = fitsAll-split (upTo row c) rest 0 0 (ap (λ l. fitsAll l 0 0) (sym all) ∙ formed (upTo row (size sel)) well .fit) in
+      let allOf = upTo-split row c (size sel) h in
+      let f = fitsAll-split (upTo row c) rest 0 0 (ap (λ l. fitsAll l 0 0) (sym allOf) ∙ formed (upTo row (size sel)) well .fit) in
       let g = steps (upTo row c) (fresh 1 1) (f .0) in
       let r = steps rest (behind row c) (rw (g .lists, g .loose) (f .1)) in
       let more : waitingParts (behind row (size sel) .trees) ≡ waitingParts (behind row c .trees) ++ r .newer =
-      ap (λ l. waitingParts (readAll l (fresh 1 1) .trees)) all ∙ ap (λ (s : State). waitingParts (s .trees)) (readAll-append (upTo row c) rest (fresh 1 1)) ∙ r .adds in
+      ap (λ l. waitingParts (readAll l (fresh 1 1) .trees)) allOf ∙ ap (λ (s : State). waitingParts (s .trees)) (readAll-append (upTo row c) rest (fresh 1 1)) ∙ r .adds in
       ap placeIn (sym whole ∙ more) ∙ placeIn-found (waitingParts (behind row c .trees)) (r .newer) place e

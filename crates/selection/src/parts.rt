@@ -2,7 +2,7 @@
 use model::Code;
 ghost use mathlib.Core.Path.{_≡_};
 ghost use Prim.Native.Nat.{_<_};
-ghost use Rattle.model.specs.Lists.{any};
+ghost use Rattle.model.specs.Lists.{anyOf};
 ghost use Rattle.model.specs.Parts.{isNotCode, needs, partStart, stops};
 ghost use Rattle.model.specs.Selection.{codeAt, upTo};
 ghost use Rattle.selection.specs.PartCodes.{partCodes};
@@ -66,7 +66,7 @@ fn is_not(code: Code) -> bool
 
 // Does a not stand in the part that ends at a place?
 pub fn has_not(selection: &[u32], place: u32) -> bool
-    ensures { λ r. ⌜ r ≡ any isNotCode (partCodes (codeAt (now (selection .entry))) place) ⌝ }
+    ensures { λ r. ⌜ r ≡ anyOf isNotCode (partCodes (codeAt (now (selection .entry))) place) ⌝ }
 {
     let before = part_start(selection, place);
     let mut c = place;

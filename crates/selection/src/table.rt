@@ -1,6 +1,8 @@
 // Kinds and operands against document 01's table.
 use model::Fault;
+use model::MAX_DISTANCE;
 use model::MAX_WAITING;
+use model::MAX_WINDOW;
 use model::RADIX;
 ghost use mathlib.Core.Bool.{_&&_};
 ghost use mathlib.Core.Path.{_≡_};

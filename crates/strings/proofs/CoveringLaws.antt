@@ -8,7 +8,7 @@ use mathlib.Core.Path.{_≡_, refl, ap, sym, _∙_}
 use borrow.Author.Tests.{le-leb, leb-true, leb-false}
 use lib.Dec.{leb}
 use Rattle.model.specs.AllStrings.{Every}
-use Rattle.model.specs.Lists.{all, any, keep, range}
+use Rattle.model.specs.Lists.{allOf, anyOf, keep, fromTo}
 use Rattle.model.specs.Matches.{Str}
 use Rattle.model.specs.Rules.{covers, covered}
 use Rattle.model.proofs.EveryLaws.{every-weaker}
@@ -19,29 +19,29 @@ use Rattle.strings.specs.Covering.{chosen, passed, advanced}
 -- ---- all, over a range
 
 module _ (c : ℕ → Bool) where
-  pub all-range-empty : (a b : ℕ) → b < a → all c (range a b) ≡ true
-  unfolding all
+  pub all-range-empty : (a b : ℕ) → b < a → allOf c (fromTo a b) ≡ true
+  unfolding allOf
   all-range-empty a b h = rw (range-empty a b h)
 
-  pub all-range-false : (a b : ℕ) → a ≤ b → c a ≡ false → all c (range a b) ≡ false
-  unfolding all
+  pub all-range-false : (a b : ℕ) → a ≤ b → c a ≡ false → allOf c (fromTo a b) ≡ false
+  unfolding allOf
   all-range-false a b h e = rw (range-cons a b h, e)
 
-  all-range-true : (a b : ℕ) → c a ≡ true → all c (range a b) ≡ all c (range (a + 1) b)
-  unfolding all
+  all-range-true : (a b : ℕ) → c a ≡ true → allOf c (fromTo a b) ≡ allOf c (fromTo (a + 1) b)
+  unfolding allOf
   all-range-true a b e = at (leb a b) refl
     where
-      at : (t : Bool) → leb a b ≡ t → all c (range a b) ≡ all c (range (a + 1) b)
+      at : (t : Bool) → leb a b ≡ t → allOf c (fromTo a b) ≡ allOf c (fromTo (a + 1) b)
       at true h = rw (range-cons a b (leb-true a b h), e)
       at false h = let k = leb-false a b h in all-range-empty a b k ∙ sym (all-range-empty (a + 1) b (omega arith))
 
   -- numbers that pass may be left off in front
-  all-range-from : (n a b : ℕ) → ((x : ℕ) → a ≤ x → x < a + n → c x ≡ true) → all c (range a b) ≡ all c (range (a + n) b)
-  all-range-from zero a b f = ap (λ k. all c (range k b)) (omega arith)
+  all-range-from : (n a b : ℕ) → ((x : ℕ) → a ≤ x → x < a + n → c x ≡ true) → allOf c (fromTo a b) ≡ allOf c (fromTo (a + n) b)
+  all-range-from zero a b f = ap (λ k. allOf c (fromTo k b)) (omega arith)
   all-range-from (suc n) a b f =
       all-range-true a b (f a (omega arith) (omega arith))
       ∙ all-range-from n (a + 1) b (λ x h k. f x (omega arith) (omega arith))
-      ∙ ap (λ k. all c (range k b)) (omega arith)
+      ∙ ap (λ k. allOf c (fromTo k b)) (omega arith)
 
 -- ---- covered
 
@@ -58,7 +58,7 @@ abbrev Under : (ℕ → Bool) → Str → Type 0
 Under c s = (x : ℕ) → covers s x ≡ true → c x ≡ true
 
 covered-each : (ss : List Str) → Every (Under (covered ss)) ss
-unfolding Every any
+unfolding Every anyOf
 covered-each [] = tt
 covered-each (s ∷ ss) = (λ x e. rw e, every-weaker _ _ (λ t h x e. rw (h x e) (or-true (covers s x))) ss (covered-each ss))
 
@@ -76,7 +76,7 @@ advanced-up p (s ∷ ss) = at (covers s p) refl (advanced-up (passed false p s) 
 
 -- a position that no string moves isn't covered
 pub advanced-stuck : (p : ℕ) (ss : List Str) → advanced p ss ≡ p → covered ss p ≡ false
-unfolding advanced any
+unfolding advanced anyOf
 advanced-stuck p [] e = refl
 advanced-stuck p (s ∷ ss) e = at (covers s p) refl (advanced-up (passed false p s) ss) e (advanced-stuck p ss)
   where
@@ -86,19 +86,19 @@ advanced-stuck p (s ∷ ss) e = at (covers s p) refl (advanced-up (passed false 
     at false c h e later = later e
 
 -- what strings move a position over passes c
-advanced-under : (c : ℕ → Bool) (p : ℕ) (ss : List Str) → Every (Under c) ss → (to : ℕ) → all c (range p to) ≡ all c (range (advanced p ss) to)
+advanced-under : (c : ℕ → Bool) (p : ℕ) (ss : List Str) → Every (Under c) ss → (to : ℕ) → allOf c (fromTo p to) ≡ allOf c (fromTo (advanced p ss) to)
 unfolding advanced Every
 advanced-under c p [] a to = refl
 advanced-under c p (s ∷ ss) a to = at (covers s p) refl ∙ advanced-under c (passed false p s) ss (a .1) to
   where
-    at : (t : Bool) → covers s p ≡ t → all c (range p to) ≡ all c (range (cond t (s .end + 1) p) to)
+    at : (t : Bool) → covers s p ≡ t → allOf c (fromTo p to) ≡ allOf c (fromTo (cond t (s .end + 1) p) to)
     at true e =
         let m = covers-end s p e in
-        all-range-from c (s .end + 1 - p) p to (λ x h k. a .0 x (covers-between s p x e h (omega arith))) ∙ ap (λ k. all c (range k to)) (omega arith)
+        all-range-from c (s .end + 1 - p) p to (λ x h k. a .0 x (covers-between s p x e h (omega arith))) ∙ ap (λ k. allOf c (fromTo k to)) (omega arith)
     at false e = refl
 
 -- the run from a position on, and from where the strings move it
-pub covered-advanced : (ss : List Str) (p to : ℕ) → all (covered ss) (range p to) ≡ all (covered ss) (range (advanced p ss) to)
+pub covered-advanced : (ss : List Str) (p to : ℕ) → allOf (covered ss) (fromTo p to) ≡ allOf (covered ss) (fromTo (advanced p ss) to)
 covered-advanced ss p to = advanced-under (covered ss) p ss (covered-each ss) to
 
 -- ---- chosen

@@ -7,7 +7,7 @@ use mathlib.Core.Path.{_≡_, refl, ap, ap₂, sym, _∙_}
 use lib.ListN.{length, drop, getD}
 use Rattle.model.specs.Answers.{spanOf, tagOf}
 use Rattle.model.specs.Limits.{radix}
-use Rattle.model.specs.Lists.{all, range}
+use Rattle.model.specs.Lists.{allOf, fromTo}
 use Rattle.model.specs.Matches.{Str}
 use Rattle.model.specs.Rules.{covered, leastStart, greatestEnd, join}
 use Rattle.strings.specs.Strings.{strsOf, strsAt}
@@ -82,11 +82,11 @@ module _ (s : Str) (ss : List Str) where
 
   module _ (ts : List Str) (e : ts ≡ s ∷ ss) where
     -- the join is contiguous if all strings are and every position is covered
-    pub contiguous-broken : all (λ t. t .contiguous) ts ≡ false → map (λ t. t .contiguous) (join (s ∷ ss)) ≡ false ∷ []
+    pub contiguous-broken : allOf (λ t. t .contiguous) ts ≡ false → map (λ t. t .contiguous) (join (s ∷ ss)) ≡ false ∷ []
     unfolding join
-    contiguous-broken f = rw (ap (all (λ t. t .contiguous)) (sym e) ∙ f, and-false)
+    contiguous-broken f = rw (ap (allOf (λ t. t .contiguous)) (sym e) ∙ f, and-false)
 
-    pub contiguous-join : all (λ t. t .contiguous) ts ≡ true → (a b : ℕ) → a ≡ leastStart s ss → b ≡ greatestEnd s ss
-        → (r : Bool) → r ≡ all (covered ts) (range a b) → map (λ t. t .contiguous) (join (s ∷ ss)) ≡ r ∷ []
+    pub contiguous-join : allOf (λ t. t .contiguous) ts ≡ true → (a b : ℕ) → a ≡ leastStart s ss → b ≡ greatestEnd s ss
+        → (r : Bool) → r ≡ allOf (covered ts) (fromTo a b) → map (λ t. t .contiguous) (join (s ∷ ss)) ≡ r ∷ []
     unfolding join
-    contiguous-join f a b p q r g = rw (ap (all (λ t. t .contiguous)) (sym e) ∙ f, and-true, g, e, p, q)
+    contiguous-join f a b p q r g = rw (ap (allOf (λ t. t .contiguous)) (sym e) ∙ f, and-true, g, e, p, q)

@@ -13,7 +13,7 @@ use lib.ListN.{length, drop, getD}
 use Rattle.model.specs.AllStrings.{AllStrs, Every}
 use Rattle.model.specs.Answers.{spanOf}
 use Rattle.model.specs.Limits.{radix}
-use Rattle.model.specs.Lists.{all, insert, neighbours, sort}
+use Rattle.model.specs.Lists.{allOf, insertSorted, neighbours, sort}
 use Rattle.model.specs.Matches.{Str}
 use Rattle.model.specs.Rules.{notAfter, distanceOf, within}
 use Rattle.model.proofs.EveryLaws.{every-weaker}
@@ -31,13 +31,13 @@ module _ {A B : Type 0} (step : A → B → B) (swap : (x y : A) (b : B) → ste
   foldr-first b x (y ∷ ys) = swap x y (foldr step b ys) ∙ ap (step y) (foldr-first b x ys)
 
   module _ (le : A → A → Bool) (b : B) where
-    foldr-insert : (x : A) (ys : List A) → foldr step b (insert le x ys) ≡ step x (foldr step b ys)
-    unfolding insert
+    foldr-insert : (x : A) (ys : List A) → foldr step b (insertSorted le x ys) ≡ step x (foldr step b ys)
+    unfolding insertSorted
     foldr-insert x [] = refl
     foldr-insert x (y ∷ ys) = at (le x y) (foldr-insert x ys)
       where
-        at : (t : Bool) → foldr step b (insert le x ys) ≡ step x (foldr step b ys)
-            → foldr step b (cond t (x ∷ y ∷ ys) (y ∷ insert le x ys)) ≡ step x (step y (foldr step b ys))
+        at : (t : Bool) → foldr step b (insertSorted le x ys) ≡ step x (foldr step b ys)
+            → foldr step b (cond t (x ∷ y ∷ ys) (y ∷ insertSorted le x ys)) ≡ step x (step y (foldr step b ys))
         at true e = refl
         at false e = ap (step y) e ∙ swap y x (foldr step b ys)
 
@@ -50,24 +50,24 @@ module _ {A B : Type 0} (step : A → B → B) (swap : (x y : A) (b : B) → ste
 -- ---- all
 
 module _ {A : Type 0} (p : A → Bool) where
-  all-foldr : (xs : List A) → all p xs ≡ foldr (λ x b. p x && b) true xs
-  unfolding all
+  all-foldr : (xs : List A) → allOf p xs ≡ foldr (λ x b. p x && b) true xs
+  unfolding allOf
   all-foldr [] = refl
   all-foldr (x ∷ xs) = ap (λ b. p x && b) (all-foldr xs)
 
-  all-sort : (le : A → A → Bool) (xs : List A) → all p (sort le xs) ≡ all p xs
+  all-sort : (le : A → A → Bool) (xs : List A) → allOf p (sort le xs) ≡ allOf p xs
   all-sort le xs = all-foldr (sort le xs) ∙ foldr-sort _ swap le true xs ∙ sym (all-foldr xs)
     where
       swap : (x y : A) (b : Bool) → (p x && (p y && b)) ≡ (p y && (p x && b))
       swap x y b = sym (and-assoc (p x) (p y) b) ∙ ap (λ c. c && b) (and-comm (p x) (p y)) ∙ and-assoc (p y) (p x) b
 
-  all-map : {B : Type 0} (f : B → A) (xs : List B) → all p (map f xs) ≡ all (λ x. p (f x)) xs
-  unfolding all
+  all-map : {B : Type 0} (f : B → A) (xs : List B) → allOf p (map f xs) ≡ allOf (λ x. p (f x)) xs
+  unfolding allOf
   all-map f [] = refl
   all-map f (x ∷ xs) = ap (λ b. p (f x) && b) (all-map f xs)
 
-  all-agree : (q : A → Bool) (xs : List A) → Every (λ x. p x ≡ q x) xs → all p xs ≡ all q xs
-  unfolding all Every
+  all-agree : (q : A → Bool) (xs : List A) → Every (λ x. p x ≡ q x) xs → allOf p xs ≡ allOf q xs
+  unfolding allOf Every
   all-agree q [] a = refl
   all-agree q (x ∷ xs) a = ap₂ _&&_ (a .0) (all-agree q xs (a .1))
 
@@ -115,12 +115,12 @@ module _ (v : ℕ) where
 -- ---- sort
 
 module _ {A : Type 0} (P : A → Type 0) (le : A → A → Bool) where
-  every-insert : (x : A) (ys : List A) → P x → Every P ys → Every P (insert le x ys)
-  unfolding insert Every
+  every-insert : (x : A) (ys : List A) → P x → Every P ys → Every P (insertSorted le x ys)
+  unfolding insertSorted Every
   every-insert x [] p a = (p, tt)
   every-insert x (y ∷ ys) p a = at (le x y) (every-insert x ys p (a .1))
     where
-      at : (t : Bool) → Every P (insert le x ys) → Every P (cond t (x ∷ y ∷ ys) (y ∷ insert le x ys))
+      at : (t : Bool) → Every P (insertSorted le x ys) → Every P (cond t (x ∷ y ∷ ys) (y ∷ insertSorted le x ys))
       at true h = (p, a)
       at false h = (a .0, h)
 
@@ -134,12 +134,12 @@ unfoldable Rising : List ℕ → Type 0
 Rising [] = Unit {0}
 Rising (x ∷ xs) = Every (λ y. x ≤ y) xs × Rising xs
 
-rising-insert : (x : ℕ) (ys : List ℕ) → Rising ys → Rising (insert leb x ys)
-unfolding insert Rising Every
+rising-insert : (x : ℕ) (ys : List ℕ) → Rising ys → Rising (insertSorted leb x ys)
+unfolding insertSorted Rising Every
 rising-insert x [] a = (tt, tt)
 rising-insert x (y ∷ ys) a = at (leb x y) refl (rising-insert x ys (a .1))
   where
-    at : (t : Bool) → leb x y ≡ t → Rising (insert leb x ys) → Rising (cond t (x ∷ y ∷ ys) (y ∷ insert leb x ys))
+    at : (t : Bool) → leb x y ≡ t → Rising (insertSorted leb x ys) → Rising (cond t (x ∷ y ∷ ys) (y ∷ insertSorted leb x ys))
     at true e h = let k = leb-true x y e in ((k, every-weaker _ _ (λ z l. omega arith) ys (a .0)), a)
     at false e h = (every-insert (λ z. y ≤ z) leb x ys (omega (arith, leb-false x y e)) (a .0), h)
 
@@ -183,28 +183,28 @@ module _ (r : ℕ → ℕ → Bool) where
 
   -- does each number pass?
   abbrev all-pass : List ℕ → Bool
-  all-pass xs = all (λ v. passes r v xs) xs
+  all-pass xs = allOf (λ v. passes r v xs) xs
 
   -- one number more in front of a rising list: less than the first, or a copy of it
   all-pass-less : (y z : ℕ) (xs : List ℕ) → y < z → Every (λ x. z ≤ x) xs → (r y z && all-pass (z ∷ xs)) ≡ all-pass (y ∷ z ∷ xs)
-  unfolding all Every
+  unfolding allOf Every
   all-pass-less y z xs h a =
       let others = every-weaker _ _ (λ x k. sym (passes-lesser x y (z ∷ xs) (omega arith))) (z ∷ xs) (omega arith, a) in
       ap₂ _&&_ (sym (passes-next y z xs h a)) (all-agree _ _ (z ∷ xs) others)
 
   all-pass-copy : (y : ℕ) (xs : List ℕ) → Every (λ x. y ≤ x) xs → (r y y && all-pass (y ∷ xs)) ≡ all-pass (y ∷ y ∷ xs)
-  unfolding all Every
+  unfolding allOf Every
   all-pass-copy y xs a = at (r y y) refl
     where
       at : (t : Bool) → r y y ≡ t → (t && all-pass (y ∷ xs)) ≡ all-pass (y ∷ y ∷ xs)
       at false e = sym (rw (passes-twice y xs e))
       at true e =
-          let self = and-self-left (passes r y (y ∷ y ∷ xs)) (all (λ v. passes r v (y ∷ y ∷ xs)) xs) in
+          let self = and-self-left (passes r y (y ∷ y ∷ xs)) (allOf (λ v. passes r v (y ∷ y ∷ xs)) xs) in
           sym (self ∙ all-agree _ _ (y ∷ xs) (every-weaker _ _ (λ x. passes-up-to x y (y ∷ xs) e) (y ∷ xs) (omega arith, a)))
 
   -- in a rising list each number passes with its next
   neighbours-rising : (xs : List ℕ) → Rising xs → neighbours r xs ≡ all-pass xs
-  unfolding neighbours all Rising Every
+  unfolding neighbours allOf Rising Every
   neighbours-rising [] a = refl
   neighbours-rising (y ∷ []) a = sym (rw (passes-last y))
   neighbours-rising (y ∷ z ∷ xs) a = ap (λ b. r y z && b) (neighbours-rising (z ∷ xs) (a .1)) ∙ ⊎-elim equal less (eq-or-lt-of-le (a .0 .0))
@@ -221,20 +221,20 @@ module _ (r : ℕ → ℕ → Bool) where
   -- so each number of any list passes with its next in the list sorted
   neighbours-sort : (xs : List ℕ) → neighbours r (sort leb xs) ≡ all-pass xs
   neighbours-sort xs =
-      neighbours-rising (sort leb xs) (rising-sort xs) ∙ ap (λ p. all p (sort leb xs)) (fun-ext (passes-sort xs)) ∙ all-sort _ leb xs
+      neighbours-rising (sort leb xs) (rising-sort xs) ∙ ap (λ p. allOf p (sort leb xs)) (fun-ext (passes-sort xs)) ∙ all-sort _ leb xs
 
 -- ---- strings by their spans
 
 abbrev Ends : Str → Type 0
 Ends s = s .end < radix
 
-map-insert : (s : Str) (ts : List Str) → Ends s → AllStrs Ends ts → map spanOf (insert notAfter s ts) ≡ insert leb (spanOf s) (map spanOf ts)
-unfolding insert Every
+map-insert : (s : Str) (ts : List Str) → Ends s → AllStrs Ends ts → map spanOf (insertSorted notAfter s ts) ≡ insertSorted leb (spanOf s) (map spanOf ts)
+unfolding insertSorted Every
 map-insert s [] h a = refl
 map-insert s (t ∷ ts) h a = rw (notAfter-spanOf s t h (a .0)) (at (leb (spanOf s) (spanOf t)) (map-insert s ts h (a .1)))
   where
-    at : (b : Bool) → map spanOf (insert notAfter s ts) ≡ insert leb (spanOf s) (map spanOf ts)
-        → map spanOf (cond b (s ∷ t ∷ ts) (t ∷ insert notAfter s ts)) ≡ cond b (spanOf s ∷ spanOf t ∷ map spanOf ts) (spanOf t ∷ insert leb (spanOf s) (map spanOf ts))
+    at : (b : Bool) → map spanOf (insertSorted notAfter s ts) ≡ insertSorted leb (spanOf s) (map spanOf ts)
+        → map spanOf (cond b (s ∷ t ∷ ts) (t ∷ insertSorted notAfter s ts)) ≡ cond b (spanOf s ∷ spanOf t ∷ map spanOf ts) (spanOf t ∷ insertSorted leb (spanOf s) (map spanOf ts))
     at true e = refl
     at false e = ap (λ zs. spanOf t ∷ zs) e
 
@@ -242,7 +242,7 @@ map-insert s (t ∷ ts) h a = rw (notAfter-spanOf s t h (a .0)) (at (leb (spanOf
 map-sort : (ss : List Str) → AllStrs Ends ss → map spanOf (sort notAfter ss) ≡ sort leb (map spanOf ss)
 unfolding sort Every
 map-sort [] a = refl
-map-sort (s ∷ ss) a = map-insert s (sort notAfter ss) (a .0) (every-sort Ends notAfter ss (a .1)) ∙ ap (insert leb (spanOf s)) (map-sort ss (a .1))
+map-sort (s ∷ ss) a = map-insert s (sort notAfter ss) (a .0) (every-sort Ends notAfter ss (a .1)) ∙ ap (insertSorted leb (spanOf s)) (map-sort ss (a .1))
 
 -- a string passes with what follows its copies among the strings of a part, sorted
 abbrev pub followed : ℕ → ℕ → List ℕ → Str → Bool
@@ -253,7 +253,7 @@ module _ (least most : ℕ) (l : List ℕ) where
   followed-strAt i = ap (λ v. passes (spansWithin least most) v (map spanOf (strsAt l))) (sym (spanOf-strOf (getD l i 0) (getD l (i + 1) 0)))
 
   -- the rule's test on the sorted strings, made on the strings unsorted
-  pub neighbours-strings : neighbours (λ s t. within least most (distanceOf s t)) (sort notAfter (strsAt l)) ≡ all (followed least most l) (strsAt l)
+  pub neighbours-strings : neighbours (λ s t. within least most (distanceOf s t)) (sort notAfter (strsAt l)) ≡ allOf (followed least most l) (strsAt l)
   neighbours-strings =
       let r : ℕ → ℕ → Bool = spansWithin least most in
       let ss : List Str = strsAt l in

@@ -12,7 +12,7 @@ use lib.Seq.{drop-cons, take-all}
 use Rattle.model.specs.AllStrings.{AllStrs, Every}
 use Rattle.model.specs.Answers.{spanOf}
 use Rattle.model.specs.Limits.{radix}
-use Rattle.model.specs.Lists.{all, any, allPairs}
+use Rattle.model.specs.Lists.{allOf, anyOf, allPairs}
 use Rattle.model.specs.Matches.{Str}
 use Rattle.strings.specs.Strings.{strOf, strsAt}
 
@@ -106,15 +106,15 @@ pub record Decides (b : Bool) (test : Str → List Str → Bool) (D : List Str �
   pub later : (s : Str) (ss : List Str) → test s ss ≡ not b → D (s ∷ ss) ≡ D ss
 
 -- all, any and allPairs are such
-pub decides-all : (f : Str → Bool) → Decides false (λ s ss. f s) (all f)
-unfolding all
+pub decides-all : (f : Str → Bool) → Decides false (λ s ss. f s) (allOf f)
+unfolding allOf
 decides-all f = record { never = refl; here = λ s ss e. rw e; later = λ s ss e. rw e }
 
-pub decides-any : (f : Str → Bool) → Decides true (λ s ss. f s) (any f)
-unfolding any
+pub decides-any : (f : Str → Bool) → Decides true (λ s ss. f s) (anyOf f)
+unfolding anyOf
 decides-any f = record { never = refl; here = λ s ss e. rw e; later = λ s ss e. rw e }
 
-pub decides-allPairs : (r : Str → Str → Bool) → Decides false (λ s ss. all (r s) ss) (allPairs r)
+pub decides-allPairs : (r : Str → Str → Bool) → Decides false (λ s ss. allOf (r s) ss) (allPairs r)
 unfolding allPairs
 decides-allPairs r = record { never = refl; here = λ s ss e. rw e; later = λ s ss e. rw e }
 

@@ -4,7 +4,7 @@ use super::spans::is_contiguous;
 use super::spans::start_of;
 use model::Position;
 ghost use mathlib.Core.Path.{_≡_};
-ghost use Rattle.model.specs.Lists.{all, range};
+ghost use Rattle.model.specs.Lists.{allOf, fromTo};
 ghost use Rattle.model.specs.Rules.{covered, covers};
 ghost use Rattle.strings.specs.Strings.{strOf, strsAt};
 ghost use Rattle.strings.specs.Covering.{advanced, chosen, isChosen, passed};
@@ -71,7 +71,7 @@ pub fn advance(strs: &[u32], p: u32, only_contiguous: bool) -> u32
 
 // "every position in it is covered"; with `only_contiguous`, "by some contiguous include"
 pub fn run_covered(strs: &[u32], from: u32, to: u32, only_contiguous: bool) -> bool
-    ensures { λ r. ⌜ r ≡ all (covered (chosen «only_contiguous» (strsAt (now (strs .entry))))) (range from to) ⌝ }
+    ensures { λ r. ⌜ r ≡ allOf (covered (chosen «only_contiguous» (strsAt (now (strs .entry))))) (fromTo from to) ⌝ }
 {
     let mut p = from;
     while p <= to {

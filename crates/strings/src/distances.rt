@@ -8,7 +8,7 @@ ghost use mathlib.Core.List.{map};
 ghost use Prim.Native.Nat.{ℕ};
 ghost use lib.Dec.{leb};
 ghost use Rattle.model.specs.Answers.{spanOf};
-ghost use Rattle.model.specs.Lists.{all, neighbours, sort};
+ghost use Rattle.model.specs.Lists.{allOf, neighbours, sort};
 ghost use Rattle.model.specs.Rules.{between, distanceOf, notAfter, within};
 ghost use Rattle.strings.specs.Sorting.{nearer, passes, passing, spansWithin};
 ghost use Rattle.strings.specs.Strings.{strOf, strsAt};
@@ -48,7 +48,7 @@ fn lies_within(span: u32, other: u32, least: u32, most: u32) -> bool
 
 // "whose distance to every include lies in a to b"
 pub fn in_distance(span: u32, strs: &[u32], least: u32, most: u32) -> bool
-    ensures { λ r. ⌜ ((tag : ℕ) → r ≡ all (λ s. within least most (distanceOf (strOf span tag) s)) (strsAt (now (strs .entry)))) ⌝ }
+    ensures { λ r. ⌜ ((tag : ℕ) → r ≡ allOf (λ s. within least most (distanceOf (strOf span tag) s)) (strsAt (now (strs .entry)))) ⌝ }
 {
     let mut i = 0;
     while i + 1 < strs.len() {

@@ -11,7 +11,7 @@ ghost use mathlib.Core.List.{List, [], _∷_, map};
 ghost use Prim.Native.Nat.{_<_, min, max};
 ghost use Rattle.model.specs.Answers.{spanOf, tagOf};
 ghost use Rattle.model.specs.Limits.{radix};
-ghost use Rattle.model.specs.Lists.{all};
+ghost use Rattle.model.specs.Lists.{allOf};
 ghost use Rattle.model.specs.Matches.{Str};
 ghost use Rattle.model.specs.Rules.{greatestEnd, join, leastStart};
 ghost use Rattle.strings.specs.Strings.{strsAt};
@@ -72,7 +72,7 @@ pub fn greatest_end(strs: &[u32]) -> u32
 
 // "all were contiguous"
 pub fn all_contiguous(strs: &[u32]) -> bool
-    ensures { λ r. ⌜ r ≡ all (λ t. t .contiguous) (strsAt (now (strs .entry))) ⌝ }
+    ensures { λ r. ⌜ r ≡ allOf (λ t. t .contiguous) (strsAt (now (strs .entry))) ⌝ }
 {
     let mut i = 0;
     while i + 1 < strs.len() {

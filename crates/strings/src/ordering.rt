@@ -6,7 +6,7 @@ ghost use mathlib.Core.Bool.{_&&_};
 ghost use Prim.Native.Nat.{_/_};
 ghost use lib.Dec.{leb};
 ghost use Rattle.model.specs.Limits.{radix};
-ghost use Rattle.model.specs.Lists.{all, allPairs};
+ghost use Rattle.model.specs.Lists.{allOf, allPairs};
 ghost use Rattle.model.specs.Rules.{agree};
 ghost use Rattle.strings.specs.Strings.{strOf, strsAt};
 
@@ -32,7 +32,7 @@ pub fn agree(span: u32, tag: u32, other_span: u32, other_tag: u32) -> bool
 
 // "it agrees with every include"
 pub fn agrees_with_all(span: u32, tag: u32, strs: &[u32]) -> bool
-    ensures { λ r. ⌜ r ≡ all (agree (strOf span tag)) (strsAt (now (strs .entry))) ⌝ }
+    ensures { λ r. ⌜ r ≡ allOf (agree (strOf span tag)) (strsAt (now (strs .entry))) ⌝ }
 {
     let mut i = 0;
     while i + 1 < strs.len() {

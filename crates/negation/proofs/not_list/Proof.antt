@@ -1,6 +1,6 @@
 -- The sizes come first, so that a list that is too long is refused before anything is written, and one that is not has room in its slot.
 use Rattle.store.proofs.Slots.{refused}
-use Rattle.negation.proofs.Choosing.{all, made}
+use Rattle.negation.proofs.Choosing.{allOf, made}
 use borrow.Author.Needs.{needs}
 use Rattle.negation.proofs.not_list.Statement.{statement}
 use Rattle.negation.proofs.not_list.Tie as tie
@@ -31,7 +31,7 @@ put-choices-requires c κs =
     let k = c .before .before in
     let s = k .before .before in
     let r = s .before .before .before .pre in
-    all (r .0) (r .1) (s .not-size .ensures (r .0)) (k .size .given .1)
+    allOf (r .0) (r .1) (s .not-size .ensures (r .0)) (k .size .given .1)
 
 put-heads-requires : tie.Need-put-heads-requires
 put-heads-requires c κs = search needs
@@ -48,7 +48,7 @@ returns-2 c w =
     let r = s .before .before .before .pre in
     let e = s .not-size .ensures w in
     let t = k .size .given .1 in
-    made w (r .1) e t (m .put-choices .ensures (all w (r .1) e t)) (h .put-heads .ensures)
+    made w (r .1) e t (m .put-choices .ensures (allOf w (r .1) e t)) (h .put-heads .ensures)
 
 pub not-list-spec : {M : Type 1} → statement M
 not-list-spec =

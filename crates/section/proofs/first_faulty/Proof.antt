@@ -5,14 +5,14 @@ use borrow.Author.Needs.{needs}
 use mathlib.Core.Path.{_≡_, refl, sym, ap, _∙_}
 use Rattle.model.specs.Answers.{faultOf}
 use Rattle.model.specs.Checks.{faultyAt, faultyPosition}
-use Rattle.model.specs.Lists.{first, range}
+use Rattle.model.specs.Lists.{first, fromTo}
 use Rattle.model.specs.Section.{size}
 use Rattle.model.proofs.ListsLaws.{first-range-empty, first-range-here, first-range-later}
 use Rattle.section.proofs.first_faulty.Statement.{statement}
 use Rattle.section.proofs.first_faulty.Tie as tie
 
 abbrev Inv-loop : tie.InvT-loop
-Inv-loop section n p₀ p = (2 ≤ p) × (p ≤ 4098) × (first (faultyAt section) (range p (size section)) ≡ faultyPosition section)
+Inv-loop section n p₀ p = (2 ≤ p) × (p ≤ 4098) × (first (faultyAt section) (fromTo p (size section)) ≡ faultyPosition section)
 
 abbrev μ-loop : tie.MeasureT-loop
 μ-loop section n p₀ p = n + 1 - p

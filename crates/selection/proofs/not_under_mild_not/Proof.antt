@@ -5,7 +5,7 @@ use Rattle.model.specs.Trees.{readAll}
 use Rattle.model.specs.Selection.{upTo, codeAt, codesOf}
 use Rattle.model.specs.Section.{size}
 use Rattle.model.specs.Parts.{isNotCode, waitingParts}
-use Rattle.model.specs.Lists.{any, first}
+use Rattle.model.specs.Lists.{anyOf, first}
 use Rattle.model.specs.Answers.{faultOf}
 use mathlib.Core.Option.{none}
 use mathlib.Core.Bool.{_&&_, and-false}
@@ -80,7 +80,7 @@ loop-again-2 c =
     let h : l .loop .c < size s = omega (arith, l .before .number-at .ensures) in (
       omega arith,
       none-behind (codeAt s) (size s) (st .pre) (l .loop .c) h (l .loop .inv .1) _ (c .before .before .code-at .ensures)
-          (ap (_&& any isNotCode (partCodes (codeAt s) (l .loop .c + 1))) (sym (c .before .is-mild-not .ensures) ∙ c .if1 .left)),
+          (ap (_&& anyOf isNotCode (partCodes (codeAt s) (l .loop .c + 1))) (sym (c .before .is-mild-not .ensures) ∙ c .if1 .left)),
     )
 
 returns-2 : tie.Need-returns-2 Inv-loop μ-loop

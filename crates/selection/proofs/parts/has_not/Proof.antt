@@ -3,7 +3,7 @@ use Rattle.selection.proofs.Turns.{nots-here, nots-before, nots-none}
 use Rattle.selection.specs.PartCodes.{partCodes}
 use Rattle.model.specs.Selection.{codeAt, upTo}
 use Rattle.model.specs.Parts.{isNotCode}
-use Rattle.model.specs.Lists.{any}
+use Rattle.model.specs.Lists.{anyOf}
 use mathlib.Core.Path.{_≡_, sym, _∙_}
 use borrow.Author.Needs.{needs}
 use native.Mathlib.Omega.{arith}
@@ -12,7 +12,7 @@ use Rattle.selection.proofs.parts.has_not.Statement.{statement}
 use Rattle.selection.proofs.parts.has_not.Tie as tie
 
 abbrev Inv-loop : tie.InvT-loop
-Inv-loop selection place before c₀ c = (c ≤ place) × (any isNotCode (upTo (λ i. codeAt selection (before + i)) (c - before)) ≡ any isNotCode (partCodes (codeAt selection) place))
+Inv-loop selection place before c₀ c = (c ≤ place) × (anyOf isNotCode (upTo (λ i. codeAt selection (before + i)) (c - before)) ≡ anyOf isNotCode (partCodes (codeAt selection) place))
 
 abbrev μ-loop : tie.MeasureT-loop
 μ-loop selection place before c₀ c = c

@@ -6,7 +6,7 @@ use mathlib.Core.Path.{_≡_, refl, sym, ap, _∙_}
 use lib.Dec.{leb}
 use Rattle.model.specs.Answers.{faultOf}
 use Rattle.model.specs.Checks.{unknownKind}
-use Rattle.model.specs.Lists.{first, range}
+use Rattle.model.specs.Lists.{first, fromTo}
 use Rattle.model.specs.Section.{size}
 use Rattle.model.proofs.ListsLaws.{first-range-empty, first-range-here, first-range-later}
 use Rattle.selection.proofs.Searching.{isUnknown}
@@ -14,7 +14,7 @@ use Rattle.selection.proofs.table.unknown_kind.Statement.{statement}
 use Rattle.selection.proofs.table.unknown_kind.Tie as tie
 
 abbrev Inv-loop : tie.InvT-loop
-Inv-loop selection m c₀ c = (1 ≤ c) × (c ≤ 4294967296) × (first (isUnknown selection) (range c (size selection)) ≡ unknownKind selection)
+Inv-loop selection m c₀ c = (1 ≤ c) × (c ≤ 4294967296) × (first (isUnknown selection) (fromTo c (size selection)) ≡ unknownKind selection)
 
 abbrev μ-loop : tie.MeasureT-loop
 μ-loop selection m c₀ c = m + 1 - c

@@ -5,7 +5,7 @@ use borrow.Author.Needs.{needs}
 use mathlib.Core.Path.{_≡_, refl, sym, ap, _∙_}
 use Rattle.model.specs.Answers.{faultOf}
 use Rattle.model.specs.Checks.{wrongOperand}
-use Rattle.model.specs.Lists.{first, range}
+use Rattle.model.specs.Lists.{first, fromTo}
 use Rattle.model.specs.Section.{size}
 use Rattle.model.proofs.ListsLaws.{first-range-empty, first-range-here, first-range-later}
 use Rattle.selection.proofs.Searching.{isOutside, outside}
@@ -13,7 +13,7 @@ use Rattle.selection.proofs.table.wrong_operand.Statement.{statement}
 use Rattle.selection.proofs.table.wrong_operand.Tie as tie
 
 abbrev Inv-loop : tie.InvT-loop
-Inv-loop selection m c₀ c = (1 ≤ c) × (c ≤ 4294967296) × (first (isOutside selection) (range c (size selection)) ≡ wrongOperand selection)
+Inv-loop selection m c₀ c = (1 ≤ c) × (c ≤ 4294967296) × (first (isOutside selection) (fromTo c (size selection)) ≡ wrongOperand selection)
 
 abbrev μ-loop : tie.MeasureT-loop
 μ-loop selection m c₀ c = m + 1 - c

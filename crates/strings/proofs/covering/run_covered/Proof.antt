@@ -5,7 +5,7 @@ use native.Mathlib.Omega.{arith}
 use mathlib.Core.List.{List}
 use mathlib.Core.Path.{_≡_, refl, ap, sym, _∙_}
 use borrow.Author.Needs.{needs}
-use Rattle.model.specs.Lists.{all, range}
+use Rattle.model.specs.Lists.{allOf, fromTo}
 use Rattle.model.specs.Matches.{Str}
 use Rattle.model.specs.Rules.{covered}
 use Rattle.strings.specs.Covering.{chosen}
@@ -16,7 +16,7 @@ use Rattle.strings.proofs.covering.run_covered.Tie as tie
 
 abbrev Inv-loop : tie.InvT-loop
 Inv-loop strs from to only-contiguous p₀ p =
-    all (covered (chosen only-contiguous (strsAt strs))) (range from to) ≡ all (covered (chosen only-contiguous (strsAt strs))) (range p to)
+    allOf (covered (chosen only-contiguous (strsAt strs))) (fromTo from to) ≡ allOf (covered (chosen only-contiguous (strsAt strs))) (fromTo p to)
 
 abbrev μ-loop : tie.MeasureT-loop
 μ-loop strs from to only-contiguous p₀ p = to + 1 - p
@@ -46,7 +46,7 @@ loop-again c =
     let l = c .before .before .before in
     let a = l .before .before .args in
     let ss : List Str = chosen (a .only-contiguous) (strsAt (a .strs .now)) in
-    l .loop .inv ∙ covered-advanced ss _ _ ∙ ap (λ k. all (covered ss) (range k (a .to))) (sym (c .before .advance .ensures))
+    l .loop .inv ∙ covered-advanced ss _ _ ∙ ap (λ k. allOf (covered ss) (fromTo k (a .to))) (sym (c .before .advance .ensures))
 
 returns-2 : tie.Need-returns-2 Inv-loop μ-loop
 returns-2 c =

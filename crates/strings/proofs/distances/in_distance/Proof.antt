@@ -5,7 +5,7 @@ use mathlib.Core.Path.{sym, _∙_}
 use borrow.Author.Needs.{needs}
 use borrow.Author.Tests.{not-true, not-false}
 use lib.ListN.{length}
-use Rattle.model.specs.Lists.{all}
+use Rattle.model.specs.Lists.{allOf}
 use Rattle.model.specs.Matches.{Str}
 use Rattle.model.specs.Rules.{distanceOf, within}
 use Rattle.strings.specs.Strings.{strOf, strsAt}
@@ -17,7 +17,7 @@ abbrev near : ℕ → ℕ → ℕ → Str → Bool
 near span least most s = within least most (distanceOf (strOf span 0) s)
 
 abbrev Inv-loop : tie.InvT-loop
-Inv-loop span strs least most i₀ i = Left (all (near span least most) (strsAt strs)) (all (near span least most)) strs i
+Inv-loop span strs least most i₀ i = Left (allOf (near span least most) (strsAt strs)) (allOf (near span least most)) strs i
 
 abbrev μ-loop : tie.MeasureT-loop
 μ-loop span strs least most i₀ i = length strs - i

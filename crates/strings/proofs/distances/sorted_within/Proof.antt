@@ -5,7 +5,7 @@ use mathlib.Core.Path.{sym, _∙_}
 use borrow.Author.Needs.{needs}
 use borrow.Author.Tests.{not-true, not-false}
 use lib.ListN.{length}
-use Rattle.model.specs.Lists.{all}
+use Rattle.model.specs.Lists.{allOf}
 use Rattle.strings.specs.Strings.{strsAt}
 use Rattle.strings.proofs.SortingLaws.{followed, followed-strAt, neighbours-strings}
 use Rattle.strings.proofs.StringsLaws.{Left, left-start, decides-all, decided-here, decided-later, decided-end}
@@ -13,7 +13,7 @@ use Rattle.strings.proofs.distances.sorted_within.Statement.{statement}
 use Rattle.strings.proofs.distances.sorted_within.Tie as tie
 
 abbrev Inv-loop : tie.InvT-loop
-Inv-loop strs least most i₀ i = Left (all (followed least most strs) (strsAt strs)) (all (followed least most strs)) strs i
+Inv-loop strs least most i₀ i = Left (allOf (followed least most strs) (strsAt strs)) (allOf (followed least most strs)) strs i
 
 abbrev μ-loop : tie.MeasureT-loop
 μ-loop strs least most i₀ i = length strs - i

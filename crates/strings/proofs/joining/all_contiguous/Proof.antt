@@ -4,14 +4,14 @@ use mathlib.Core.Path.{sym, _∙_}
 use borrow.Author.Needs.{needs}
 use borrow.Author.Tests.{not-true, not-false}
 use lib.ListN.{length}
-use Rattle.model.specs.Lists.{all}
+use Rattle.model.specs.Lists.{allOf}
 use Rattle.strings.specs.Strings.{strsAt}
 use Rattle.strings.proofs.StringsLaws.{Left, left-start, decides-all, decided-here, decided-later, decided-end}
 use Rattle.strings.proofs.joining.all_contiguous.Statement.{statement}
 use Rattle.strings.proofs.joining.all_contiguous.Tie as tie
 
 abbrev Inv-loop : tie.InvT-loop
-Inv-loop strs i₀ i = Left (all (λ t. t .contiguous) (strsAt strs)) (all (λ t. t .contiguous)) strs i
+Inv-loop strs i₀ i = Left (allOf (λ t. t .contiguous) (strsAt strs)) (allOf (λ t. t .contiguous)) strs i
 
 abbrev μ-loop : tie.MeasureT-loop
 μ-loop strs i₀ i = length strs - i

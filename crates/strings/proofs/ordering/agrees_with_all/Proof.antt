@@ -4,7 +4,7 @@ use mathlib.Core.Path.{sym, _∙_}
 use borrow.Author.Needs.{needs}
 use borrow.Author.Tests.{not-true, not-false}
 use lib.ListN.{length}
-use Rattle.model.specs.Lists.{all}
+use Rattle.model.specs.Lists.{allOf}
 use Rattle.model.specs.Rules.{agree}
 use Rattle.strings.specs.Strings.{strOf, strsAt}
 use Rattle.strings.proofs.StringsLaws.{Left, left-start, decides-all, decided-here, decided-later, decided-end}
@@ -12,7 +12,7 @@ use Rattle.strings.proofs.ordering.agrees_with_all.Statement.{statement
 use Rattle.strings.proofs.ordering.agrees_with_all.Tie as tie
 
 abbrev Inv-loop : tie.InvT-loop
-Inv-loop span tag strs i₀ i = Left (all (agree (strOf span tag)) (strsAt strs)) (all (agree (strOf span tag))) strs i
+Inv-loop span tag strs i₀ i = Left (allOf (agree (strOf span tag)) (strsAt strs)) (allOf (agree (strOf span tag))) strs i
 
 abbrev μ-loop : tie.MeasureT-loop
 μ-loop span tag strs i₀ i = length strs - i
