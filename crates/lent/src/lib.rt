@@ -14,8 +14,8 @@ pub fn number_at(lent: &[u32], i: usize) -> u32
 pub fn second_at(lent: &[u32], place: u32) -> u32
     ensures { λ r. ⌜ r ≡ secondAt (now (lent .entry)) place ⌝ }
 {
-    let size = number_at(lent, 0);
-    number_at(lent, size as usize + place as usize)
+    let first = number_at(lent, 0);
+    number_at(lent, first as usize + place as usize)
 }
 
 // Is the size within the limits, and the length 1 + 2 × size?

@@ -1,0 +1,29 @@
+-- Where the words of a phrase stand in a row.
+use Prim.Native.Nat.{ℕ, _+_, _≤_}
+use mathlib.Core.Bool.{true}
+use mathlib.Core.List.{List}
+use mathlib.Core.Path.{_≡_}
+use Rattle.model.specs.Accepted.{maxPhrases}
+use Rattle.model.specs.Limits.{maxTokens, maxWaiting}
+use Rattle.model.specs.Lists.{keep, fromTo}
+use Rattle.model.specs.Rules.{standFrom}
+use Rattle.model.specs.Section.{Section}
+
+-- the starts from p on, ascending
+unfoldable pub startsFrom : Section → List ℕ → ℕ → List ℕ
+startsFrom s words p = keep (standFrom s words) (fromTo p (s .tokens))
+
+-- p is the first start from `from` on, or the position behind the last one
+pub record NextStart (s : Section) (words : List ℕ) (from p : ℕ) : Type 0 where
+  pub not-before : from ≤ p
+  pub up-to : p ≤ s .tokens + 1
+  pub stands : p ≤ s .tokens → standFrom s words p ≡ true
+  pub same : startsFrom s words from ≡ startsFrom s words p
+
+-- in a memory of so many numbers, room at q for the find of k words at p, of a rank that a tag can hold
+pub record Findable (size q p k rank : ℕ) : Type 0 where
+  pub room : q + 3 ≤ size
+  pub from-one : 1 ≤ p
+  pub up-to : p ≤ maxTokens
+  pub few-words : k ≤ maxWaiting
+  pub rank-up-to : rank ≤ maxPhrases

@@ -1,0 +1,4 @@
+pub mod Sizes
+pub mod TwoSlots
+pub mod Finding
+pub mod Joining
