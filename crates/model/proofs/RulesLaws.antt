@@ -13,7 +13,7 @@ use Rattle.model.specs.declared.Filter.{Filter}
 use Rattle.model.specs.declared.Filter.the-variants.{Ordered, Window, Distance, SameSentence, SameParagraph, DifferentSentence, DifferentParagraph, AtStart, AtEnd, EntireContent}
 use Rattle.model.specs.Lists.{allOf, keep, allPairs, neighbours, sort, fromTo}
 use Rattle.model.specs.Matches.{Str, Match, stringsIn, strings}
-use Rattle.model.specs.Rules.{standFrom, found, phraseList, orList, joined, andList, noStrings, withInclude, withExclude, notList, reachesBeyond, covered, mildNotList, keptIf, agree, ordered, leastStart, greatestEnd, join, windowTo, windowEnds, window, notAfter, distanceOf, within, distance, inUnitOf, same, hasUnits, apart, different, atStart, atEnd, entireContent}
+use Rattle.model.specs.Rules.{standFrom, found, phraseList, orList, joined, andList, noStrings, withInclude, withExclude, notList, reachesBeyond, covered, mildNotList, keptIf, agree, ordered, leastStart, greatestEnd, join, insideWindow, windowTo, windowEnds, window, notAfter, distanceOf, within, distance, inUnitOf, same, hasUnits, apart, different, atStart, atEnd, entireContent}
 use Rattle.model.specs.Choices.{choices, turnedStrings, choice}
 use Rattle.model.specs.AllStrings.{Every, AllStrs}
 use Rattle.model.specs.AllMatches.{filterMatch}
@@ -280,6 +280,12 @@ length-windowEnds n s ss h = omega (arith, length-range (greatestEnd s ss) (leas
 pub length-window : (n : ℕ) (m : Match) (s : Str) (ss : List Str) → 1 ≤ n → m .includes ≡ s ∷ ss → length (window n m) ≡ leastStart s ss + n - greatestEnd s ss
 unfolding window
 length-window n m s ss h e = length-map (windowEnds n (m .includes)) (windowTo n m) ∙ ap (λ is. length (windowEnds n is)) e ∙ length-windowEnds n s ss h
+
+-- each copy has the join and the excludes inside it
+pub strings-windowTo : (n : ℕ) (m : Match) (s : Str) (ss : List Str) → m .includes ≡ s ∷ ss → (last : ℕ)
+    → stringsIn (windowTo n m last) ≡ 1 + length (keep (insideWindow n last) (m .excludes))
+unfolding join
+strings-windowTo n m s ss e last = rw e
 
 pub window-none : (n : ℕ) (m : Match) → m .includes ≡ [] → window n m ≡ []
 unfolding window windowEnds
