@@ -220,7 +220,7 @@ size-kept m includes given h k = rw (k .is) (at (k .test))
 size-plain : (m : Match) (given : List Match) → Kept m (m .includes) given → AtMostOne m given
 size-plain m given k = size-kept m (m .includes) given (omega arith) k
 
-keep-all : {A : Type 0} (xs : List A) → keep (λ x. true) xs ≡ xs
+pub keep-all : {A : Type 0} (xs : List A) → keep (λ x. true) xs ≡ xs
 unfolding keep
 keep-all [] = refl
 keep-all (x ∷ xs) = ap (λ ys. x ∷ ys) (keep-all xs)

@@ -1,0 +1,284 @@
+-- What is written of a match that is kept: its includes or their join, behind them the excludes that stay, and the header in front.
+use Prim.Native.Nat.{ℕ, suc, _+_, _-_, _*_, _/_, _≤_, _<_, min}
+use native.Mathlib.Omega.{arith}
+use mathlib.Core.Path.{_≡_, refl, sym, ap, ap₂, _∙_, subst}
+use mathlib.Core.Bool.{Bool, true, false, cond}
+use mathlib.Core.List.{List, [], _∷_, map, flatMap}
+use mathlib.Core.Logic.{inl}
+use lib.ListN.{length, take, drop, getD, set, length-take, length-drop}
+use lib.Seq.{sets}
+use Rattle.model.specs.declared.Filter.{Filter}
+use Rattle.model.specs.AllStrings.{Every, AllStrs}
+use Rattle.model.specs.Answers.{spanOf, tagOf}
+use Rattle.model.specs.Lists.{keep}
+use Rattle.model.specs.Matches.{Str, Match}
+use Rattle.model.specs.Rules.{join}
+use Rattle.model.specs.Section.{Section}
+use Rattle.model.proofs.ListsLaws.{length-keep}
+use Rattle.strings.specs.Strings.{strOf, strsOf, strsAt}
+use Rattle.strings.proofs.StringsLaws.{strsAt-cons, strsAt-none}
+use Rattle.strings.proofs.JoiningLaws.{strsOf-join}
+use Rattle.store.specs.Each.{OneAt}
+use Rattle.store.specs.Fine.{Fine}
+use Rattle.store.specs.Layout.{Holds, headerOf, includesIn, excludesIn, matchesNumbers}
+use Rattle.store.specs.Places.{CopyUp, Counts}
+use Rattle.store.specs.Put.{Put}
+use Rattle.store.proofs.Back.{includes-held, excludes-held, length-held, includes-hold, excludes-hold, includes-read, str-back}
+use Rattle.store.proofs.LayoutLaws.{length-strsOf, length-match, matches-kept}
+use Rattle.store.proofs.Memory.{part-apart, getD-head, holds-tail}
+use Rattle.store.proofs.PutLaws.{holds-below, length-put, put-none, put-append, put-copy, put-match, put-kept, put-dropped}
+use Rattle.store.proofs.Rows.{Rows, rows-start, rows-room, rows-step, rows-finish, flatMap-keep}
+use Rattle.store.proofs.Walking.{match-below}
+use Rattle.filters.specs.Keeping.{keepsOf, staysOf, joinsOf, includesKept, excludesKept, keptMatch, keptOf}
+use Rattle.filters.specs.Writing.{includesNumbers, excludesNumbers, keptNumbers, strsIn, stayNumbers, RoomAt, PutOf, Join, Exclude}
+use Rattle.filters.proofs.KeepingLaws.{length-includes}
+
+-- ---- the join
+
+-- less than a string gives none, and strings give one
+module _ (mem : List ℕ) {a e q : ℕ} (j : Join (length mem) a e q) where
+  part : List ℕ
+  part = take (e - a) (drop a mem)
+
+  length-part : length part ≡ e - a
+  unfolding part
+  length-part = simp (length-take, length-drop) (omega arith)
+
+  pub put-no-join : e - a < 2 → Put mem mem q (strsOf 0 (join (strsIn mem a e))) q
+  unfolding part join strsOf
+  put-no-join h = let none = strsAt-none part 0 (omega (arith, length-part)) in subst (λ ss. Put mem mem q (strsOf 0 (join ss)) q) (sym none) (put-none mem q)
+
+  pub put-one-join : 2 ≤ e - a → {span tag : ℕ}
+      → ((s : Str) (ss : List Str) → strsIn mem a e ≡ s ∷ ss → map spanOf (join (s ∷ ss)) ≡ span ∷ [])
+      → ((s : Str) (ss : List Str) → strsIn mem a e ≡ s ∷ ss → map (tagOf 0) (join (s ∷ ss)) ≡ tag ∷ [])
+      → {mem' : List ℕ} {next : ℕ} → Put mem mem' q (span ∷ tag ∷ []) next → Put mem mem' q (strsOf 0 (join (strsIn mem a e))) next
+  unfolding part
+  put-one-join h {span} {tag} f g {mem'} {next} v =
+      let some = strsAt-cons part 0 (omega (arith, length-part)) in
+      let numbers = strsOf-join _ _ span tag (f _ _ some) (g _ _ some) ∙ ap (λ ss. strsOf 0 (join ss)) (sym some) in
+      subst (λ xs. Put mem mem' q xs next) numbers v
+
+length-join : (ss : List Str) → length (strsOf 0 (join ss)) ≡ min (2 * length ss) 2
+unfolding join strsOf
+length-join [] = refl
+length-join (s ∷ ss) = omega arith
+
+-- ---- the includes
+
+module _ (f : Filter) {mem : List ℕ} {p q : ℕ} (w : RoomAt (includesNumbers f) mem p q) {n : ℕ} (e : n ≡ includesIn (getD mem p 0)) where
+  count : n ≡ length (w .item .includes)
+  count = e ∙ includes-held (w .held)
+
+  module _ (j : joinsOf f ≡ true) where
+    joined : includesNumbers f (w .item) ≡ strsOf 0 (join (w .item .includes))
+    joined = rw j
+
+    pub join-fits : Join (length mem) (p + 1) (p + 1 + 2 * n) q
+    join-fits =
+        let room : q + length (strsOf 0 (join (w .item .includes))) ≤ length mem = subst (λ xs. q + length xs ≤ length mem) joined (w .room) in
+        omega (arith, length-join (w .item .includes), count, w .held .header)
+
+    pub put-joined : {mem' : List ℕ} {next : ℕ} → Put mem mem' q (strsOf 0 (join (strsIn mem (p + 1) (p + 1 + 2 * n)))) next
+        → Put mem mem' q (includesNumbers f (w .item)) next
+    put-joined {mem'} {next} v =
+        let read = includes-read (w .held) (p + 1) (p + 1 + 2 * n) refl (omega arith) in
+        subst (λ xs. Put mem mem' q xs next) (ap (λ ss. strsOf 0 (join ss)) read ∙ sym joined) v
+
+  module _ (j : joinsOf f ≡ false) where
+    plain : includesNumbers f (w .item) ≡ strsOf 0 (w .item .includes)
+    plain = rw j
+
+    pub copy-fits : CopyUp (length mem) (p + 1) (2 * n) q
+    copy-fits =
+        let room : q + length (strsOf 0 (w .item .includes)) ≤ length mem = subst (λ xs. q + length xs ≤ length mem) plain (w .room) in
+        omega (arith, length-strsOf 0 (w .item .includes), count, w .below)
+
+    pub put-plain : {mem' : List ℕ} → mem' ≡ sets mem q (take (2 * n) (drop (p + 1) mem)) → Put mem mem' q (includesNumbers f (w .item)) (q + 2 * n)
+    put-plain {mem'} s =
+        subst (λ xs. Put mem mem' q xs (q + 2 * n)) (sym plain)
+        (put-copy (2 * n) q (omega (arith, length-strsOf 0 (w .item .includes), count)) (includes-hold (w .held) (p + 1) refl) s)
+
+-- ---- the excludes
+
+-- an exclude's numbers, if it stays beside these includes
+abbrev stayed : Section → Filter → List Str → Str → List ℕ
+stayed s f is e = cond (staysOf s f is e) (spanOf e ∷ tagOf 1 e ∷ []) []
+
+strsOf-flatMap : (sort : ℕ) (ss : List Str) → strsOf sort ss ≡ flatMap (λ s. spanOf s ∷ tagOf sort s ∷ []) ss
+unfolding strsOf flatMap
+strsOf-flatMap sort [] = refl
+strsOf-flatMap sort (s ∷ ss) = ap (λ xs. spanOf s ∷ tagOf sort s ∷ xs) (strsOf-flatMap sort ss)
+
+excludes-rows : (s : Section) (f : Filter) (m : Match) → excludesNumbers s f m ≡ flatMap (stayed s f (m .includes)) (m .excludes)
+excludes-rows s f m = strsOf-flatMap 1 (keep (staysOf s f (m .includes)) (m .excludes)) ∙ flatMap-keep _ (staysOf s f (m .includes)) (m .excludes)
+
+-- the next of the strings that are left
+record Next (todo : List Str) : Type 0 where
+  first : Str
+  rest : List Str
+  is : todo ≡ first ∷ rest
+
+next : (todo : List Str) → 0 < length todo → Next todo
+next [] h = absurd (omega arith)
+next (x ∷ xs) h = record { first = x; rest = xs; is = refl }
+
+-- before the exclude at k, of those that end before e: memory was mem₀, and of those before it the ones that stay are written from to on to q
+pub record Staying (s : Section) (f : Filter) (m : Match) (mem₀ : List ℕ) (e to : ℕ) (mem : List ℕ) (k q : ℕ) : Type 0 where
+  pub todo : List Str
+  pub rows : Rows (stayed s f (m .includes)) (m .excludes) todo mem₀ mem to q
+  pub holds : Holds mem₀ k (strsOf 1 todo)
+  pub fine : AllStrs Fine todo
+  pub end : k + 2 * length todo ≡ e
+
+module _ (s : Section) (f : Filter) {mem₀ : List ℕ} {p to : ℕ} (w : RoomAt (excludesNumbers s f) mem₀ p to)
+    {n m : ℕ} (en : n ≡ includesIn (getD mem₀ p 0)) (em : m ≡ excludesIn (getD mem₀ p 0)) where
+  pub stay-start : Staying s f (w .item) mem₀ (p + 1 + 2 * n + 2 * m) to mem₀ (p + 1 + 2 * n) to
+  stay-start =
+      record {
+        todo = w .item .excludes;
+        rows = rows-start;
+        holds = excludes-hold (w .held) (p + 1 + 2 * n) (omega arith);
+        fine = w .held .fine .excludes;
+        end = omega (arith, excludes-held (w .held));
+      }
+
+  module _ {mem : List ℕ} {k q : ℕ} (g : Staying s f (w .item) mem₀ (p + 1 + 2 * n + 2 * m) to mem k q) where
+    -- the includes are read as they were
+    includes-still : strsIn mem (p + 1) (p + 1 + 2 * n) ≡ w .item .includes
+    includes-still =
+        ap (λ l. strsIn l (p + 1) (p + 1 + 2 * n)) (g .rows .put .wrote)
+        ∙ ap strsAt (part-apart mem₀ to (g .rows .done) (p + 1) (p + 1 + 2 * n - (p + 1)) (inl (omega (arith, w .below))))
+        ∙ includes-read (w .held) (p + 1) (p + 1 + 2 * n) refl (omega arith)
+
+    module _ (h : k < p + 1 + 2 * n + 2 * m) where
+      here : Next (g .todo)
+      here = next (g .todo) (omega (arith, g .end))
+
+      left : Holds mem₀ k (spanOf (here .first) ∷ tagOf 1 (here .first) ∷ strsOf 1 (here .rest))
+      unfolding strsOf
+      left = subst (λ ss. Holds mem₀ k (strsOf 1 ss)) (here .is) (g .holds)
+
+      fine-left : Fine (here .first) × AllStrs Fine (here .rest)
+      unfolding Every
+      fine-left = subst (AllStrs Fine) (here .is) (g .fine)
+
+      length-left : length (g .todo) ≡ suc (length (here .rest))
+      length-left = ap length (here .is)
+
+      -- the exclude in hand, by its two numbers
+      numbers : stayNumbers s f mem (p + 1) (p + 1 + 2 * n) k ≡ stayed s f (w .item .includes) (here .first)
+      numbers =
+          let x : Str = here .first in
+          let still = holds-below (g .rows .put) (omega (arith, g .end, length-left, length-strsOf 1 (here .rest), w .below)) left in
+          let span : getD mem k 0 ≡ spanOf x = getD-head _ still in
+          let tag : getD mem (k + 1) 0 ≡ tagOf 1 x = getD-head _ (holds-tail _ still) in
+          ap (λ is. cond (staysOf s f is (strOf (getD mem k 0) (getD mem (k + 1) 0))) (getD mem k 0 ∷ getD mem (k + 1) 0 ∷ []) []) includes-still
+          ∙ ap₂ (λ a b. cond (staysOf s f (w .item .includes) (strOf a b)) (a ∷ b ∷ []) []) span tag
+          ∙ ap (λ y. cond (staysOf s f (w .item .includes) y) (spanOf x ∷ tagOf 1 x ∷ []) []) (str-back 1 x (omega arith) (fine-left .0))
+
+      pub exclude-fits : Exclude (length mem) (p + 1) (p + 1 + 2 * n) k q (length (stayNumbers s f mem (p + 1) (p + 1 + 2 * n) k))
+      exclude-fits =
+          let rows-fit : to + length (flatMap (stayed s f (w .item .includes)) (w .item .excludes)) ≤ length mem₀ =
+          subst (λ xs. to + length xs ≤ length mem₀) (excludes-rows s f (w .item)) (w .room) in
+          let room = subst (λ xs. q + length xs ≤ length mem) (sym numbers) (rows-room (g .rows) (here .is) rows-fit) in
+          omega (arith, length-put (g .rows .put), w .held .header)
+
+      pub stay-step : {mem' : List ℕ} {q' : ℕ} → Put mem mem' q (stayNumbers s f mem (p + 1) (p + 1 + 2 * n) k) q'
+          → Staying s f (w .item) mem₀ (p + 1 + 2 * n + 2 * m) to mem' (k + 2) q'
+      stay-step {mem'} {q'} v =
+          let on : k + 2 + 2 * length (here .rest) ≡ p + 1 + 2 * n + 2 * m = omega (arith, g .end, length-left) in
+          record {
+            todo = here .rest;
+            rows = rows-step (g .rows) (here .is) (subst (λ xs. Put mem mem' q xs q') numbers v);
+            holds = subst (λ i. Holds mem₀ i (strsOf 1 (here .rest))) (omega arith) (holds-tail _ (holds-tail _ left));
+            fine = fine-left .1;
+            end = on;
+          }
+
+    pub stay-finish : p + 1 + 2 * n + 2 * m ≤ k → Put mem₀ mem to (excludesNumbers s f (w .item)) q
+    stay-finish h = subst (λ xs. Put mem₀ mem to xs q) (sym (excludes-rows s f (w .item))) (rows-finish (g .rows) (none (g .todo) (omega (arith, g .end))))
+      where
+        none : (ss : List Str) → length ss ≡ 0 → ss ≡ []
+        none [] e = refl
+        none (x ∷ xs) e = absurd (omega arith)
+
+-- ---- a match that is kept
+
+-- its includes end before middle, and its excludes before end: counts that a header at q can hold
+pub record MatchEnds (size q middle end : ℕ) : Type 0 where
+  pub within : q < size
+  pub includes : q + 1 ≤ middle
+  pub excludes : middle ≤ end
+  pub counts : Counts ((middle - (q + 1)) / 2) ((end - middle) / 2)
+
+module _ (s : Section) (f : Filter) {mem : List ℕ} {p q : ℕ} (w : RoomAt (keptNumbers s f) mem p q) where
+  room : q + 1 + length (includesNumbers f (w .item)) + length (excludesNumbers s f (w .item)) ≤ length mem
+  room =
+      omega (arith, w .room, length-match (keptMatch s f (w .item)), length-strsOf 0 (includesKept f (w .item)), length-strsOf 1 (excludesKept s f (w .item)))
+
+  pub includes-at : RoomAt (includesNumbers f) mem p (q + 1)
+  includes-at = record { item = w .item; held = w .held; below = omega (arith, w .below); room = omega (arith, room) }
+
+  module _ {mem₁ : List ℕ} {middle : ℕ} (ls : PutOf (includesNumbers f) mem mem₁ p (q + 1) middle) where
+    includes-put : Put mem mem₁ (q + 1) (includesNumbers f (w .item)) middle
+    unfolding includes-at
+    includes-put = ls includes-at
+
+    pub excludes-at : RoomAt (excludesNumbers s f) mem₁ p middle
+    excludes-at =
+        let v = includes-put in
+        let held = match-below v (omega (arith, w .below)) (w .held) in
+        record {
+          item = w .item;
+          held = held;
+          below = omega (arith, w .below, length-held held, length-held (w .held), v .next-is);
+          room = omega (arith, room, length-put v, v .next-is);
+        }
+
+    module _ {mem₂ : List ℕ} {end : ℕ} (rs : PutOf (excludesNumbers s f) mem₁ mem₂ p middle end) where
+      excludes-put : Put mem₁ mem₂ middle (excludesNumbers s f (w .item)) end
+      unfolding excludes-at
+      excludes-put = rs excludes-at
+
+      includes-many : (middle - (q + 1)) / 2 ≡ length (includesKept f (w .item))
+      includes-many = omega (arith, includes-put .next-is, length-strsOf 0 (includesKept f (w .item)))
+
+      excludes-many : (end - middle) / 2 ≡ length (excludesKept s f (w .item))
+      excludes-many = omega (arith, excludes-put .next-is, length-strsOf 1 (excludesKept s f (w .item)))
+
+      pub ends-found : MatchEnds (length mem₂) q middle end
+      ends-found =
+          let counts : Counts ((middle - (q + 1)) / 2) ((end - middle) / 2) =
+          omega (arith, includes-many, excludes-many, w .held .few, length-includes f (w .item), length-keep (staysOf s f (w .item .includes)) (w .item .excludes)) in
+          omega (arith, includes-put .next-is, excludes-put .next-is, length-put includes-put, length-put excludes-put, room)
+
+      pub put-whole : {header : ℕ} → header ≡ headerOf ((middle - (q + 1)) / 2) ((end - middle) / 2)
+          → Put mem (set mem₂ q header) q (keptNumbers s f (w .item)) end
+      put-whole h = put-match (keptMatch s f (w .item)) (put-append includes-put excludes-put) (h ∙ ap₂ headerOf includes-many excludes-many)
+
+-- ---- a match
+
+module _ (s : Section) (f : Filter) {mem : List ℕ} {p q : ℕ} (w : OneAt (keptOf s f) mem p q) {n : ℕ} {test : Bool}
+    (e : n ≡ includesIn (getD mem p 0)) (t : test ≡ keepsOf s f (strsIn mem (p + 1) (p + 1 + 2 * n))) where
+  -- the test on the includes, as they are read
+  tested : keepsOf s f (w .item .includes) ≡ test
+  tested = sym (t ∙ ap (keepsOf s f) (includes-read (w .one .held) (p + 1) (p + 1 + 2 * n) refl (omega arith)))
+
+  pub put-nothing : test ≡ false → Put mem mem q (matchesNumbers (keptOf s f (w .item))) q
+  unfolding keptOf
+  put-nothing h = put-dropped (keptMatch s f (w .item)) mem q (tested ∙ h)
+
+  module _ (h : test ≡ true) where
+    pub kept-at : RoomAt (keptNumbers s f) mem p q
+    unfolding keptOf
+    kept-at =
+        record {
+          item = w .item;
+          held = w .one .held;
+          below = w .one .below;
+          room = subst (λ xs. q + length xs ≤ length mem) (matches-kept (keptMatch s f (w .item)) (tested ∙ h)) (w .one .room);
+        }
+
+    pub put-one : {mem' : List ℕ} {next : ℕ} → PutOf (keptNumbers s f) mem mem' p q next → Put mem mem' q (matchesNumbers (keptOf s f (w .item))) next
+    unfolding keptOf kept-at
+    put-one v = put-kept (keptMatch s f (w .item)) (tested ∙ h) (v kept-at)

@@ -1,0 +1,136 @@
+-- Invariant: what the filter makes of the matches before number i is written behind the heads, and counted. Measure: the matches left. The law for rules that go
+-- match by match, where one match at most is made of each.
+use Prim.Native.Nat.{_+_, _-_, _≤_}
+use native.Mathlib.Omega.{arith}
+use mathlib.Core.Path.{_≡_, refl}
+use borrow.Author.Needs.{needs}
+use lib.ListN.{length}
+use Rattle.model.specs.Section.{sectionOf}
+use Rattle.store.specs.Each.{OneAt}
+use Rattle.store.specs.Slot.{SlotAt}
+use Rattle.store.proofs.EachLaws.{Counting, item, slot-each, count-start, count-most, count-one, count-finish}
+use Rattle.store.proofs.Slots.{closing, closed}
+use Rattle.filters.specs.Keeping.{keptOf}
+use Rattle.filters.proofs.KeepingLaws.{one-at-most, small-kept, filter-list}
+use Rattle.filters.proofs.filter_list.Statement.{statement}
+use Rattle.filters.proofs.filter_list.Tie as tie
+
+abbrev Inv-loop : tie.InvT-loop
+Inv-loop section filter mem₀ src at n p₀ q₀ matches₀ i₀ mem p q matches i =
+    (i ≤ n) × (length mem ≡ length mem₀)
+    × ((w : SlotAt mem₀ src) → Counting (keptOf (sectionOf section) filter) (w .list) mem₀ n (at + 2) mem p q i matches)
+
+abbrev μ-loop : tie.MeasureT-loop
+μ-loop section filter mem₀ src at n p₀ q₀ matches₀ i₀ mem p q matches i = n - i
+
+-- the match in hand
+one : (c : tie.In-loop Inv-loop μ-loop)
+    → OneAt (keptOf (sectionOf (c .before .before .before .before .before .args .section .now)) (c .before .before .before .before .before .args .filter))
+    (c .before .loop .mem) (c .before .loop .p) (c .before .loop .q)
+one c = item (c .before .loop .inv .2 (c .before .before .before .before .before .pre .1 .0) .going) (c .loop-test .taken)
+
+mul-n : tie.Need-mul-n Inv-loop μ-loop
+mul-n c = search needs
+
+slice-read-n : tie.Need-slice-read-n Inv-loop μ-loop
+slice-read-n c = search needs
+
+cast-n : tie.Need-cast-n Inv-loop μ-loop
+cast-n c = search needs
+
+add-p : tie.Need-add-p Inv-loop μ-loop
+add-p c = search needs
+
+add-q : tie.Need-add-q Inv-loop μ-loop
+add-q c = search needs
+
+loop-holds : tie.Need-loop-holds Inv-loop μ-loop
+loop-holds c =
+    let s = c .before .before .before in
+    (search needs, refl, λ w. count-start (slot-each (w .slot) (s .pre .1 .1) (small-kept (sectionOf (s .args .section .now)) (s .args .filter) (w .slot)) _ refl))
+
+mul-match-length : tie.Need-mul-match-length Inv-loop μ-loop
+mul-match-length c = omega (arith, one c .one .held .header)
+
+slice-read-match-length : tie.Need-slice-read-match-length Inv-loop μ-loop
+slice-read-match-length c = omega (arith, one (c .before) .one .held .header)
+
+match-length-requires : tie.Need-match-length-requires Inv-loop μ-loop
+match-length-requires c κs = search needs
+
+put-filtered-requires : tie.Need-put-filtered-requires Inv-loop μ-loop
+put-filtered-requires c κs = one (c .before .before .before)
+
+count-one-requires : tie.Need-count-one-requires Inv-loop μ-loop
+count-one-requires c κs =
+    let l = c .before .before .before .before .before .before .before in
+    let s = l .before .before .before .before in
+    let w = s .pre .1 .0 in
+    omega (arith, count-most (l .loop .inv .2 w), small-kept (sectionOf (s .args .section .now)) (s .args .filter) (w .slot))
+
+add-p-2 : tie.Need-add-p-2 Inv-loop μ-loop
+add-p-2 c =
+    let k = c .before .before .before .before .before in
+    omega (arith, one (k .before .before) .one .held .header, k .match-length .ensures)
+
+add-i : tie.Need-add-i Inv-loop μ-loop
+add-i c = search needs
+
+loop-less : tie.Need-loop-less Inv-loop μ-loop
+loop-less c = search needs
+
+loop-again : tie.Need-loop-again Inv-loop μ-loop
+loop-again c =
+    let r = c .before .before .before in
+    let k = r .before .before in
+    let l = k .before .before in
+    let g = l .before .loop .inv .2 in (
+      search needs,
+      search needs,
+      λ w. count-one (g w) (l .loop-test .taken) (r .put-filtered .ensures (item (g w .going) (l .loop-test .taken)))
+          (k .match-length .ensures) (one-at-most _ _ _ .matches) (c .count-one .ensures),
+    )
+
+close-slot-requires : tie.Need-close-slot-requires Inv-loop μ-loop
+close-slot-requires c κs =
+    let l = c .before .before in
+    let s = l .before .before .before .before in
+    let w = s .pre .1 .0 in
+    let small = small-kept (sectionOf (s .args .section .now)) (s .args .filter) (w .slot) in
+    closing small (count-finish (l .loop .inv .2 w) (c .before .loop-test .left)) (s .pre .1 .1 .room)
+
+same-length : tie.Need-same-length Inv-loop μ-loop
+same-length c = search needs
+
+returns : tie.Need-returns Inv-loop μ-loop
+returns c w =
+    let l = c .before .before .before .before in
+    let s = l .before .before .before .before .before in
+    let S = sectionOf (s .args .section .now) in
+    rw (← filter-list S (s .args .filter) (s .pre .0) (w .list))
+    (closed (small-kept S (s .args .filter) (w .slot)) (count-finish (l .before .loop .inv .2 w) (l .loop-test .left)) (c .before .before .close-slot .ensures))
+
+pub filter-list-spec : {M : Type 1} → statement M
+filter-list-spec =
+    tie.close
+    (tie.spec
+    Inv-loop
+    μ-loop
+    mul-n
+    slice-read-n
+    cast-n
+    add-p
+    add-q
+    loop-holds
+    mul-match-length
+    slice-read-match-length
+    match-length-requires
+    put-filtered-requires
+    count-one-requires
+    add-p-2
+    add-i
+    loop-less
+    loop-again
+    close-slot-requires
+    same-length
+    returns)

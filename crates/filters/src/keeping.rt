@@ -1,0 +1,88 @@
+// Whether a filter keeps a match, by its includes, and which of its excludes then stay.
+use model::Filter;
+use model::Position;
+ghost use mathlib.Core.Path.{_≡_};
+ghost use mathlib.Core.Bool.{_&&_};
+ghost use lib.Dec.{leb};
+ghost use Rattle.model.specs.Rules.{covered};
+ghost use Rattle.model.specs.Section.{sectionOf, size};
+ghost use Rattle.strings.specs.Strings.{strOf, strsAt};
+ghost use Rattle.filters.specs.Keeping.{joinsOf, keepsOf, staysOf};
+
+// "some include covers position 1, or n. With n = 0 none does."
+fn at_position(section: &[u32], includes: &[u32], p: Position) -> bool
+    ensures { λ r. ⌜ r ≡ (leb 1 (size (now (section .entry))) && covered (strsAt (now (includes .entry))) (p .0)) ⌝ }
+{
+    if lent::number_at(section, 0) < 1 {
+        return false;
+    }
+    strings::covering::covered(includes, p)
+}
+
+// "Kept if .."
+pub fn keeps(section: &[u32], filter: Filter, includes: &[u32]) -> bool
+    ensures { λ r. ⌜ r ≡ keepsOf (sectionOf (now (section .entry))) filter (strsAt (now (includes .entry))) ⌝ }
+{
+    match filter {
+        Filter::Ordered => strings::ordering::all_agree(includes),
+        Filter::Window(_) => true,
+        Filter::Distance { least, most } => strings::distances::sorted_within(
+            includes,
+            least,
+            most,
+        ),
+        Filter::SameSentence => super::sentences::all_in_same(section, includes),
+        Filter::SameParagraph => super::paragraphs::all_in_same(section, includes),
+        Filter::DifferentSentence => super::sentences::all_differ(section, includes),
+        Filter::DifferentParagraph => super::paragraphs::all_differ(section, includes),
+        Filter::AtStart => at_position(section, includes, Position(1)),
+        Filter::AtEnd => at_position(section, includes, Position(lent::number_at(section, 0))),
+        Filter::EntireContent => strings::covering::run_covered(
+            includes,
+            1,
+            lent::number_at(section, 0),
+            true,
+        ),
+    }
+}
+
+// "an exclude stays if .."
+pub fn stays(section: &[u32], filter: Filter, includes: &[u32], span: u32, tag: u32) -> bool
+    ensures { λ r. ⌜ r ≡ staysOf (sectionOf (now (section .entry))) filter (strsAt (now (includes .entry))) (strOf span tag) ⌝ }
+{
+    match filter {
+        Filter::Ordered => strings::ordering::agrees_with_all(span, tag, includes),
+        Filter::Window(_) => true,
+        Filter::Distance { least, most } => strings::distances::in_distance(
+            span,
+            includes,
+            least,
+            most,
+        ),
+        Filter::SameSentence => super::sentences::in_same(section, includes, span),
+        Filter::SameParagraph => super::paragraphs::in_same(section, includes, span),
+        Filter::DifferentSentence => super::sentences::differs(section, includes, span),
+        Filter::DifferentParagraph => super::paragraphs::differs(section, includes, span),
+        Filter::AtStart => true,
+        Filter::AtEnd => true,
+        Filter::EntireContent => true,
+    }
+}
+
+// "the result holds the join": distance's
+pub fn joins(filter: Filter) -> bool
+    ensures { λ r. ⌜ r ≡ joinsOf filter ⌝ }
+{
+    match filter {
+        Filter::Ordered => false,
+        Filter::Window(_) => false,
+        Filter::Distance { .. } => true,
+        Filter::SameSentence => false,
+        Filter::SameParagraph => false,
+        Filter::DifferentSentence => false,
+        Filter::DifferentParagraph => false,
+        Filter::AtStart => false,
+        Filter::AtEnd => false,
+        Filter::EntireContent => false,
+    }
+}

@@ -1,0 +1,40 @@
+// The nine filters that keep a match or drop it: all but window. One loop over a list's matches, one writer, and for each filter a test on the includes
+// and a test that an exclude stays by.
+mod keeping;
+mod paragraphs;
+mod sentences;
+mod writing;
+
+use model::Filter;
+use store::Built;
+ghost use mathlib.Core.Path.{_≡_};
+ghost use lib.ListN.{length};
+ghost use Rattle.model.specs.AllMatches.{filterList};
+ghost use Rattle.model.specs.Section.{sectionOf};
+ghost use Rattle.model.specs.Selection.{filterKind};
+ghost use Rattle.store.specs.Outcome.{Outcome};
+ghost use Rattle.store.specs.Places.{Under};
+ghost use Rattle.store.specs.Slot.{SlotAt};
+
+// Builds the list that a filter, no window, gives of the list in the slot at src.
+pub fn filter_list(section: &[u32], filter: Filter, mem: &mut [u32], src: usize, at: usize) -> Built
+    requires { ⌜ (filterKind filter ≡ 7 → ⊥) ⌝ }
+    requires { ⌜ SlotAt (now mem) src ⌝ }
+    requires { ⌜ Under (length (now mem)) src at ⌝ }
+    ensures { λ r. ⌜ ((w : SlotAt (now (mem .entry)) src) → Outcome (filterList (sectionOf (now (section .entry))) filter (w .list)) (now (mem .entry)) (now (mem .exit)) at r) ⌝ }
+{
+    let n = mem[src] as usize;
+    let mut p = src + 2;
+    let mut q = at + 2;
+    let mut matches = 0;
+    let mut i = 0;
+    while i < n {
+        let length = store::match_length(mem[p]);
+        let next = writing::put_filtered(section, filter, mem, p, q);
+        matches = store::count_one(matches, q, next);
+        q = next;
+        p += length;
+        i += 1;
+    }
+    store::close_slot(mem, at, q, matches)
+}

@@ -1,0 +1,4 @@
+pub mod ColumnsLaws
+pub mod Walks
+pub mod Listings
+pub mod Yeses

@@ -1,0 +1,178 @@
+-- The strings inside a window: tested by their two numbers, counted one by one, and copied one behind the other, which comes to the numbers of those that
+-- are kept.
+use Prim.Native.Nat.{ℕ, _+_, _*_, _/_, _%_, _≤_, _<_}
+use native.Mathlib.Omega.{arith}
+use native.Mathlib.Numerals.{add-one}
+use mathlib.Core.Path.{_≡_, refl, sym, ap, ap₂, _∙_, subst}
+use mathlib.Core.Bool.{Bool, true, false, cond}
+use mathlib.Core.List.{List, [], _∷_, flatMap}
+use borrow.Author.Tests.{le-ltb, lt-ltb}
+use lib.Dec.{leb}
+use lib.ListN.{length, getD, set}
+use lib.Seq.{sets}
+use mir.Val.{boolByte}
+use Rattle.model.specs.AllStrings.{AllStrs, Every}
+use Rattle.model.specs.Answers.{spanOf, tagOf}
+use Rattle.model.specs.Limits.{radix}
+use Rattle.model.specs.Lists.{keep}
+use Rattle.model.specs.Matches.{Str}
+use Rattle.model.specs.Rules.{insideWindow}
+use Rattle.model.proofs.ListsLaws.{length-keep}
+use Rattle.strings.specs.Strings.{strOf, strsAt, strsOf}
+use Rattle.strings.proofs.StringsLaws.{Left, left-next, left-none, length-strsAt}
+use Rattle.store.specs.Fine.{Fine}
+use Rattle.store.specs.Layout.{Holds}
+use Rattle.store.specs.Put.{Put}
+use Rattle.store.proofs.Back.{str-back}
+use Rattle.store.proofs.LayoutLaws.{length-strsOf}
+use Rattle.store.proofs.Memory.{getD-head, holds-tail}
+use Rattle.store.proofs.PutLaws.{put-none, holds-below}
+use Rattle.store.proofs.Rows.{Rows, rows-start, rows-room, rows-step, rows-finish, flatMap-keep}
+use Rattle.window.specs.Inside.{ExcludesAt, insideNumbers, StringAt}
+
+-- ---- insideWindow
+
+module _ (n last span : ℕ) {start : ℕ} (e : start ≡ span / radix) where
+  pub inside-before : start + n ≤ last → false ≡ insideWindow n last (strOf span 0)
+  inside-before h = rw (le-ltb last (span / radix + n) (omega arith))
+
+  pub inside-from : last < start + n → {end : ℕ} → end ≡ span % radix → leb end last ≡ insideWindow n last (strOf span 0)
+  inside-from h f = rw (f, lt-ltb last (span / radix + n) (omega arith))
+
+-- ---- counting
+
+pub boolByte-one : (b : Bool) → boolByte b ≤ 1
+boolByte-one true = omega arith
+boolByte-one false = omega arith
+
+-- at index i of the loop: those inside so far and those still to come are all that are inside
+pub record Counted (n last : ℕ) (strs : List ℕ) (count i : ℕ) : Type 0 where
+  pub left : Left (length (keep (insideWindow n last) (strsAt strs))) (λ ss. count + length (keep (insideWindow n last) ss)) strs i
+
+pub count-start : (n last : ℕ) (strs : List ℕ) → Counted n last strs 0 0
+count-start n last strs = record { left = record { bounded = omega arith; same = omega arith } }
+
+module _ {n last count i : ℕ} {strs : List ℕ} (g : Counted n last strs count i) where
+  pub count-most : count ≤ length strs
+  count-most = omega (arith, g .left .same, length-keep (insideWindow n last) (strsAt strs), length-strsAt strs)
+
+  pub count-next : i + 1 < length strs → {test : Bool} → test ≡ insideWindow n last (strOf (getD strs i 0) 0) → Counted n last strs (count + boolByte test) (i + 2)
+  unfolding keep
+  count-next h {test} e = record { left = left-next (g .left) h _ (rw (← e) (counted test _ _)) }
+    where
+      counted : (t : Bool) (s : Str) (ss : List Str) → count + length (cond t (s ∷ ss) ss) ≡ count + boolByte t + length ss
+      counted true s ss = omega arith
+      counted false s ss = omega arith
+
+  pub count-end : length strs ≤ i + 1 → count ≡ length (keep (insideWindow n last) (strsAt strs))
+  unfolding keep
+  count-end h = omega (arith, left-none (g .left) h)
+
+-- ---- insideNumbers
+
+-- the string at i: where it isn't inside, and where it is
+module _ {n last : ℕ} {mem : List ℕ} {i q : ℕ} (w : StringAt n last mem i q) {test : Bool} (e : test ≡ insideWindow n last (strOf (getD mem i 0) 0)) where
+  abbrev span : ℕ
+  span = getD mem i 0
+
+  abbrev tag : ℕ
+  tag = getD mem (i + 1) 0
+
+  pub put-outside : test ≡ false → Put mem mem q (insideNumbers n last span tag) q
+  put-outside f = subst (λ t. Put mem mem q (cond t (span ∷ tag ∷ []) []) q) (sym (sym e ∙ f)) (put-none mem q)
+
+  pub put-one : test ≡ true → Put mem (set (set mem q span) (q + 1) tag) q (insideNumbers n last span tag) (q + 2)
+  put-one f =
+      let stored : set (set mem q span) (q + 1) tag ≡ sets mem q (span ∷ tag ∷ []) = ap (λ k. set (set mem q span) k tag) (add-one q) in
+      subst (λ t. Put mem (set (set mem q span) (q + 1) tag) q (cond t (span ∷ tag ∷ []) []) (q + 2)) (sym (sym e ∙ f)) (record { wrote = stored; next-is = refl })
+
+  pub one-room : test ≡ true → q + 2 ≤ length mem
+  one-room f = subst (λ t. q + length (cond t (span ∷ tag ∷ []) []) ≤ length mem) (sym e ∙ f) (w .room)
+
+-- ---- copying
+
+pub no-strings : (ss : List Str) → length ss ≡ 0 → ss ≡ []
+no-strings [] h = refl
+no-strings (s ∷ ss) h = absurd (omega arith)
+
+-- the numbers of one string, or none
+abbrev rowOf : ℕ → ℕ → Str → List ℕ
+rowOf n last s = cond (insideWindow n last s) (spanOf s ∷ tagOf 1 s ∷ []) []
+
+strsOf-rows : (ss : List Str) → strsOf 1 ss ≡ flatMap (λ s. spanOf s ∷ tagOf 1 s ∷ []) ss
+unfolding strsOf flatMap
+strsOf-rows [] = refl
+strsOf-rows (s ∷ ss) = ap (λ xs. spanOf s ∷ tagOf 1 s ∷ xs) (strsOf-rows ss)
+
+rows-inside : (n last : ℕ) (ss : List Str) → flatMap (rowOf n last) ss ≡ strsOf 1 (keep (insideWindow n last) ss)
+rows-inside n last ss = sym (strsOf-rows (keep (insideWindow n last) ss) ∙ flatMap-keep (λ s. spanOf s ∷ tagOf 1 s ∷ []) (insideWindow n last) ss)
+
+-- at index i of the loop: the strings todo are left, up to e, and the numbers of those before them that are inside are written from q to next
+pub record Copying (n last : ℕ) (list : List Str) (mem₀ : List ℕ) (e q : ℕ) (mem : List ℕ) (next i : ℕ) : Type 0 where
+  pub todo : List Str
+  pub holds : Holds mem i (strsOf 1 todo)
+  pub fine : AllStrs Fine todo
+  pub end-is : e ≡ i + 2 * length todo
+  pub rows : Rows (rowOf n last) list todo mem₀ mem q next
+
+-- the string in hand
+record Here (n last : ℕ) (mem : List ℕ) (e i : ℕ) (todo : List Str) : Type 0 where
+  pub first : Str
+  pub rest : List Str
+  pub is : todo ≡ first ∷ rest
+  pub holds : Holds mem (i + 2) (strsOf 1 rest)
+  pub fine : AllStrs Fine rest
+  pub end-is : e ≡ i + 2 + 2 * length rest
+  pub row : insideNumbers n last (getD mem i 0) (getD mem (i + 1) 0) ≡ rowOf n last first
+
+module _ {n last : ℕ} {mem : List ℕ} {a e q : ℕ} (w : ExcludesAt n last mem a e q) where
+  pub copy-start : Copying n last (w .list) mem e q mem q a
+  copy-start = record { todo = w .list; holds = w .holds; fine = w .fine; end-is = w .end-is; rows = rows-start }
+
+module _ {n last : ℕ} {mem₀ : List ℕ} {a e q : ℕ} (w : ExcludesAt n last mem₀ a e q) {mem : List ℕ} {next i : ℕ} (g : Copying n last (w .list) mem₀ e q mem next i) where
+  here : (todo : List Str) → Holds mem i (strsOf 1 todo) → AllStrs Fine todo → e ≡ i + 2 * length todo → i < e → Here n last mem e i todo
+  unfolding strsOf Every
+  here [] r f d h = absurd (omega arith)
+  here (s ∷ ss) r f d h =
+      let behind = holds-tail _ r in
+      let two : Holds mem (i + 2) (strsOf 1 ss) = subst (λ k. Holds mem k (strsOf 1 ss)) (omega arith) (holds-tail _ behind) in
+      let same : strOf (spanOf s) (tagOf 1 s) ≡ s = str-back 1 s (omega arith) (f .0) in
+      record {
+        first = s;
+        rest = ss;
+        is = refl;
+        holds = two;
+        fine = f .1;
+        end-is = omega arith;
+        row =
+            ap₂ (insideNumbers n last) (getD-head _ r) (getD-head _ behind)
+            ∙ ap (λ t. cond (insideWindow n last t) (spanOf s ∷ tagOf 1 s ∷ []) []) same;
+      }
+
+  module _ (h : i < e) where
+    one : Here n last mem e i (g .todo)
+    one = here (g .todo) (g .holds) (g .fine) (g .end-is) h
+
+    pub string-at : StringAt n last mem i next
+    string-at =
+        let allOf : q + length (flatMap (rowOf n last) (w .list)) ≤ length mem₀ =
+        omega (arith, w .room, ap length (rows-inside n last (w .list)), length-strsOf 1 (keep (insideWindow n last) (w .list))) in
+        record {
+          size = w .size;
+          below = omega (arith, one .end-is, w .below, g .rows .put .next-is);
+          room = rw (one .row) (rows-room (g .rows) (one .is) allOf);
+        }
+
+    pub copy-next : {mem' : List ℕ} {next' : ℕ} → Put mem mem' next (insideNumbers n last (getD mem i 0) (getD mem (i + 1) 0)) next'
+        → Copying n last (w .list) mem₀ e q mem' next' (i + 2)
+    copy-next {mem'} {next'} v =
+        record {
+          todo = one .rest;
+          holds = holds-below v (omega (arith, one .end-is, length-strsOf 1 (one .rest), w .below, g .rows .put .next-is)) (one .holds);
+          fine = one .fine;
+          end-is = one .end-is;
+          rows = rows-step (g .rows) (one .is) (subst (λ xs. Put mem mem' next xs next') (one .row) v);
+        }
+
+  pub copy-end : e ≤ i → Put mem₀ mem q (strsOf 1 (keep (insideWindow n last) (w .list))) next
+  copy-end h = subst (λ xs. Put mem₀ mem q xs next) (rows-inside n last (w .list)) (rows-finish (g .rows) (no-strings (g .todo) (omega (arith, g .end-is))))

@@ -1,0 +1,3 @@
+pub mod InsideLaws
+pub mod AddedLaws
+pub mod WindowsLaws
