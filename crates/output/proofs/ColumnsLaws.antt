@@ -51,6 +51,7 @@ every-held {mem} {p} xs h (suc n) k l =
 
 -- ---- columnIn
 
+-- the column of a match in memory
 pub column-held : {mem : List ℕ} {p : ℕ} (m : Match) → Holds mem p (matchNumbers m) → (column n : ℕ) → column ≤ 2 → n ≡ stringsIn m
     → everySecond mem (p + column) n ≡ columnIn column m
 unfolding columnIn

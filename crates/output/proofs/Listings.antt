@@ -17,6 +17,7 @@ use Rattle.store.proofs.Slots.{matches-held, strings-held, slot-stream}
 use Rattle.output.specs.Columns.{columnIn, ColumnAt}
 use Rattle.output.proofs.ColumnsLaws.{length-columns, column-spans, column-tags}
 
+-- what is equal of each element is equal of all
 flatMap-same : {A B : Type 0} (f g : A → List B) → ((x : A) → f x ≡ g x) → (xs : List A) → flatMap f xs ≡ flatMap g xs
 unfolding flatMap
 flatMap-same f g e [] = refl
@@ -43,7 +44,8 @@ module _ {mem : List ℕ} {src : ℕ} {list : List Match} (s : SlotHolds mem src
       let k = getD mem (src + 1) 0 in
       let heads : Put b (set (set b 0 m) 1 k) 0 (length list ∷ strings list ∷ []) 2 =
       record { wrote = ap₂ (λ x y. set (set b 0 x) 1 y) (matches-held s) (strings-held s); next-is = refl } in
-      let first : Put (set (set b 0 m) 1 k) b₁ 2 (map stringsIn list) (2 + m) = record { wrote = e₁; next-is = omega (arith, matches-held s, length-map list stringsIn) } in
+      let first : Put (set (set b 0 m) 1 k) b₁ 2 (map stringsIn list) (2 + m) =
+      record { wrote = e₁; next-is = omega (arith, matches-held s, length-map list stringsIn) } in
       let second : Put b₁ b₂ (2 + m) (flatMap spansIn list) (2 + m + k) =
       record { wrote = e₂ ∙ ap (sets b₁ (2 + m)) spans; next-is = omega (arith, strings-held s, ap length spans, length-columns 1 list) } in
       let third : Put b₂ b₃ (2 + m + k) (flatMap tagsIn list) (2 + m + k + length (flatMap tagsIn list)) =

@@ -16,6 +16,7 @@ use Rattle.store.proofs.Walking.{next, none-left}
 use Rattle.output.specs.Columns.{everySecond, columnIn}
 use Rattle.output.proofs.ColumnsLaws.{column-held, length-column, length-columns}
 
+-- of the matches of list those in todo are left, at p; the others' numbers are written to b, which was b₀, from at to q
 pub record Writing (R : Match → List ℕ) (list : List Match) (mem : List ℕ) (n : ℕ) (b₀ : List ℕ) (at : ℕ) (b : List ℕ) (p q i : ℕ) : Type 0 where
   pub todo : List Match
   pub left : Left todo mem p i n
@@ -29,6 +30,7 @@ strings-held : {mem : List ℕ} {p : ℕ} {m : Match} → MatchHolds mem p m →
 strings-held h = omega (arith, includes-held h, excludes-held h)
 
 module _ {R : Match → List ℕ} {list : List Match} {mem : List ℕ} {n : ℕ} {b₀ : List ℕ} {at : ℕ} {b : List ℕ} {p q i : ℕ} (g : Writing R list mem n b₀ at b p q i) where
+  -- the header of the next match
   pub here : i < n → Header mem p
   here h = next (g .left) h .held .header
 

@@ -12,6 +12,7 @@ use Rattle.store.specs.Stream.{Header, Left}
 use Rattle.store.proofs.Back.{excludes-held}
 use Rattle.store.proofs.Walking.{next, none-left}
 
+-- of the matches of list those in todo are left, at p, and one of the list has no excludes where one of them has none
 pub record Seeking (list : List Match) (mem : List ℕ) (p i n : ℕ) : Type 0 where
   pub todo : List Match
   pub left : Left todo mem p i n
@@ -31,6 +32,7 @@ pub seek-start : {list : List Match} {mem : List ℕ} {p n : ℕ} → Left list 
 seek-start {list} l = record { todo = list; left = l; same = refl }
 
 module _ {list : List Match} {mem : List ℕ} {p i n : ℕ} (g : Seeking list mem p i n) where
+  -- the header of the next match
   pub seek-here : i < n → Header mem p
   seek-here h = next (g .left) h .held .header
 

@@ -51,7 +51,8 @@ fn put_counts(mem: &[u32], first: usize, n: usize, buffer: &mut [u32], q: usize)
 fn put_column(mem: &[u32], first: usize, n: usize, column: usize, buffer: &mut [u32], at: usize)
     requires { ⌜ ColumnAt (now mem) first n (length (now buffer)) at ⌝ }
     requires { ⌜ column ≤ 2 ⌝ }
-    ensures { λ _. ⌜ ((w : ColumnAt (now (mem .entry)) first n (length (now (buffer .entry))) at) → now (buffer .exit) ≡ sets (now (buffer .entry)) at (flatMap (columnIn column) (w .list))) ⌝ }
+    ensures { λ _. ⌜ ((w : ColumnAt (now (mem .entry)) first n (length (now (buffer .entry))) at)
+        → now (buffer .exit) ≡ sets (now (buffer .entry)) at (flatMap (columnIn column) (w .list))) ⌝ }
 {
     let mut p = first;
     let mut q = at;

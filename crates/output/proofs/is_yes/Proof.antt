@@ -64,7 +64,8 @@ loop-less c = search needs
 loop-again : tie.Need-loop-again Inv-loop μ-loop
 loop-again c =
     let l = c .before .before .before .before in
-    (search needs, λ w. seek-later (l .before .loop .inv .1 w) (l .loop-test .taken) (λ z. c .before .if1 .left (c .before .before .excludes-in .ensures ∙ z)) (c .match-length .ensures))
+    let e = c .before .before .excludes-in .ensures in
+    (search needs, λ w. seek-later (l .before .loop .inv .1 w) (l .loop-test .taken) (λ z. c .before .if1 .left (e ∙ z)) (c .match-length .ensures))
 
 returns-2 : tie.Need-returns-2 Inv-loop μ-loop
 returns-2 c w = seek-none (c .before .loop .inv .1 w) (c .loop-test .left)

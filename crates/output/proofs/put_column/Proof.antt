@@ -26,7 +26,8 @@ one : (c : tie.In-loop Inv-loop μ-loop) → Header (c .before .before .before .
 one c = here (c .before .loop .inv .2 (c .before .before .before .before .pre .0)) (c .loop-test .taken)
 
 -- and room for its strings' numbers
-room : (c : tie.After-strings-in Inv-loop μ-loop) → let l = c .before .before .before in Room (l .before .before .before .args .mem .now) (l .loop .buffer) (l .loop .p) (l .loop .q) (c .strings-in .result)
+room : (c : tie.After-strings-in Inv-loop μ-loop)
+    → let l = c .before .before .before in Room (l .before .before .before .args .mem .now) (l .loop .buffer) (l .loop .p) (l .loop .q) (c .strings-in .result)
 room c =
     let l = c .before .before in
     let w = l .before .before .before .before .pre .0 in
@@ -69,7 +70,12 @@ loop-again : tie.Need-loop-again Inv-loop μ-loop
 loop-again c =
     let s = c .before .before .before .before in
     let l = s .before .before in
-    (search needs, search needs, λ w. column-step _ (l .before .loop .inv .2 w) (l .loop-test .taken) (s .strings-in .ensures) (l .before .before .before .before .pre .1) (c .before .before .copy-every-second .ensures))
+    let given = l .before .before .before .before .pre in (
+      search needs,
+      search needs,
+      λ w. column-step _ (l .before .loop .inv .2 w) (l .loop-test .taken) (s .strings-in .ensures) (given .1)
+          (c .before .before .copy-every-second .ensures),
+    )
 
 same-length : tie.Need-same-length Inv-loop μ-loop
 same-length c = search needs

@@ -56,10 +56,15 @@ put-counts-requires : tie.Need-put-counts-requires
 put-counts-requires c κs = (counts-given (c .before .before .before .before .before .pre .0 .slot), simp length-set (omega arith))
 
 put-column-requires : tie.Need-put-column-requires
-put-column-requires c κs = (column-given (c .before .before .before .before .before .before .before .before .before .pre .0 .slot) _ (omega arith) (long (c .before .before .before)), omega arith)
+put-column-requires c κs =
+    let k = c .before .before .before in
+    (column-given (k .before .before .before .before .before .before .pre .0 .slot) _ (omega arith) (long k), omega arith)
 
 put-column-requires-2 : tie.Need-put-column-requires-2
-put-column-requires-2 c κs = (column-given (c .before .before .before .before .before .before .before .before .before .before .before .before .before .pre .0 .slot) _ (omega arith) (longer (c .before .before .before)), omega arith)
+put-column-requires-2 c κs =
+    let p = c .before .before .before in
+    let k = p .before .before .before .before in
+    (column-given (k .before .before .before .before .before .before .pre .0 .slot) _ (omega arith) (longer p), omega arith)
 
 same-length : tie.Need-same-length
 same-length c =
