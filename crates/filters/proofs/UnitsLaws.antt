@@ -2,7 +2,7 @@
 use Prim.Native.Nat.{ℕ, _/_, _≤_, _<_}
 use native.Mathlib.Omega.{arith}
 use mathlib.Core.Path.{_≡_, refl, sym, ap, _∙_}
-use mathlib.Core.Bool.{Bool, true, false, _&&_, and-false}
+use mathlib.Core.Bool.{Bool, true, false, _&&_, and-false, true≢false}
 use mathlib.Core.List.{List}
 use borrow.Author.Tests.{le-leb, lt-leb}
 use lib.ListN.{length, getD}
@@ -36,6 +36,7 @@ module _ (unit : ℕ → ℕ) (l : List ℕ) where
 
   -- ---- allDiffer
 
+  -- less than two strings fail, and two or more are put to both tests ..
   pub too-few : length l < 4 → false ≡ allDiffer unit (strsAt l)
   unfolding allDiffer
   too-few h = let k : length (strsAt l) < 2 = omega (arith, length-strsAt l) in rw (lt-leb 2 (length (strsAt l)) k)
@@ -44,7 +45,7 @@ module _ (unit : ℕ → ℕ) (l : List ℕ) where
   unfolding allDiffer
   enough h e = let k : 2 ≤ length (strsAt l) = omega (arith, length-strsAt l) in rw (le-leb 2 (length (strsAt l)) k) e
 
--- each string is tested against those behind it
+-- .. each string against those behind it
 pub decides-differ : (unit : ℕ → ℕ) → Decides false (λ s ss. differs unit ss s) (bothTests unit)
 unfolding allOf allPairs
 decides-differ unit =
@@ -55,6 +56,6 @@ decides-differ unit =
     }
   where
     fails : (a b c d : Bool) → (a && b) ≡ false → (a && c && (b && d)) ≡ false
-    fails true true c d e = absurd (let z : _≡_ {A = ℕ} 0 1 = cc in omega arith)
+    fails true true c d e = absurd (true≢false e)
     fails true false c d e = and-false c
     fails false b c d e = refl

@@ -5,7 +5,7 @@ use mathlib.Core.Path.{_≡_, refl, sym, ap, ap₂, _∙_, subst}
 use mathlib.Core.Bool.{Bool, true, false, cond}
 use mathlib.Core.List.{List, [], _∷_, map, flatMap}
 use mathlib.Core.Logic.{inl}
-use lib.ListN.{length, take, drop, getD, set, length-take, length-drop}
+use lib.ListN.{length, take, drop, getD, set, length-take, length-drop, drop-of-length-le}
 use lib.Seq.{sets}
 use Rattle.model.specs.declared.Filter.{Filter}
 use Rattle.model.specs.AllStrings.{Every, AllStrs}
@@ -58,10 +58,10 @@ module _ (mem : List ℕ) {a e q : ℕ} (j : Join (length mem) a e q) where
       let numbers = strsOf-join _ _ span tag (f _ _ some) (g _ _ some) ∙ ap (λ ss. strsOf 0 (join ss)) (sym some) in
       subst (λ xs. Put mem mem' q xs next) numbers v
 
-length-join : (ss : List Str) → length (strsOf 0 (join ss)) ≡ min (2 * length ss) 2
+join-numbers : (ss : List Str) → length (strsOf 0 (join ss)) ≡ min (2 * length ss) 2
 unfolding join strsOf
-length-join [] = refl
-length-join (s ∷ ss) = omega arith
+join-numbers [] = refl
+join-numbers (s ∷ ss) = omega arith
 
 -- ---- the includes
 
@@ -69,6 +69,7 @@ module _ (f : Filter) {mem : List ℕ} {p q : ℕ} (w : RoomAt (includesNumbers 
   count : n ≡ length (w .item .includes)
   count = e ∙ includes-held (w .held)
 
+  -- a filter that gives the join ..
   module _ (j : joinsOf f ≡ true) where
     joined : includesNumbers f (w .item) ≡ strsOf 0 (join (w .item .includes))
     joined = rw j
@@ -76,7 +77,7 @@ module _ (f : Filter) {mem : List ℕ} {p q : ℕ} (w : RoomAt (includesNumbers 
     pub join-fits : Join (length mem) (p + 1) (p + 1 + 2 * n) q
     join-fits =
         let room : q + length (strsOf 0 (join (w .item .includes))) ≤ length mem = subst (λ xs. q + length xs ≤ length mem) joined (w .room) in
-        omega (arith, length-join (w .item .includes), count, w .held .header)
+        omega (arith, join-numbers (w .item .includes), count, w .held .header)
 
     pub put-joined : {mem' : List ℕ} {next : ℕ} → Put mem mem' q (strsOf 0 (join (strsIn mem (p + 1) (p + 1 + 2 * n)))) next
         → Put mem mem' q (includesNumbers f (w .item)) next
@@ -84,6 +85,7 @@ module _ (f : Filter) {mem : List ℕ} {p q : ℕ} (w : RoomAt (includesNumbers 
         let read = includes-read (w .held) (p + 1) (p + 1 + 2 * n) refl (omega arith) in
         subst (λ xs. Put mem mem' q xs next) (ap (λ ss. strsOf 0 (join ss)) read ∙ sym joined) v
 
+  -- .. and one that leaves the includes as they are
   module _ (j : joinsOf f ≡ false) where
     plain : includesNumbers f (w .item) ≡ strsOf 0 (w .item .includes)
     plain = rw j
@@ -176,6 +178,7 @@ module _ (s : Section) (f : Filter) {mem₀ : List ℕ} {p to : ℕ} (w : RoomAt
           ∙ ap₂ (λ a b. cond (staysOf s f (w .item .includes) (strOf a b)) (a ∷ b ∷ []) []) span tag
           ∙ ap (λ y. cond (staysOf s f (w .item .includes) y) (spanOf x ∷ tagOf 1 x ∷ []) []) (str-back 1 x (omega arith) (fine-left .0))
 
+      -- it may be tested and put ..
       pub exclude-fits : Exclude (length mem) (p + 1) (p + 1 + 2 * n) k q (length (stayNumbers s f mem (p + 1) (p + 1 + 2 * n) k))
       exclude-fits =
           let rows-fit : to + length (flatMap (stayed s f (w .item .includes)) (w .item .excludes)) ≤ length mem₀ =
@@ -183,6 +186,7 @@ module _ (s : Section) (f : Filter) {mem₀ : List ℕ} {p to : ℕ} (w : RoomAt
           let room = subst (λ xs. q + length xs ≤ length mem) (sym numbers) (rows-room (g .rows) (here .is) rows-fit) in
           omega (arith, length-put (g .rows .put), w .held .header)
 
+      -- .. and then the next is in hand
       pub stay-step : {mem' : List ℕ} {q' : ℕ} → Put mem mem' q (stayNumbers s f mem (p + 1) (p + 1 + 2 * n) k) q'
           → Staying s f (w .item) mem₀ (p + 1 + 2 * n + 2 * m) to mem' (k + 2) q'
       stay-step {mem'} {q'} v =
@@ -196,11 +200,9 @@ module _ (s : Section) (f : Filter) {mem₀ : List ℕ} {p to : ℕ} (w : RoomAt
           }
 
     pub stay-finish : p + 1 + 2 * n + 2 * m ≤ k → Put mem₀ mem to (excludesNumbers s f (w .item)) q
-    stay-finish h = subst (λ xs. Put mem₀ mem to xs q) (sym (excludes-rows s f (w .item))) (rows-finish (g .rows) (none (g .todo) (omega (arith, g .end))))
-      where
-        none : (ss : List Str) → length ss ≡ 0 → ss ≡ []
-        none [] e = refl
-        none (x ∷ xs) e = absurd (omega arith)
+    stay-finish h =
+        let none-left : g .todo ≡ [] = drop-of-length-le (g .todo) {i = 0} (omega (arith, g .end)) in
+        subst (λ xs. Put mem₀ mem to xs q) (sym (excludes-rows s f (w .item))) (rows-finish (g .rows) none-left)
 
 -- ---- a match that is kept
 
@@ -216,6 +218,7 @@ module _ (s : Section) (f : Filter) {mem : List ℕ} {p q : ℕ} (w : RoomAt (ke
   room =
       omega (arith, w .room, length-match (keptMatch s f (w .item)), length-strsOf 0 (includesKept f (w .item)), length-strsOf 1 (excludesKept s f (w .item)))
 
+  -- its includes go behind the header's place ..
   pub includes-at : RoomAt (includesNumbers f) mem p (q + 1)
   includes-at = record { item = w .item; held = w .held; below = omega (arith, w .below); room = omega (arith, room) }
 
@@ -224,6 +227,7 @@ module _ (s : Section) (f : Filter) {mem : List ℕ} {p q : ℕ} (w : RoomAt (ke
     unfolding includes-at
     includes-put = ls includes-at
 
+    -- .. its excludes behind them ..
     pub excludes-at : RoomAt (excludesNumbers s f) mem₁ p middle
     excludes-at =
         let v = includes-put in
@@ -252,6 +256,7 @@ module _ (s : Section) (f : Filter) {mem : List ℕ} {p q : ℕ} (w : RoomAt (ke
           omega (arith, includes-many, excludes-many, w .held .few, length-includes f (w .item), length-keep (staysOf s f (w .item .includes)) (w .item .excludes)) in
           omega (arith, includes-put .next-is, excludes-put .next-is, length-put includes-put, length-put excludes-put, room)
 
+      -- .. and the header in front
       pub put-whole : {header : ℕ} → header ≡ headerOf ((middle - (q + 1)) / 2) ((end - middle) / 2)
           → Put mem (set mem₂ q header) q (keptNumbers s f (w .item)) end
       put-whole h = put-match (keptMatch s f (w .item)) (put-append includes-put excludes-put) (h ∙ ap₂ headerOf includes-many excludes-many)
@@ -264,6 +269,7 @@ module _ (s : Section) (f : Filter) {mem : List ℕ} {p q : ℕ} (w : OneAt (kep
   tested : keepsOf s f (w .item .includes) ≡ test
   tested = sym (t ∙ ap (keepsOf s f) (includes-read (w .one .held) (p + 1) (p + 1 + 2 * n) refl (omega arith)))
 
+  -- a match that is dropped, and one that is kept
   pub put-nothing : test ≡ false → Put mem mem q (matchesNumbers (keptOf s f (w .item))) q
   unfolding keptOf
   put-nothing h = put-dropped (keptMatch s f (w .item)) mem q (tested ∙ h)

@@ -1,5 +1,6 @@
 -- The nine filters that keep a match or drop it, all but window, by three functions: the test on a match's includes, the test that an exclude stays by,
 -- and what becomes of the includes. Of window the three say nothing: it is never asked for here.
+use Prim.Native.Nat.{ℕ}
 use mathlib.Core.Bool.{Bool, true, false, _&&_, cond}
 use mathlib.Core.List.{List}
 use lib.Dec.{leb}
@@ -10,7 +11,6 @@ use Rattle.model.specs.Lists.{allOf, keep, allPairs, neighbours, sort, fromTo}
 use Rattle.model.specs.Matches.{Str, Match}
 use Rattle.model.specs.Rules.{covered, keptIf, agree, join, notAfter, distanceOf, within, inUnitOf, hasUnits, apart}
 use Rattle.model.specs.Section.{Section}
-use Prim.Native.Nat.{ℕ}
 
 -- "at least two includes, all units nonzero, and no two includes' unit ranges overlapping"
 unfoldable pub allDiffer : (ℕ → ℕ) → List Str → Bool

@@ -1,6 +1,15 @@
-// Whether a filter keeps a match, by its includes, and which of its excludes then stay.
+// Whether a filter keeps a match, by its includes, and which of its excludes then stay. Window is never asked for here.
+use super::paragraphs;
+use super::sentences;
+use lent::number_at;
 use model::Filter;
 use model::Position;
+use strings::covering::covered;
+use strings::covering::run_covered;
+use strings::distances::in_distance;
+use strings::distances::sorted_within;
+use strings::ordering::agrees_with_all;
+use strings::ordering::all_agree;
 ghost use mathlib.Core.Path.{_≡_};
 ghost use mathlib.Core.Bool.{_&&_};
 ghost use lib.Dec.{leb};
@@ -13,10 +22,10 @@ ghost use Rattle.filters.specs.Keeping.{joinsOf, keepsOf, staysOf};
 fn at_position(section: &[u32], includes: &[u32], p: Position) -> bool
     ensures { λ r. ⌜ r ≡ (leb 1 (size (now (section .entry))) && covered (strsAt (now (includes .entry))) (p .0)) ⌝ }
 {
-    if lent::number_at(section, 0) < 1 {
+    if number_at(section, 0) < 1 {
         return false;
     }
-    strings::covering::covered(includes, p)
+    covered(includes, p)
 }
 
 // "Kept if .."
@@ -24,25 +33,16 @@ pub fn keeps(section: &[u32], filter: Filter, includes: &[u32]) -> bool
     ensures { λ r. ⌜ r ≡ keepsOf (sectionOf (now (section .entry))) filter (strsAt (now (includes .entry))) ⌝ }
 {
     match filter {
-        Filter::Ordered => strings::ordering::all_agree(includes),
+        Filter::Ordered => all_agree(includes),
         Filter::Window(_) => true,
-        Filter::Distance { least, most } => strings::distances::sorted_within(
-            includes,
-            least,
-            most,
-        ),
-        Filter::SameSentence => super::sentences::all_in_same(section, includes),
-        Filter::SameParagraph => super::paragraphs::all_in_same(section, includes),
-        Filter::DifferentSentence => super::sentences::all_differ(section, includes),
-        Filter::DifferentParagraph => super::paragraphs::all_differ(section, includes),
+        Filter::Distance { least, most } => sorted_within(includes, least, most),
+        Filter::SameSentence => sentences::all_in_same(section, includes),
+        Filter::SameParagraph => paragraphs::all_in_same(section, includes),
+        Filter::DifferentSentence => sentences::all_differ(section, includes),
+        Filter::DifferentParagraph => paragraphs::all_differ(section, includes),
         Filter::AtStart => at_position(section, includes, Position(1)),
-        Filter::AtEnd => at_position(section, includes, Position(lent::number_at(section, 0))),
-        Filter::EntireContent => strings::covering::run_covered(
-            includes,
-            1,
-            lent::number_at(section, 0),
-            true,
-        ),
+        Filter::AtEnd => at_position(section, includes, Position(number_at(section, 0))),
+        Filter::EntireContent => run_covered(includes, 1, number_at(section, 0), true),
     }
 }
 
@@ -51,18 +51,13 @@ pub fn stays(section: &[u32], filter: Filter, includes: &[u32], span: u32, tag: 
     ensures { λ r. ⌜ r ≡ staysOf (sectionOf (now (section .entry))) filter (strsAt (now (includes .entry))) (strOf span tag) ⌝ }
 {
     match filter {
-        Filter::Ordered => strings::ordering::agrees_with_all(span, tag, includes),
+        Filter::Ordered => agrees_with_all(span, tag, includes),
         Filter::Window(_) => true,
-        Filter::Distance { least, most } => strings::distances::in_distance(
-            span,
-            includes,
-            least,
-            most,
-        ),
-        Filter::SameSentence => super::sentences::in_same(section, includes, span),
-        Filter::SameParagraph => super::paragraphs::in_same(section, includes, span),
-        Filter::DifferentSentence => super::sentences::differs(section, includes, span),
-        Filter::DifferentParagraph => super::paragraphs::differs(section, includes, span),
+        Filter::Distance { least, most } => in_distance(span, includes, least, most),
+        Filter::SameSentence => sentences::in_same(section, includes, span),
+        Filter::SameParagraph => paragraphs::in_same(section, includes, span),
+        Filter::DifferentSentence => sentences::differs(section, includes, span),
+        Filter::DifferentParagraph => paragraphs::differs(section, includes, span),
         Filter::AtStart => true,
         Filter::AtEnd => true,
         Filter::EntireContent => true,

@@ -1,5 +1,10 @@
 // What a filter makes of one match, written behind what is written.
+use super::keeping::joins;
+use super::keeping::keeps;
+use super::keeping::stays;
 use model::Filter;
+use strings::joining::join_span;
+use strings::joining::join_tag;
 ghost use mathlib.Core.List.{[], _∷_};
 ghost use Prim.Native.Nat.{_+_, _≤_};
 ghost use lib.ListN.{length};
@@ -29,8 +34,8 @@ fn put_join(mem: &mut [u32], a: usize, e: usize, q: usize) -> usize
     if e - a < 2 {
         return q;
     }
-    let span = strings::joining::join_span(&mem[a..e]);
-    let tag = strings::joining::join_tag(&mem[a..e]);
+    let span = join_span(&mem[a..e]);
+    let tag = join_tag(&mem[a..e]);
     put_string(mem, q, span, tag)
 }
 
@@ -41,7 +46,7 @@ fn put_includes(filter: Filter, mem: &mut [u32], p: usize, q: usize) -> usize
 {
     let a = p + 1;
     let n = 2 * store::includes_in(mem[p]);
-    if super::keeping::joins(filter) {
+    if joins(filter) {
         return put_join(mem, a, a + n, q);
     }
     store::copy_up(mem, a, n, q);
@@ -63,7 +68,7 @@ fn put_exclude(
 {
     let span = mem[k];
     let tag = mem[k + 1];
-    if !super::keeping::stays(section, filter, &mem[a..b], span, tag) {
+    if !stays(section, filter, &mem[a..b], span, tag) {
         return q;
     }
     put_string(mem, q, span, tag)
@@ -106,7 +111,7 @@ pub fn put_filtered(section: &[u32], filter: Filter, mem: &mut [u32], p: usize, 
 {
     let a = p + 1;
     let e = a + 2 * store::includes_in(mem[p]);
-    if !super::keeping::keeps(section, filter, &mem[a..e]) {
+    if !keeps(section, filter, &mem[a..e]) {
         return q;
     }
     put_kept(section, filter, mem, p, q)
