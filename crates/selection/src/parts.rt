@@ -80,7 +80,8 @@ pub fn has_not(selection: &[u32], place: u32) -> bool
     false
 }
 
-fn count_phrase(code: Code) -> u32
+// One for a phrase, none for another code.
+pub fn count_phrase(code: Code) -> u32
     ensures { λ r. ⌜ r ≡ isPhrase code ⌝ }
 {
     match code {

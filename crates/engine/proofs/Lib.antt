@@ -1,0 +1,5 @@
+pub mod StepsLaws
+pub mod CodesLaws
+pub mod WordsLaws
+pub mod RanksLaws
+pub mod BuildingLaws

@@ -1,0 +1,105 @@
+-- The words that wait are the operands just before the next code: a word's code adds its own, and behind every other code none waits. So those of a
+-- phrase are a part of the selection.
+use Prim.Native.Nat.{ℕ, zero, suc, _+_, _-_, _≤_, _<_}
+use native.Mathlib.Omega.{arith}
+use mathlib.Core.Path.{_≡_, refl, sym, ap, ap₂, _∙_, subst}
+use mathlib.Core.Bool.{true, _&&_}
+use mathlib.Core.List.{List, [], _∷_, _++_}
+use lib.Dec.{eqb, leb}
+use lib.ListN.{length, take, drop, getD, length-append}
+use lib.Seq.{drop-cons}
+use borrow.Author.Tests.{eqb-true, leb-true}
+use Rattle.model.specs.declared.Code.{Code}
+use Rattle.model.specs.declared.Code.the-variants.{Word, Phrase, Combine, Not, Filter as Filtered}
+use Rattle.model.specs.declared.Filter.the-variants.{Window}
+use Rattle.model.specs.Accepted.{AcceptedSelection}
+use Rattle.model.specs.Checks.{operandFits}
+use Rattle.model.specs.Limits.{maxWindow}
+use Rattle.model.specs.Parts.{stateAt}
+use Rattle.model.specs.Section.{size}
+use Rattle.model.specs.Selection.{codeAt, kindAt, operandAt, kindOf, operandOf}
+use Rattle.model.specs.Trees.{State, read}
+use Rattle.model.specs.Waiting.{fits}
+use Rattle.model.proofs.BuildLaws.{Fits}
+use Rattle.model.proofs.SelectionLaws.{kind-code, operand-code}
+use Rattle.model.proofs.TestsLaws.{both-true}
+use Rattle.selection.specs.Phrases.{phraseWords}
+use Rattle.selection.proofs.Phrases.{the-words}
+use Rattle.store.specs.Layout.{Holds}
+use Rattle.store.proofs.Memory.{holds-both, holds-part}
+use Rattle.window.specs.Inside.{WindowSize}
+
+-- the words before the place c are the operands of the codes just before it
+pub record Loose (sel : List ℕ) (c : ℕ) (ws : List ℕ) : Type 0 where
+  pub from : ℕ
+  pub ends : from + length ws ≡ size sel + c
+  pub above : size sel < from
+  pub held : Holds sel from ws
+
+-- no word waits where so many do
+none-wait : (n p w : ℕ) → (eqb p 0 && leb n w) ≡ true → p ≡ 0
+none-wait n p w e = eqb-true p 0 (both-true (eqb p 0) (leb n w) e .0)
+
+module _ (sel : List ℕ) (a : AcceptedSelection sel) (c : ℕ) (from-one : 1 ≤ c) (up-to : c ≤ size sel) where
+  operand-at : operandOf (codeAt sel c) ≡ operandAt sel c
+  operand-at = operand-code (kindAt sel c) (operandAt sel c) (a .known c from-one up-to) (a .operands c from-one up-to)
+
+  pub window-size : (n : ℕ) → codeAt sel c ≡ Filtered (Window n) → WindowSize n
+  unfolding operandFits
+  window-size n e =
+      let k : 7 ≡ kindAt sel c = ap kindOf (sym e) ∙ kind-code (kindAt sel c) (operandAt sel c) (a .known c from-one up-to) in
+      let o : n ≡ operandAt sel c = ap operandOf (sym e) ∙ operand-at in
+      let f : operandFits 7 n ≡ true = ap₂ operandFits k o ∙ a .operands c from-one up-to in
+      let b = both-true (leb 1 n) (leb n maxWindow) f in
+      record { from-one = leb-true 1 n (b .0); up-to = leb-true n maxWindow (b .1) }
+
+  pub phrase-words : (k : ℕ) (ws : List ℕ) → codeAt sel c ≡ Phrase k → length ws ≡ k → Loose sel c ws → phraseWords sel c ≡ ws
+  phrase-words k ws e l w =
+      let o : k ≡ operandAt sel c = ap operandOf (sym e) ∙ operand-at in
+      let m = size sel in
+      let i : m + c - k ≡ w .from = omega (arith, w .ends) in
+      let n : m + c - w .from ≡ length ws = omega (arith, w .ends) in
+      sym (the-words sel c k m o (omega (arith, w .ends, w .above)) refl (omega (arith, a .sized)))
+      ∙ ap (λ (j : ℕ). take (m + c - j) (drop j sel)) i ∙ holds-part (m + c - w .from) n (w .held)
+
+  -- ---- a code read
+
+  none-behind : (ws : List ℕ) → length ws ≡ 0 → Loose sel (c + 1) ws
+  none-behind [] e =
+      record { from = size sel + (c + 1); ends = omega arith; above = omega arith; held = record { within = omega (arith, a .sized); part = refl } }
+  none-behind (w ∷ ws) e = absurd (omega arith)
+
+  one-behind : (v : ℕ) (ws : List ℕ) → codeAt sel c ≡ Word v → Loose sel c ws → Loose sel (c + 1) (ws ++ v ∷ [])
+  one-behind v ws e w =
+      let i : w .from + length ws ≡ size sel + c = w .ends in
+      let o : getD sel (w .from + length ws) 0 ≡ v = ap (λ (j : ℕ). getD sel j 0) i ∙ sym operand-at ∙ ap operandOf e in
+      let h : w .from + length ws < length sel = omega (arith, a .sized) in
+      let one : Holds sel (w .from + length ws) (v ∷ []) =
+      record { within = omega arith; part = ap (take 1) (drop-cons sel (w .from + length ws) 0 h) ∙ ap (λ (x : ℕ). x ∷ []) o } in
+      record {
+        from = w .from;
+        ends = omega (arith, length-append ws (v ∷ []));
+        above = w .above;
+        held = holds-both ws (v ∷ []) (w .held) one;
+      }
+
+  loose-read : (code : Code) (s : State) → codeAt sel c ≡ code → fits code (length (s .trees)) (length (s .words)) ≡ true → Loose sel c (s .words)
+      → Loose sel (c + 1) (read code s .words)
+  unfolding read
+  loose-read (Word v) s e f w = one-behind v (s .words) e w
+  loose-read (Phrase k) s e f w = none-behind [] refl
+  loose-read (Combine k) s e f w = none-behind (s .words) (none-wait 2 _ (length (s .trees)) f)
+  loose-read Not s e f w = none-behind (s .words) (none-wait 1 _ (length (s .trees)) f)
+  loose-read (Filtered g) s e f w = none-behind (s .words) (none-wait 1 _ (length (s .trees)) f)
+
+module _ (sel : List ℕ) (a : AcceptedSelection sel) (lo rank : ℕ) where
+  pub loose-state : (n : ℕ) → lo + n ≤ size sel → ((i : ℕ) → i < n → Fits (codeAt sel (lo + suc i)) (stateAt (codeAt sel) lo rank i))
+      → Loose sel (lo + suc n) (stateAt (codeAt sel) lo rank n .words)
+  unfolding stateAt
+  loose-state zero h f = record { from = size sel + (lo + 1); ends = omega arith; above = omega arith; held = record { within = omega (arith, a .sized); part = refl } }
+  loose-state (suc n) h f =
+      let before = loose-state n (omega arith) (λ i l. f i (omega arith)) in
+      let s = stateAt (codeAt sel) lo rank n in
+      let next : lo + suc n + 1 ≡ lo + suc (suc n) = omega arith in
+      subst (λ (c : ℕ). Loose sel c (read (codeAt sel (lo + suc n)) s .words)) next
+      (loose-read sel a (lo + suc n) (omega arith) (omega arith) (codeAt sel (lo + suc n)) s refl (f n (omega arith) .here) before)

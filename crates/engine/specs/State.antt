@@ -1,0 +1,63 @@
+-- What a part is built from, and what waits before and behind each of its codes.
+use Prim.Native.Nat.{ℕ, _≤_}
+use mathlib.Core.Bool.{true}
+use mathlib.Core.List.{List, map}
+use mathlib.Core.Option.{some, none}
+use mathlib.Core.Path.{_≡_}
+use lib.ListN.{length}
+use Rattle.model.specs.declared.Code.{Code}
+use Rattle.model.specs.declared.Code.the-variants.{Phrase, Filter as Filtered}
+use Rattle.model.specs.declared.Filter.the-variants.{Window}
+use Rattle.model.specs.Accepted.{AcceptedSection, AcceptedSelection, maxPhrases}
+use Rattle.model.specs.AllMatches.{allMatches}
+use Rattle.model.specs.AllStrings.{Every, RanksUpTo}
+use Rattle.model.specs.Limits.{maxWaiting, workLength}
+use Rattle.model.specs.Parts.{PartAt, newest, partStart, rankAfter}
+use Rattle.model.specs.Section.{Section, sectionOf, size}
+use Rattle.model.specs.Selection.{codeAt}
+use Rattle.model.specs.Trees.{State, Tree, read}
+use Rattle.model.specs.Waiting.{fits}
+use Rattle.model.specs.Walk.{firstTooLong}
+use Rattle.selection.specs.Phrases.{phraseWords}
+use Rattle.store.specs.declared.Built.{Built}
+use Rattle.store.specs.declared.Built.the-variants.{Made, TooLong}
+use Rattle.store.specs.Stack.{Stack}
+use Rattle.window.specs.Inside.{WindowSize}
+
+-- the part of an accepted selection that ends at hi, and memory enough to build it
+pub record Buildable (section selection mem : List ℕ) (lo hi rank : ℕ) : Type 0 where
+  pub in-section : AcceptedSection section
+  pub in-selection : AcceptedSelection selection
+  pub part : PartAt (codeAt selection) hi
+  pub lo-is : lo ≡ partStart (codeAt selection) hi
+  pub rank-is : rank ≡ rankAfter (part .below)
+  pub up-to : hi ≤ size selection
+  pub room : workLength ≤ length mem
+
+-- The lists of the trees that wait lie in memory, so many, and the next code, at the place and with the rank that come next, fits.
+pub record Waits (section selection mem : List ℕ) (code : Code) (s : State) (place rank lists : ℕ) : Type 0 where
+  pub accepted : AcceptedSection section
+  pub stack : Stack mem (map (allMatches (sectionOf section)) (s .trees))
+  pub count : lists ≡ length (s .trees)
+  pub place-is : place ≡ s .place
+  pub rank-is : rank ≡ s .rank
+  pub here : fits code (length (s .trees)) (length (s .words)) ≡ true
+  pub few-trees : length (s .trees) ≤ maxWaiting
+  pub few-words : length (s .words) ≤ maxWaiting
+  pub ranks : Every (RanksUpTo maxPhrases) (read code s .trees)
+  pub words : (k : ℕ) → code ≡ Phrase k → phraseWords selection place ≡ s .words
+  pub window : (n : ℕ) → code ≡ Filtered (Window n) → WindowSize n
+  pub room : workLength ≤ length mem
+
+pub record WaitsAt (section selection mem : List ℕ) (code : Code) (place rank lists : ℕ) : Type 0 where
+  pub state : State
+  pub waits : Waits section selection mem code state place rank lists
+
+-- Behind the code: either the list of the part that it ends is too long, or the lists of the trees that then wait lie in memory.
+pub record Behind (s : Section) (new trees : List Tree) (place : ℕ) (mem : List ℕ) (built : Built) : Type 0 where
+  pub long : built ≡ TooLong → firstTooLong s new ≡ some place
+  pub fine : (m n : ℕ) → built ≡ Made m n → firstTooLong s new ≡ none
+  pub stack : (m n : ℕ) → built ≡ Made m n → Stack mem (map (allMatches s) trees)
+
+abbrev pub BehindCode : Section → Code → State → ℕ → List ℕ → Built → Type 0
+BehindCode s code before place mem built = Behind s (newest code (read code before .trees)) (read code before .trees) place mem built
