@@ -1,0 +1,42 @@
+-- The last two lists that wait are the two slots; the list is built above them all, so that the rest is as it was.
+use Rattle.building.proofs.StepsLaws.{left-slot, right-slot, two-slots, two-unders, two-fresh, two-settled}
+use borrow.Author.Needs.{needs}
+use Rattle.building.proofs.steps.build_mild_not.Statement.{statement}
+use Rattle.building.proofs.steps.build_mild_not.Tie as tie
+
+sub-l : tie.Need-sub-l
+sub-l c = search needs
+
+mul-l : tie.Need-mul-l
+mul-l c = search needs
+
+sub-r : tie.Need-sub-r
+sub-r c = search needs
+
+mul-r : tie.Need-mul-r
+mul-r c = search needs
+
+mild-not-list-requires : tie.Need-mild-not-list-requires
+mild-not-list-requires c κs =
+    let w = c .before .before .pre in
+    let v = two-slots w in
+    (left-slot v, (right-slot v, two-unders w))
+
+settle-requires : tie.Need-settle-requires
+settle-requires c κs =
+    let a = c .before .before .before in
+    two-fresh (a .before .before .before .pre) (λ v. a .mild-not-list .ensures (left-slot v) (right-slot v))
+
+same-length : tie.Need-same-length
+same-length c = search needs
+
+returns : tie.Need-returns
+returns c w =
+    let s = c .before .before in
+    let a = s .before .before .before .before in
+    two-settled w (λ v. a .mild-not-list .ensures (left-slot v) (right-slot v)) (s .settle .ensures)
+
+pub build-mild-not-spec : {M : Type 1} → statement M
+build-mild-not-spec =
+    tie.close
+    (tie.spec sub-l mul-l sub-r mul-r mild-not-list-requires settle-requires same-length returns)

@@ -1,0 +1,64 @@
+// The list of a part of a selection, built code by code in the slots of working memory.
+mod steps; // one code's list, from the lists that wait
+
+use model::Code;
+use store::Built;
+ghost use mathlib.Core.Path.{_≡_};
+ghost use Prim.Native.Nat.{_≤_};
+ghost use Rattle.model.specs.Limits.{maxCodes};
+ghost use Rattle.model.specs.Waiting.{listsBehind};
+ghost use Rattle.model.specs.Section.{sectionOf};
+ghost use Rattle.building.specs.State.{Buildable};
+ghost use Rattle.building.specs.PartList.{PartList};
+
+// What building a part comes to.
+pub enum Part {
+    // its list lies in the first slot
+    Built,
+    // the list of the code at a place, the first such code, has over 256 matches or 512 strings
+    TooLong { place: u32 },
+}
+
+// The lists that wait behind a code.
+fn lists_behind(code: Code, lists: usize) -> usize
+    requires { ⌜ lists ≤ maxCodes ⌝ }
+    ensures { λ r. ⌜ r ≡ listsBehind code lists ⌝ }
+{
+    match code {
+        Code::Word(_) => lists,
+        Code::Phrase(_) => lists + 1,
+        Code::Combine(_) => if 0 < lists { lists - 1 } else { 0 },
+        Code::Not => lists,
+        Code::Filter(_) => lists,
+    }
+}
+
+// "it builds that code's whole part by the rules above, left to right": of the codes behind lo up to hi, the first phrase with the given rank.
+pub fn build(
+    section: &[u32],
+    selection: &[u32],
+    mem: &mut [u32],
+    lo: u32,
+    hi: u32,
+    rank: u32,
+) -> Part
+    requires { ⌜ Buildable (now section) (now selection) (now mem) lo hi rank ⌝ }
+    ensures { λ r.
+        ⌜ ((w : Buildable (now (section .entry)) (now (selection .entry)) (now (mem .entry)) lo hi rank)
+        → PartList (sectionOf (now (section .entry))) (w .part .tree) (now (mem .exit)) r) ⌝ }
+{
+    let mut lists: usize = 0;
+    let mut next = rank;
+    let mut c = lo;
+    while c < hi {
+        c += 1;
+        let code = selection::codes::code_at(selection, c);
+        let built = steps::build_code(section, selection, code, c, next, mem, lists);
+        let Built::Made { .. } = built else {
+            return Part::TooLong { place: c };
+        };
+        lists = lists_behind(code, lists);
+        next += selection::parts::count_phrase(code);
+    }
+    Part::Built
+}
