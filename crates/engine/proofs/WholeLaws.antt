@@ -1,0 +1,58 @@
+-- Where the checks pass, the whole selection is a part that can be built.
+use Prim.Native.Nat.{ℕ, _≤_}
+use native.Mathlib.Omega.{arith}
+use mathlib.Core.Path.{_≡_, refl, sym, ap, ap₂, _∙_}
+use mathlib.Core.List.{List, []}
+use mathlib.Core.Option.{Option, some, none}
+use lib.ListN.{length}
+use Rattle.model.specs.declared.Checked.the-variants.{Refused}
+use Rattle.model.specs.Accepted.{AcceptedSection, AcceptedSelection}
+use Rattle.model.specs.Answers.{checkedOf}
+use Rattle.model.specs.Checks.{Refusal, refusal, inputRefusal, sectionRefusal, selectionRefusal}
+use Rattle.model.specs.Limits.{workLength}
+use Rattle.model.specs.Parts.{spelled, phrasesAll}
+use Rattle.model.specs.Section.{size}
+use Rattle.model.specs.Selection.{codeAt, upTo, codesOf}
+use Rattle.model.specs.Trees.{topTree, readAll, fresh, treeOf}
+use Rattle.model.proofs.ChecksLaws.{otherwise-none, accepted-section, accepted-selection, accepted-part}
+use Rattle.model.proofs.PartsLaws.{part-start, part-read}
+use Rattle.building.specs.State.{Buildable}
+
+-- a refusal of the checks, by its numbers
+pub refused-by : (o : Option Refusal) (number place : ℕ) → checkedOf o ≡ Refused number place → o ≡ some (refusal number place)
+refused-by none number place e = let z : _≡_ {A = ℕ} 0 1 = cc in absurd (omega arith)
+refused-by (some r) number place e =
+    let n : r .number ≡ number = cc in
+    let p : r .place ≡ place = cc in
+    ap₂ (λ (a b : ℕ). some (refusal a b)) n p
+
+module _ (section selection : List ℕ) (passes : inputRefusal section selection ≡ none) where
+  pub section-accepted : AcceptedSection section
+  unfolding inputRefusal
+  section-accepted = accepted-section section (otherwise-none (sectionRefusal section) (selectionRefusal selection) passes .0)
+
+  pub selection-accepted : AcceptedSelection selection
+  unfolding inputRefusal
+  selection-accepted = accepted-selection selection (otherwise-none (sectionRefusal section) (selectionRefusal selection) passes .1)
+
+  -- nothing stands below the whole: it starts before the first code, and its first phrase has rank 1
+  unfoldable pub whole : (mem : List ℕ) → workLength ≤ length mem → Buildable section selection mem 0 (size selection) 1
+  unfolding accepted-part spelled phrasesAll
+  whole mem room =
+      let part = accepted-part selection selection-accepted in
+      record {
+        in-section = section-accepted;
+        in-selection = selection-accepted;
+        part = part;
+        lo-is = sym (part-start (codeAt selection) [] (treeOf selection) (size selection) (part .spells));
+        rank-is = refl;
+        up-to = omega arith;
+        room = room;
+      }
+
+-- the part that ends at the last code is the whole: its tree is the selection's
+pub whole-tree : {section selection mem : List ℕ} {lo hi rank : ℕ} (w : Buildable section selection mem lo hi rank) → hi ≡ size selection
+    → w .part .tree ≡ treeOf selection
+unfolding treeOf codesOf
+whole-tree {section} {selection} {mem} {lo} {hi} {rank} w e =
+    sym (part-read (codeAt selection) hi (w .part)) ∙ ap (λ (k : ℕ). topTree (readAll (upTo (codeAt selection) k) (fresh 1 1) .trees)) e

@@ -1,0 +1,60 @@
+// The engine's calls. None has a requires: any slices of any lengths may come in, and each gets a result or one refusal.
+use building::Part;
+use model::Checked;
+use model::Listing;
+ghost use mathlib.Core.Path.{_≡_};
+ghost use Prim.Native.Nat.{ℕ, _≤_};
+ghost use lib.ListN.{length};
+ghost use lib.Seq.{sets};
+ghost use Rattle.model.specs.Answers.{listed as listedOf, listingAnswer, listingBuffer, listingNumbers};
+ghost use Rattle.model.specs.Limits.{bufferLength};
+ghost use Rattle.model.specs.declared.Checked.the-variants.{Refused as CheckedRefused};
+ghost use Rattle.model.specs.declared.Listing.the-variants.{Refused as ListingRefused};
+ghost use Rattle.store.specs.Slot.{SlotAt};
+
+// A refusal of the checks, passed up.
+fn refused(checked: Checked) -> Listing
+    ensures { λ r. ⌜ ((number place : ℕ) → checked ≡ CheckedRefused number place → r ≡ ListingRefused number place) ⌝ }
+{
+    match checked {
+        Checked::Accepted => Listing::Refused {
+            number: 0,
+            place: 0,
+        },
+        Checked::Refused { number, place } => Listing::Refused { number, place },
+    }
+}
+
+// The list in the first slot, put in the buffer and answered for.
+fn listed(work: &[u32], buffer: &mut [u32]) -> Listing
+    requires { ⌜ SlotAt (now work) 0 ⌝ }
+    requires { ⌜ bufferLength ≤ length (now buffer) ⌝ }
+    ensures { λ r. ⌜ ((w : SlotAt (now (work .entry)) 0) → r ≡ listedOf (w .list)) ⌝ }
+    ensures { λ _. ⌜ ((w : SlotAt (now (work .entry)) 0) → now (buffer .exit) ≡ sets (now (buffer .entry)) 0 (listingNumbers (w .list))) ⌝ }
+{
+    output::put_listing(work, 0, buffer);
+    let yes = output::is_yes(work, 0);
+    Listing::Listed {
+        matches: work[0],
+        strings: work[1],
+        yes,
+    }
+}
+
+// The full listing: "It answers M, S and yes or no, or a refusal with its place. The buffer then holds M, S, the M string counts, then two parallel
+// arrays of S". Working memory may end holding anything.
+pub fn listing(section: &[u32], selection: &[u32], work: &mut [u32], buffer: &mut [u32]) -> Listing
+    ensures { λ r. ⌜ r ≡ listingAnswer (now (section .entry)) (now (selection .entry)) (length (now (work .entry))) (length (now (buffer .entry))) ⌝ }
+    ensures { λ _. ⌜ now (buffer .exit) ≡ listingBuffer (now (section .entry)) (now (selection .entry)) (length (now (work .entry))) (now (buffer .entry)) ⌝ }
+{
+    let checked = checks::check_listing(section, selection, work.len(), buffer.len());
+    let Checked::Accepted = checked else {
+        return refused(checked);
+    };
+    let codes = lent::number_at(selection, 0);
+    let part = building::build(section, selection, work, 0, codes, 1);
+    if let Part::TooLong { place } = part {
+        return Listing::Refused { number: 9, place };
+    }
+    listed(work, buffer)
+}
