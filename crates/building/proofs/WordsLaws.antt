@@ -69,7 +69,7 @@ module _ (sel : List ℕ) (a : AcceptedSelection sel) (c : ℕ) (from-one : 1 �
       record { from = size sel + (c + 1); ends = omega arith; above = omega arith; held = record { within = omega (arith, a .sized); part = refl } }
   none-behind (w ∷ ws) e = absurd (omega arith)
 
-  one-behind : (v : ℕ) (ws : List ℕ) → codeAt sel c ≡ Word v → Loose sel c ws → Loose sel (c + 1) (ws ++ v ∷ [])
+  pub one-behind : (v : ℕ) (ws : List ℕ) → codeAt sel c ≡ Word v → Loose sel c ws → Loose sel (c + 1) (ws ++ v ∷ [])
   one-behind v ws e w =
       let i : w .from + length ws ≡ size sel + c = w .ends in
       let o : getD sel (w .from + length ws) 0 ≡ v = ap (λ (j : ℕ). getD sel j 0) i ∙ sym operand-at ∙ ap operandOf e in

@@ -32,7 +32,7 @@ use Rattle.building.specs.State.{Buildable}
 use Rattle.building.specs.PartList.{PartList}
 use Rattle.building.specs.declared.Part.{Part}
 use Rattle.building.specs.declared.Part.the-variants.{Built, TooLong}
-use Rattle.engine.proofs.WholeLaws.{refused-by, whole, whole-tree}
+use Rattle.engine.proofs.WholeLaws.{refused-by, whole-built, whole-tree}
 
 -- the numbers of a list in the first slot, and its answer
 pub listed-held : {mem : List ℕ} {ms : List Match} {answer : Bool} → SlotHolds mem 0 ms → answer ≡ isYes ms → Listed (getD mem 0 0) (getD mem 1 0) answer ≡ listed ms
@@ -81,7 +81,7 @@ module _ (section selection : List ℕ) (work : ℕ) (buffer : List ℕ) where
 
     -- so the whole can be built
     pub ready : {hi : ℕ} (mem : List ℕ) → hi ≡ size selection → length mem ≡ work → Buildable section selection mem 0 hi 1
-    ready mem e long = rw e (whole section selection (passes .0 .checks) mem (omega (arith, passes .0 .enough, long)))
+    ready mem e long = rw e (whole-built section selection (passes .0 .checks) mem (omega (arith, passes .0 .enough, long)))
 
     -- and the first list too long decides
     module _ {mem mem' : List ℕ} {hi : ℕ} {part : Part} (e : hi ≡ size selection) (w : Buildable section selection mem 0 hi 1)
@@ -90,7 +90,7 @@ module _ (section selection : List ℕ) (work : ℕ) (buffer : List ℕ) where
           → listingRefusal section selection work (length buffer) ≡ Option·map (refusal 9) long
       refusal-is e' =
           listingRefusal-passes section selection work (length buffer) (passes .0) (passes .1)
-          ∙ ap (λ (t : Tree). Option·map (refusal 9) (firstTooLong (sectionOf section) (parts t))) (sym (whole-tree w e))
+          ∙ ap (λ (t : Tree). Option·map (refusal 9) (firstTooLong (sectionOf section) (parts t))) (sym (whole-tree selection (w .part) e))
           ∙ ap (Option·map (refusal 9)) e'
 
       pub long-refuses : {place : ℕ} → part ≡ TooLong place
@@ -98,7 +98,7 @@ module _ (section selection : List ℕ) (work : ℕ) (buffer : List ℕ) where
       long-refuses {place} t = refuses 9 place (refusal-is (built .long place t))
 
       pub slot : part ≡ Built → SlotHolds mem' 0 (completeList section selection)
-      slot t = subst (λ (u : Tree). SlotHolds mem' 0 (allMatches (sectionOf section) u)) (whole-tree w e) (built .slot t)
+      slot t = subst (λ (u : Tree). SlotHolds mem' 0 (allMatches (sectionOf section) u)) (whole-tree selection (w .part) e) (built .slot t)
 
       pub built-lists : {answer : Listing} {buffer' : List ℕ} → part ≡ Built
           → ((s : SlotAt mem' 0) → answer ≡ listed (s .list))

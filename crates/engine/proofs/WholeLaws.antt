@@ -1,4 +1,4 @@
--- Where the checks pass, the whole selection is a part that can be built.
+-- Where the checks pass, the whole selection is a part that can be built and walked.
 use Prim.Native.Nat.{ℕ, _≤_}
 use native.Mathlib.Omega.{arith}
 use mathlib.Core.Path.{_≡_, refl, sym, ap, ap₂, _∙_}
@@ -10,13 +10,14 @@ use Rattle.model.specs.Accepted.{AcceptedSection, AcceptedSelection}
 use Rattle.model.specs.Answers.{checkedOf}
 use Rattle.model.specs.Checks.{Refusal, refusal, inputRefusal, sectionRefusal, selectionRefusal}
 use Rattle.model.specs.Limits.{workLength}
-use Rattle.model.specs.Parts.{spelled, phrasesAll}
+use Rattle.model.specs.Parts.{PartAt, spelled, phrasesAll}
 use Rattle.model.specs.Section.{size}
 use Rattle.model.specs.Selection.{codeAt, upTo, codesOf}
 use Rattle.model.specs.Trees.{topTree, readAll, fresh, treeOf}
 use Rattle.model.proofs.ChecksLaws.{otherwise-none, accepted-section, accepted-selection, accepted-part}
 use Rattle.model.proofs.PartsLaws.{part-start, part-read}
 use Rattle.building.specs.State.{Buildable}
+use Rattle.walking.specs.Walkable.{Walkable}
 
 -- a refusal of the checks, by its numbers
 pub refused-by : (o : Option Refusal) (number place : ℕ) → checkedOf o ≡ Refused number place → o ≡ some (refusal number place)
@@ -36,9 +37,9 @@ module _ (section selection : List ℕ) (passes : inputRefusal section selection
   selection-accepted = accepted-selection selection (otherwise-none (sectionRefusal section) (selectionRefusal selection) passes .1)
 
   -- nothing stands below the whole: it starts before the first code, and its first phrase has rank 1
-  unfoldable pub whole : (mem : List ℕ) → workLength ≤ length mem → Buildable section selection mem 0 (size selection) 1
+  pub whole-built : (mem : List ℕ) → workLength ≤ length mem → Buildable section selection mem 0 (size selection) 1
   unfolding accepted-part spelled phrasesAll
-  whole mem room =
+  whole-built mem room =
       let part = accepted-part selection selection-accepted in
       record {
         in-section = section-accepted;
@@ -50,9 +51,18 @@ module _ (section selection : List ℕ) (passes : inputRefusal section selection
         room = room;
       }
 
+  pub whole-walked : (mem : List ℕ) → workLength ≤ length mem → Walkable section selection mem (size selection)
+  whole-walked mem room =
+      record {
+        in-section = section-accepted;
+        in-selection = selection-accepted;
+        part = accepted-part selection selection-accepted;
+        up-to = omega arith;
+        room = room;
+      }
+
 -- the part that ends at the last code is the whole: its tree is the selection's
-pub whole-tree : {section selection mem : List ℕ} {lo hi rank : ℕ} (w : Buildable section selection mem lo hi rank) → hi ≡ size selection
-    → w .part .tree ≡ treeOf selection
+pub whole-tree : (selection : List ℕ) {hi : ℕ} (w : PartAt (codeAt selection) hi) → hi ≡ size selection → w .tree ≡ treeOf selection
 unfolding treeOf codesOf
-whole-tree {section} {selection} {mem} {lo} {hi} {rank} w e =
-    sym (part-read (codeAt selection) hi (w .part)) ∙ ap (λ (k : ℕ). topTree (readAll (upTo (codeAt selection) k) (fresh 1 1) .trees)) e
+whole-tree selection {hi} w e =
+    sym (part-read (codeAt selection) hi w) ∙ ap (λ (k : ℕ). topTree (readAll (upTo (codeAt selection) k) (fresh 1 1) .trees)) e

@@ -2,18 +2,21 @@
 use building::Part;
 use model::Checked;
 use model::Listing;
+use model::Position;
+use model::Quick;
 ghost use mathlib.Core.Path.{_≡_};
 ghost use Prim.Native.Nat.{ℕ, _≤_};
 ghost use lib.ListN.{length};
 ghost use lib.Seq.{sets};
-ghost use Rattle.model.specs.Answers.{listed as listedOf, listingAnswer, listingBuffer, listingNumbers};
+ghost use Rattle.model.specs.Answers.{listed as listedOf, listingAnswer, listingBuffer, listingNumbers, quickAnswer, snippetOf};
 ghost use Rattle.model.specs.Limits.{bufferLength};
 ghost use Rattle.model.specs.declared.Checked.the-variants.{Refused as CheckedRefused};
 ghost use Rattle.model.specs.declared.Listing.the-variants.{Refused as ListingRefused};
+ghost use Rattle.model.specs.declared.Quick.the-variants.{Refused as QuickRefused};
 ghost use Rattle.store.specs.Slot.{SlotAt};
 
-// A refusal of the checks, passed up.
-fn refused(checked: Checked) -> Listing
+// A refusal of the checks, passed up by the full listing.
+fn refused_listing(checked: Checked) -> Listing
     ensures { λ r. ⌜ ((number place : ℕ) → checked ≡ CheckedRefused number place → r ≡ ListingRefused number place) ⌝ }
 {
     match checked {
@@ -49,7 +52,7 @@ pub fn listing(section: &[u32], selection: &[u32], work: &mut [u32], buffer: &mu
 {
     let checked = checks::check_listing(section, selection, work.len(), buffer.len());
     let Checked::Accepted = checked else {
-        return refused(checked);
+        return refused_listing(checked);
     };
     let codes = lent::number_at(selection, 0);
     let part = building::build(section, selection, work, 0, codes, 1);
@@ -57,4 +60,36 @@ pub fn listing(section: &[u32], selection: &[u32], work: &mut [u32], buffer: &mu
         return Listing::Refused { number: 9, place };
     }
     listed(work, buffer)
+}
+
+// A refusal of the checks, passed up by the quick answer.
+fn refused_quick(checked: Checked) -> Quick
+    ensures { λ r. ⌜ ((number place : ℕ) → checked ≡ CheckedRefused number place → r ≡ QuickRefused number place) ⌝ }
+{
+    match checked {
+        Checked::Accepted => Quick::Refused {
+            number: 0,
+            place: 0,
+        },
+        Checked::Refused { number, place } => Quick::Refused { number, place },
+    }
+}
+
+// The quick answer: "It reports how many codes of kind 1 to 15 it walked or built." Working memory may end holding anything.
+pub fn quick(section: &[u32], selection: &[u32], work: &mut [u32]) -> Quick
+    ensures { λ r. ⌜ r ≡ quickAnswer (now (section .entry)) (now (selection .entry)) (length (now (work .entry))) ⌝ }
+{
+    let checked = checks::check_quick(section, selection, work.len());
+    let Checked::Accepted = checked else {
+        return refused_quick(checked);
+    };
+    let codes = lent::number_at(selection, 0);
+    walking::walk(section, selection, work, codes)
+}
+
+// The snippet: "the word numbers of those positions, as a part of the lent section".
+pub fn snippet(section: &[u32], from: Position, to: Position) -> &[u32]
+    ensures { λ r. ⌜ now r ≡ snippetOf (now (section .entry)) (from .0) (to .0) ⌝ }
+{
+    section::snippet(section, from, to)
 }

@@ -15,14 +15,14 @@ enum-told c = search needs
 enum-told-2 : tie.Need-enum-told-2
 enum-told-2 c = search needs
 
-refused-requires : tie.Need-refused-requires
-refused-requires c κs = search needs
+refused-listing-requires : tie.Need-refused-listing-requires
+refused-listing-requires c κs = search needs
 
 returns : tie.Need-returns
 returns c = let k = c .before .before .before in
     let a = k .before .before .before .before .before .args in
     let e = c .before .enum-told2 .given .1 in
-    checks-refuse (a .section .now) (a .selection .now) (length (a .work .now)) (a .buffer .now) (k .check-listing .ensures) e (c .refused .ensures _ _ e)
+    checks-refuse (a .section .now) (a .selection .now) (length (a .work .now)) (a .buffer .now) (k .check-listing .ensures) e (c .refused-listing .ensures _ _ e)
 
 number-at-requires : tie.Need-number-at-requires
 number-at-requires c κs = search needs
@@ -85,7 +85,7 @@ listing-spec =
     check-listing-requires
     enum-told
     enum-told-2
-    refused-requires
+    refused-listing-requires
     returns
     number-at-requires
     build-requires

@@ -3,8 +3,8 @@ use mathlib.Core.Path.{_≡_}
 use native.Mathlib.Omega.{arith}
 use Prim.Native.Nat.{ℕ}
 use borrow.Author.Needs.{needs}
-use Rattle.engine.proofs.refused.Statement.{statement}
-use Rattle.engine.proofs.refused.Tie as tie
+use Rattle.engine.proofs.refused_listing.Statement.{statement}
+use Rattle.engine.proofs.refused_listing.Tie as tie
 
 enum-told : tie.Need-enum-told
 enum-told c = search needs
@@ -18,5 +18,5 @@ returns c = λ n p e. let z : _≡_ {A = ℕ} 0 1 = cc (c .enum-told .given .1) 
 returns-2 : tie.Need-returns-2
 returns-2 c = λ n p e. cc (c .before .checked .given .1)
 
-pub refused-spec : {M : Type 1} → statement M
-refused-spec = tie.close (tie.spec enum-told enum-known-checked returns returns-2)
+pub refused-listing-spec : {M : Type 1} → statement M
+refused-listing-spec = tie.close (tie.spec enum-told enum-known-checked returns returns-2)

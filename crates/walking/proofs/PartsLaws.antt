@@ -1,0 +1,113 @@
+-- A part that the walk builds: where it starts, its first phrase's rank, its codes; and a phrase's words as the selection has them.
+use Prim.Native.Nat.{ℕ, suc, _+_, _-_, _≤_}
+use native.Mathlib.Omega.{arith}
+use mathlib.Core.Path.{_≡_, refl, sym, ap, _∙_}
+use mathlib.Core.Bool.{Bool}
+use mathlib.Core.List.{List, [], _∷_, _++_, map}
+use lib.ListN.{length}
+use Rattle.model.specs.declared.Code.{Code}
+use Rattle.model.specs.declared.Code.the-variants.{Word, Phrase, Combine, Not, Filter as Filtered}
+use Rattle.model.specs.declared.Quick.the-variants.{Answered, Refused}
+use Rattle.model.specs.AllMatches.{allMatches}
+use Rattle.model.specs.Matches.{isYes}
+use Rattle.model.specs.Parts.{headOf, heads, postfix, phrases, partStart, rankAfter, spelled, phrasesAll}
+use Rattle.model.specs.Section.{sectionOf}
+use Rattle.model.specs.Selection.{codeAt, upTo}
+use Rattle.model.specs.Trees.{Tree, phrase, pair, negation, filter, parts}
+use Rattle.model.specs.Walk.{build}
+use Rattle.model.proofs.BuildLaws.{part-below, part-heads}
+use Rattle.model.proofs.PartsLaws.{start-le}
+use Rattle.model.proofs.SelectionLaws.{length-upTo, upTo-front}
+use Rattle.model.proofs.TreesLaws.{heads-append}
+use Rattle.selection.specs.Phrases.{phrasesIn}
+use Rattle.selection.proofs.Phrases.{isPhrase-le, phrasesIn-append}
+use Rattle.store.specs.Slot.{SlotAt}
+use Rattle.building.specs.State.{Buildable}
+use Rattle.building.specs.PartList.{PartList}
+use Rattle.building.specs.declared.Part.{Part}
+use Rattle.building.specs.declared.Part.the-variants.{Built, TooLong}
+use Rattle.walking.specs.Walkable.{Walkable}
+
+-- ---- heads
+
+-- one code more
+pub heads-more : (at : ℕ → Code) (c base n k : ℕ) (code : Code) → code ≡ at (c + 1) → base + n ≡ heads (upTo at c) → k ≡ headOf code
+    → base + (n + k) ≡ heads (upTo at (c + 1))
+unfolding heads upTo
+heads-more at c base n k code e h i =
+    let one : c + 1 ≡ suc c = omega arith in
+    let last : k ≡ headOf (at (suc c)) = i ∙ ap headOf e ∙ ap (λ (j : ℕ). headOf (at j)) one in
+    sym (ap (λ (j : ℕ). heads (upTo at j)) one ∙ heads-append (upTo at c) (at (suc c) ∷ []) ∙ omega (arith, last, h))
+
+-- ---- phrasesIn
+
+phrases-le : (cs : List Code) → phrasesIn cs ≤ length cs
+unfolding phrasesIn
+phrases-le [] = omega arith
+phrases-le (c ∷ cs) = omega (arith, phrases-le cs, isPhrase-le c)
+
+phrases-words : (ws : List ℕ) → phrasesIn (map Word ws) ≡ 0
+unfolding phrasesIn
+phrases-words [] = refl
+phrases-words (w ∷ ws) = omega (arith, phrases-words ws)
+
+phrases-tree : (t : Tree) → phrasesIn (postfix t) ≡ phrases t
+unfolding postfix phrases phrasesIn
+phrases-tree (phrase c r ws) = omega (arith, phrasesIn-append (map Word ws) (Phrase (length ws) ∷ []), phrases-words ws)
+phrases-tree (pair k c t u) =
+    omega (arith, phrasesIn-append (postfix t ++ postfix u) (Combine k ∷ []), phrasesIn-append (postfix t) (postfix u), phrases-tree t, phrases-tree u)
+phrases-tree (negation c t) = omega (arith, phrasesIn-append (postfix t) (Not ∷ []), phrases-tree t)
+phrases-tree (filter f c t) = omega (arith, phrasesIn-append (postfix t) (Filtered f ∷ []), phrases-tree t)
+
+phrases-spelled : (ts : List Tree) → phrasesIn (spelled ts) ≡ phrasesAll ts
+unfolding spelled phrasesAll phrasesIn
+phrases-spelled [] = refl
+phrases-spelled (t ∷ ts) = omega (arith, phrasesIn-append (spelled ts) (postfix t), phrases-tree t, phrases-spelled ts)
+
+-- ---- a part to build
+
+module _ {section sel mem : List ℕ} {hi : ℕ} (w : Walkable section sel mem hi) where
+  pub starts-before : partStart (codeAt sel) hi ≤ hi
+  starts-before = start-le (codeAt sel) hi
+
+  -- the phrases before it
+  pub rank-few : phrasesIn (upTo (codeAt sel) (partStart (codeAt sel) hi)) ≤ hi
+  rank-few =
+      let lo = partStart (codeAt sel) hi in
+      omega (arith, phrases-le (upTo (codeAt sel) lo), length-upTo (codeAt sel) lo, starts-before)
+
+  pub rank-is : phrasesIn (upTo (codeAt sel) (partStart (codeAt sel) hi)) + 1 ≡ rankAfter (w .part .below)
+  unfolding spelled
+  rank-is =
+      let lo = partStart (codeAt sel) hi in
+      let front : upTo (codeAt sel) lo ≡ spelled (w .part .below) =
+      ap (upTo (codeAt sel)) (part-below (codeAt sel) hi lo (w .part) refl) ∙ upTo-front (codeAt sel) hi (spelled (w .part .below)) (postfix (w .part .tree)) (w .part .spells) in
+      omega (arith, ap phrasesIn front, phrases-spelled (w .part .below))
+
+  abbrev pub buildable : {lo rank : ℕ} → lo ≡ partStart (codeAt sel) hi → rank ≡ phrasesIn (upTo (codeAt sel) lo) → Buildable section sel mem lo hi (rank + 1)
+  buildable e r = record {
+    in-section = w .in-section;
+    in-selection = w .in-selection;
+    part = w .part;
+    lo-is = e;
+    rank-is = ap (λ (k : ℕ). k + 1) (r ∙ ap (λ (l : ℕ). phrasesIn (upTo (codeAt sel) l)) e) ∙ rank-is;
+    up-to = w .up-to;
+    room = w .room;
+  }
+
+  -- its list is too long, or answers
+  pub build-long : {mem' : List ℕ} {part : Part} {place : ℕ} → PartList (sectionOf section) (w .part .tree) mem' part → part ≡ TooLong place
+      → Refused 9 place ≡ build (sectionOf section) (w .part .tree)
+  unfolding build
+  build-long {mem'} {part} {place} b e = rw (b .long place e)
+
+  pub build-answers : {mem' : List ℕ} {part : Part} {lo n : ℕ} {answer : Bool} → PartList (sectionOf section) (w .part .tree) mem' part → part ≡ Built
+      → lo ≡ partStart (codeAt sel) hi
+      → ((s : SlotAt mem' 0) → answer ≡ isYes (s .list))
+      → heads (upTo (codeAt sel) lo) + n ≡ heads (upTo (codeAt sel) hi)
+      → Answered answer n ≡ build (sectionOf section) (w .part .tree)
+  unfolding build
+  build-answers {mem'} {part} {lo} {n} {answer} b e l y h =
+      let list = allMatches (sectionOf section) (w .part .tree) in
+      let all : n ≡ length (parts (w .part .tree)) = omega (arith, part-heads (codeAt sel) hi lo (w .part) l) in
+      rw (b .fine e, y (record { list = list; slot = b .slot e }), all)
