@@ -18,7 +18,8 @@ use Rattle.store.specs.Built.{Small}
 use Rattle.store.specs.Slot.{SlotHolds}
 use Rattle.store.proofs.EachLaws.{flatMap-small}
 use Rattle.store.proofs.Slots.{slot-small}
-use Rattle.filters.specs.Keeping.{allDiffer, keepsOf, staysOf, joinsOf, includesKept, keptOf}
+use Rattle.units.specs.Units.{allDiffer}
+use Rattle.filters.specs.Keeping.{keepsOf, staysOf, joinsOf, includesKept, keptOf}
 
 -- what a filter gives of a match, and of a list
 pub filter-kept : (s : Section) (f : Filter) → (filterKind f ≡ 7 → ⊥) → (m : Match) → filterMatch s f m ≡ keptOf s f m

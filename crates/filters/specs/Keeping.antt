@@ -1,24 +1,15 @@
 -- The nine filters that keep a match or drop it, all but window, by three functions: the test on a match's includes, the test that an exclude stays by,
 -- and what becomes of the includes. Of window the three say nothing: it is never asked for here.
-use Prim.Native.Nat.{ℕ}
 use mathlib.Core.Bool.{Bool, true, false, _&&_, cond}
 use mathlib.Core.List.{List}
 use lib.Dec.{leb}
-use lib.ListN.{length}
 use Rattle.model.specs.declared.Filter.{Filter}
 use Rattle.model.specs.declared.Filter.the-variants.{Ordered, Window, Distance, SameSentence, SameParagraph, DifferentSentence, DifferentParagraph, AtStart, AtEnd, EntireContent}
 use Rattle.model.specs.Lists.{allOf, keep, allPairs, neighbours, sort, fromTo}
 use Rattle.model.specs.Matches.{Str, Match}
-use Rattle.model.specs.Rules.{covered, keptIf, agree, join, notAfter, distanceOf, within, inUnitOf, hasUnits, apart}
+use Rattle.model.specs.Rules.{covered, keptIf, agree, join, notAfter, distanceOf, within, inUnitOf}
 use Rattle.model.specs.Section.{Section}
-
--- "at least two includes, all units nonzero, and no two includes' unit ranges overlapping"
-unfoldable pub allDiffer : (ℕ → ℕ) → List Str → Bool
-allDiffer unit is = leb 2 (length is) && allOf (hasUnits unit) is && allPairs (apart unit) is
-
--- "its units are nonzero and overlap no include's"
-abbrev pub differs : (ℕ → ℕ) → List Str → Str → Bool
-differs unit is e = hasUnits unit e && allOf (apart unit e) is
+use Rattle.units.specs.Units.{allDiffer, differs}
 
 -- "Kept if .."
 abbrev pub keepsOf : Section → Filter → List Str → Bool

@@ -1,6 +1,4 @@
 // Whether a filter keeps a match, by its includes, and which of its excludes then stay. Window is never asked for here.
-use super::paragraphs;
-use super::sentences;
 use lent::number_at;
 use model::Filter;
 use model::Position;
@@ -10,6 +8,11 @@ use strings::distances::in_distance;
 use strings::distances::sorted_within;
 use strings::ordering::agrees_with_all;
 use strings::ordering::all_agree;
+use units::Unit;
+use units::different::all_differ;
+use units::different::differs;
+use units::same::all_in_same;
+use units::same::in_same;
 ghost use mathlib.Core.Path.{_≡_};
 ghost use mathlib.Core.Bool.{_&&_};
 ghost use lib.Dec.{leb};
@@ -36,10 +39,10 @@ pub fn keeps(section: &[u32], filter: Filter, includes: &[u32]) -> bool
         Filter::Ordered => all_agree(includes),
         Filter::Window(_) => true,
         Filter::Distance { least, most } => sorted_within(includes, least, most),
-        Filter::SameSentence => sentences::all_in_same(section, includes),
-        Filter::SameParagraph => paragraphs::all_in_same(section, includes),
-        Filter::DifferentSentence => sentences::all_differ(section, includes),
-        Filter::DifferentParagraph => paragraphs::all_differ(section, includes),
+        Filter::SameSentence => all_in_same(section, Unit::Sentence, includes),
+        Filter::SameParagraph => all_in_same(section, Unit::Paragraph, includes),
+        Filter::DifferentSentence => all_differ(section, Unit::Sentence, includes),
+        Filter::DifferentParagraph => all_differ(section, Unit::Paragraph, includes),
         Filter::AtStart => at_position(section, includes, Position(1)),
         Filter::AtEnd => at_position(section, includes, Position(number_at(section, 0))),
         Filter::EntireContent => run_covered(includes, 1, number_at(section, 0), true),
@@ -54,10 +57,10 @@ pub fn stays(section: &[u32], filter: Filter, includes: &[u32], span: u32, tag: 
         Filter::Ordered => agrees_with_all(span, tag, includes),
         Filter::Window(_) => true,
         Filter::Distance { least, most } => in_distance(span, includes, least, most),
-        Filter::SameSentence => sentences::in_same(section, includes, span),
-        Filter::SameParagraph => paragraphs::in_same(section, includes, span),
-        Filter::DifferentSentence => sentences::differs(section, includes, span),
-        Filter::DifferentParagraph => paragraphs::differs(section, includes, span),
+        Filter::SameSentence => in_same(section, Unit::Sentence, includes, span),
+        Filter::SameParagraph => in_same(section, Unit::Paragraph, includes, span),
+        Filter::DifferentSentence => differs(section, Unit::Sentence, includes, span),
+        Filter::DifferentParagraph => differs(section, Unit::Paragraph, includes, span),
         Filter::AtStart => true,
         Filter::AtEnd => true,
         Filter::EntireContent => true,

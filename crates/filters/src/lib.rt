@@ -1,8 +1,6 @@
 // The nine filters that keep a match or drop it: all but window. One loop over a list's matches, one writer, and for each filter a test on the includes
 // and a test that an exclude stays by.
 mod keeping;
-mod paragraphs;
-mod sentences;
 mod writing;
 
 use model::Filter;

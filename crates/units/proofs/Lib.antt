@@ -1,0 +1,2 @@
+-- The laws behind the tests of same and different.
+pub mod UnitsLaws

@@ -1,0 +1,2 @@
+-- The tests of same and different, by unit.
+pub mod Units
