@@ -50,13 +50,10 @@ pub fn counted(left: Quick) -> Quick
     requires { ⌜ codesIn left ≤ maxCodes ⌝ }
     ensures { λ r. ⌜ r ≡ countedOf left ⌝ }
 {
-    match left {
-        Quick::Answered { yes, codes } => Quick::Answered {
-            yes,
-            codes: codes + 1,
-        },
-        Quick::Refused { number, place } => Quick::Refused { number, place },
-    }
+    let Quick::Answered { yes, codes: n } = left else {
+        return left;
+    };
+    Quick::Answered { yes, codes: n + 1 }
 }
 
 // The right side's answer, both sides' codes, and one more.

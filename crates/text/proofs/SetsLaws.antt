@@ -1,0 +1,28 @@
+-- A loop that stores a list element by element: a turn, and the end. And what is stored at the front, read back.
+use Prim.Native.Nat.{ℕ, _+_, _≤_, _<_}
+use native.Mathlib.Omega.{arith}
+use native.Mathlib.Numerals.{add-one}
+use mathlib.Core.Path.{_≡_, sym, ap, ap₂, _∙_}
+use mathlib.Core.List.{List, [], _∷_, _++_}
+use lib.ListN.{length, take, getD, set}
+use lib.Seq.{sets, take-suc, take-all, length-take-le, length-sets}
+use Rattle.store.specs.Layout.{Holds}
+use Rattle.store.proofs.Memory.{sets-append, holds-written}
+
+module _ (b : List ℕ) (at : ℕ) (xs : List ℕ) (i : ℕ) where
+  pub sets-more : i < length xs → set (sets b at (take i xs)) (at + i) (getD xs i 0) ≡ sets b at (take (i + 1) xs)
+  sets-more h =
+      let x = getD xs i 0 in
+      let one : take (i + 1) xs ≡ take i xs ++ x ∷ [] = ap (λ k. take k xs) (add-one i) ∙ take-suc xs i 0 h in
+      let end : at + length (take i xs) ≡ at + i = ap (λ k. at + k) (length-take-le i xs (omega arith)) in
+      sym (ap (sets b at) one ∙ sets-append b at (take i xs) (x ∷ []) ∙ ap (λ k. set (sets b at (take i xs)) k x) end)
+
+  pub sets-all : length xs ≤ i → sets b at (take i xs) ≡ sets b at xs
+  sets-all h = ap (sets b at) (take-all i xs h)
+
+-- what is put at the front of a slice, as the part that the caller takes
+pub take-written : (a xs : List ℕ) {b : List ℕ} (k : ℕ) → b ≡ sets a 0 xs → k ≡ length xs → k ≤ length b → take k b ≡ xs
+take-written a xs {b} k e f h =
+    let n : length b ≡ length a = ap length e ∙ length-sets a 0 xs in
+    let held : Holds (sets a 0 xs) 0 xs = holds-written a 0 xs (omega arith) in
+    ap₂ take f e ∙ held .part
