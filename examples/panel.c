@@ -1,0 +1,59 @@
+/* A panel's calls: the listing of '10 and 20, within a window of 3 words' over document 01's six tokens, the quick answer to 'not 99', and the
+ * snippet of the listing's first match.
+ *
+ *   rt staticlib boundary
+ *   cc -Iinclude examples/panel.c target/staticlib/libboundary.a -o target/panel && target/panel
+ */
+#include <stdio.h>
+
+#include "jullpinay.h"
+
+#define COUNT(array) (sizeof(array) / sizeof((array)[0]))
+
+/* words 10 20 30 10 40 20; sentences 1 1 1 2 2 2; paragraph 1 */
+static const uint32_t section[] = {6, 10, 20, 30, 10, 40, 20, 65537, 65537, 65537, 65538, 65538, 65538};
+/* 10, 20, and, window 3: kinds, then operands */
+static const uint32_t window[] = {6, 0, 1, 0, 1, 3, 7, 10, 1, 20, 1, 0, 3};
+static const uint32_t not_99[] = {3, 0, 1, 4, 99, 1, 0};
+
+static uint32_t work[JULLPINAY_WORK];
+static uint32_t buffer[JULLPINAY_BUFFER];
+
+static void print_listing(const uint32_t answer[4])
+{
+    uint32_t matches = answer[1], strings = answer[2], next = 0;
+    const uint32_t *counts = buffer + 2, *spans = counts + matches, *tags = spans + strings;
+
+    printf("listing: %s, %u matches, %u strings\n", answer[3] ? "yes" : "no", matches, strings);
+    for (uint32_t m = 0; m < matches; m++) {
+        printf(" ");
+        for (uint32_t s = 0; s < counts[m]; s++, next++)
+            printf(" %s %u to %u", tags[next] & 1 ? "not" : "at", spans[next] >> 16, spans[next] & 65535);
+        printf("\n");
+    }
+}
+
+int main(void)
+{
+    uint32_t listed[4], answered[3];
+
+    if (jullpinay_listing(section, COUNT(section), window, COUNT(window), work, COUNT(work), buffer, COUNT(buffer), listed)) {
+        printf("listing: refused %u at %u\n", listed[0], listed[1]);
+        return 1;
+    }
+    print_listing(listed);
+
+    if (jullpinay_quick(section, COUNT(section), not_99, COUNT(not_99), work, COUNT(work), answered))
+        printf("quick: refused %u at %u\n", answered[0], answered[1]);
+    else
+        printf("quick: %s, %u codes\n", answered[1] ? "yes" : "no", answered[2]);
+
+    /* the first string of the listing: its span stands behind M, S and the M counts */
+    uint32_t from = buffer[2 + listed[1]] >> 16, to = buffer[2 + listed[1]] & 65535;
+    size_t words = jullpinay_snippet(section, COUNT(section), from, to);
+    printf("snippet of %u to %u:", from, to);
+    for (size_t i = 0; i < words; i++)
+        printf(" %u", section[from + i]);
+    printf("\n");
+    return 0;
+}

@@ -1,0 +1,34 @@
+/* The engine's three calls. Each has an answer for every slice of every length: a result, or one refusal by number and place.
+ *
+ * A slice is a pointer and a count of numbers. `section`, `selection` and `buffer` are laid out as document 01 says; `work` is free to the call and
+ * may end holding anything. No slice that a call writes may overlap another. Nothing is kept between calls, and nothing else is touched.
+ *
+ * Link with the archive that `rt staticlib boundary` writes, target/staticlib/libboundary.a. */
+#ifndef JULLPINAY_H
+#define JULLPINAY_H
+
+#include <stddef.h>
+#include <stdint.h>
+
+/* "working memory (at least 12,800 u32) and a listing buffer (at least 1,282 u32)" */
+#define JULLPINAY_WORK 12800
+#define JULLPINAY_BUFFER 1282
+
+/* The full listing. Returns 0 and answers {0, matches, strings, yes}, with the listing in the buffer; or returns a refusal's number and answers
+ * {number, place}, with the buffer and the rest of the answer unchanged. */
+uint32_t jullpinay_listing(const uint32_t *section, size_t section_count,
+                           const uint32_t *selection, size_t selection_count,
+                           uint32_t *work, size_t work_count,
+                           uint32_t *buffer, size_t buffer_count,
+                           uint32_t answer[4]);
+
+/* The quick answer. Returns 0 and answers {0, yes, codes walked or built}; or returns a refusal's number and answers {number, place}. */
+uint32_t jullpinay_quick(const uint32_t *section, size_t section_count,
+                         const uint32_t *selection, size_t selection_count,
+                         uint32_t *work, size_t work_count,
+                         uint32_t answer[3]);
+
+/* The snippet of the positions from `from` to `to`: how many words it has. They are section[from], section[from + 1], .. */
+size_t jullpinay_snippet(const uint32_t *section, size_t section_count, uint32_t from, uint32_t to);
+
+#endif
