@@ -1,9 +1,7 @@
 //! Every refusal with an accepted neighbour, and the order in which they are tried.
 
-mod common;
-
-use common::*;
-use second_engine::{engine, Listing, Quick, BUFFER, WORK};
+use super::*;
+use second_engine::{Listing, Quick, BUFFER, WORK};
 
 /// The refusal that both calls give for these inputs, or `None` if both accept them.
 fn refused(section: &[u32], selection: &[u32]) -> Option<(u32, u32)> {
@@ -13,14 +11,14 @@ fn refused(section: &[u32], selection: &[u32]) -> Option<(u32, u32)> {
 fn refused_with(section: &[u32], selection: &[u32], work: usize, buffer: usize) -> Option<(u32, u32)> {
     let before: Vec<u32> = (0..buffer as u32).map(|number| number ^ 0x5555).collect();
     let mut after = before.clone();
-    let listing = match second_engine::listing(section, selection, work, &mut after) {
+    let listing = match listing_in(section, selection, work, &mut after) {
         Listing::Listed { .. } => None,
         Listing::Refused { number, place } => {
             assert_eq!(before, after, "a refusal leaves the buffer unchanged");
             Some((number, place))
         }
     };
-    let quick = match second_engine::quick(section, selection, work) {
+    let quick = match quick_in(section, selection, work) {
         Quick::Answered { .. } => None,
         Quick::Refused { number, place } => Some((number, place)),
     };
@@ -288,21 +286,4 @@ fn nine_in_the_quick_answer() {
     assert_eq!(quick(&many, &word(1).and(word(1).ordered()).numbers()), refused(4));
     // "The walk ends at its first refusal."
     assert_eq!(quick(&many, &word(1).ordered().or(word(2).ordered()).numbers()), refused(2));
-}
-
-/// Sizes far beyond every number: counted, never made.
-#[test]
-fn astronomical() {
-    let many = plain(&[vec![1; 16], vec![2; 16]].concat());
-    let not = word(1).and(word(2)).not();
-    assert_eq!(refused(&many, &not.numbers()), Some((9, 6)));
-    let lists = engine::unlimited_lists(&many, &not.numbers()).unwrap();
-    let last = lists.last().unwrap();
-    assert!(last.list.is_none());
-    assert_eq!(last.size.unwrap().matches, u128::MAX, "2^256 stops at the top");
-    // 2^120 is still exact
-    let some = plain(&[vec![1; 10], vec![2; 12]].concat());
-    let lists = engine::unlimited_lists(&some, &not.numbers()).unwrap();
-    assert_eq!(lists.last().unwrap().size.unwrap().matches, 1 << 120);
-    assert_eq!(lists.last().unwrap().size.unwrap().strings, 120 << 120);
 }

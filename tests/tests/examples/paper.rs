@@ -1,9 +1,7 @@
 //! Every example of document 01, starred or not, with everything the paper says of it.
 
-mod common;
-
-use common::*;
-use second_engine::{quick, snippet, text, unlimited, Listing, Quick, BUFFER, WORK};
+use super::*;
+use second_engine::{unlimited, Listing, Quick, BUFFER, WORK};
 
 /// "* 10: spans 1-1, 4-4."
 #[test]
@@ -91,7 +89,7 @@ fn sixteen_by_sixteen() {
 fn three_hundred() {
     let section = plain(&[7; 300]);
     assert_eq!(listing(&section, &word(7).numbers()), Listing::Refused { number: 9, place: 2 });
-    assert_eq!(quick(&section, &word(7).numbers(), WORK), Quick::Answered { yes: true, codes: 1 });
+    assert_eq!(quick(&section, &word(7).numbers()), Quick::Answered { yes: true, codes: 1 });
     assert_eq!(unlimited(&section, &word(7).numbers()).unwrap().len(), 300);
 }
 
@@ -131,49 +129,10 @@ fn accepted_against_refused() {
 
 /// "For 10 and 20, window 3 (kinds 0 1 0 1 3 7, operands 10 1 20 1 0 3)".
 #[test]
-fn the_program() {
-    let selection = word(10).and(word(20)).window(3).numbers();
-    assert_eq!(selection, [6, 0, 1, 0, 1, 3, 7, 10, 1, 20, 1, 0, 3]);
-    let printed = text::ftlist(&text::bytes(&six_tokens(), &selection));
-    assert_eq!(printed, "yes 4 4\n+1-2 q1 c\n+1-2 q1 c\n+2-4 q1 n\n+4-6 q1 n\n");
-}
-
-/// What the program does with any bytes.
-#[test]
-fn the_program_and_its_bytes() {
-    let bytes = text::bytes(&six_tokens(), &word(10).numbers());
-    assert_eq!(text::ftlist(&bytes), "yes 2 2\n+1-1 q1 c\n+4-4 q1 c\n");
-    // "a count not divisible by 4"
-    assert_eq!(text::ftlist(&[&bytes[..], &[0]].concat()), "refused 1 0\n");
-    assert_eq!(text::ftlist(&bytes[..bytes.len() - 1]), "refused 1 0\n");
-    // one number too few, or too many, is wrong in the selection
-    assert_eq!(text::ftlist(&bytes[..bytes.len() - 4]), "refused 3 0\n");
-    assert_eq!(text::ftlist(&[&bytes[..], &[0; 4]].concat()), "refused 3 0\n");
-    // "(all, if fewer)"
-    assert_eq!(text::ftlist(&bytes[..4 * 12]), "refused 1 0\n");
-    assert_eq!(text::ftlist(&bytes[..4 * 13]), "refused 3 0\n");
-    assert_eq!(text::ftlist(&[]), "refused 1 0\n");
-    assert_eq!(text::ftlist(&[0; 4]), "refused 3 0\n");
-    assert_eq!(text::ftlist(&[0xFF; 4]), "refused 1 0\n");
-    // "Over 65,536 bytes": at that size the section is read, above it isn't
-    let full = |length: usize| {
-        let mut bytes = text::bytes(&[1, 7, 0], &[0]);
-        bytes.resize(length, 0);
-        bytes
-    };
-    assert_eq!(text::ftlist(&full(65_536)), "refused 3 0\n");
-    assert_eq!(text::ftlist(&full(65_540)), "refused 1 0\n");
-    // a whole section of 4,096 tokens and a selection of 64 codes are far below it
-    let codes = (2..64).fold(word(5), |selection, _| selection.not());
-    let largest = text::bytes(&plain(&[5; 4_096]), &codes.numbers());
-    assert_eq!(text::ftlist(&largest), "refused 9 2\n");
-    // "`.` for a match with none"; an empty list
-    assert_eq!(text::ftlist(&text::bytes(&[0], &word(10).not().numbers())), "yes 1 0\n.\n");
-    assert_eq!(text::ftlist(&text::bytes(&[0], &word(10).numbers())), "no 0 0\n");
-    // "strings parted by a blank"
-    let without = word(10).and(word(40).not()).same_sentence().numbers();
-    let printed = text::ftlist(&text::bytes(&six_tokens(), &without));
-    assert_eq!(printed, "yes 2 3\n+1-1 q1 c\n+4-4 q1 c !5-5 q2 c\n");
+fn window_three() {
+    let selection = word(10).and(word(20)).window(3);
+    assert_eq!(selection.numbers(), [6, 0, 1, 0, 1, 3, 7, 10, 1, 20, 1, 0, 3]);
+    assert_eq!(lines(&six_tokens(), &selection), ["yes 4 4", "+1-2 q1 c", "+1-2 q1 c", "+2-4 q1 n", "+4-6 q1 n"]);
 }
 
 /// "The buffer then holds M, S, the M string counts, then two parallel arrays of S ... The rest of it is unchanged."
@@ -181,7 +140,7 @@ fn the_program_and_its_bytes() {
 fn the_buffer() {
     let mut buffer = vec![99; BUFFER + 3];
     let selection = word(10).and(word(40).not()).numbers();
-    let answer = second_engine::listing(&six_tokens(), &selection, WORK, &mut buffer);
+    let answer = listing_in(&six_tokens(), &selection, WORK, &mut buffer);
     assert_eq!(answer, Listing::Listed { matches: 2, strings: 4, yes: false });
     let spans = [65_537, 5 * 65_537, 4 * 65_537, 5 * 65_537];
     let tags = [4 + 2, 8 + 2 + 1, 4 + 2, 8 + 2 + 1];
@@ -193,7 +152,7 @@ fn the_buffer() {
 /// kind 0."
 #[test]
 fn the_count() {
-    let count = |selection: &Selection| match quick(&six_tokens(), &selection.numbers(), WORK) {
+    let count = |selection: &Selection| match quick(&six_tokens(), &selection.numbers()) {
         Quick::Answered { codes, .. } => codes,
         refused => panic!("{refused:?}"),
     };
@@ -227,7 +186,7 @@ fn the_snippet() {
         assert_eq!(snippet(&section, from, to), empty);
     }
     assert_eq!(snippet(&section[..12], 1, 1), empty);
-    assert_eq!(snippet(&common::section(&[1, 2], &[2, 1], &[0, 0]), 1, 1), empty);
+    assert_eq!(snippet(&super::section(&[1, 2], &[2, 1], &[0, 0]), 1, 1), empty);
     assert_eq!(snippet(&[], 1, 1), empty);
     assert_eq!(snippet(&[0], 1, 1), empty);
 }

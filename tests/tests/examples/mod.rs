@@ -1,10 +1,14 @@
-//! Words to write examples with.
+//! Examples for any engine: the test program that has this module says by `crate::engine()` which one is asked.
 
-#![allow(dead_code)]
+mod mistakes;
+mod paper;
+mod published;
+mod refusals;
+mod rules;
 
 use second_engine::section::Section;
 use second_engine::selection::{self, Code};
-use second_engine::{engine, text, unlimited, Listing, Match, Quick, BUFFER, WORK};
+use second_engine::{compare, engine as second, text, unlimited, Case, Engine, Listing, Match, Quick, BUFFER, WORK};
 
 /// A selection in the making: its codes.
 #[derive(Clone, Debug)]
@@ -110,27 +114,50 @@ pub fn six_tokens() -> Vec<u32> {
     section(&[10, 20, 30, 10, 40, 20], &[1, 1, 1, 2, 2, 2], &[1; 6])
 }
 
+/// What lent memory holds before a call.
+const NOISE: u32 = 0xEEEE_EEEE;
+
+/// The engine asked, `crate::engine()`, agrees with the second engine on this call in all things.
+fn agrees(section: &[u32], selection: &[u32], work_len: usize, buffer: &[u32]) {
+    let (section, selection, buffer) = (section.to_vec(), selection.to_vec(), buffer.to_vec());
+    compare(&crate::engine(), &Case { section, selection, work_len, buffer }).unwrap();
+}
+
+pub fn listing_in(section: &[u32], selection: &[u32], work_len: usize, buffer: &mut [u32]) -> Listing {
+    agrees(section, selection, work_len, buffer);
+    crate::engine().listing(section, selection, &mut vec![NOISE; work_len], buffer)
+}
+
 pub fn listing(section: &[u32], selection: &[u32]) -> Listing {
-    second_engine::listing(section, selection, WORK, &mut [0; BUFFER])
+    listing_in(section, selection, WORK, &mut [NOISE; BUFFER])
+}
+
+pub fn quick_in(section: &[u32], selection: &[u32], work_len: usize) -> Quick {
+    crate::engine().quick(section, selection, &mut vec![NOISE; work_len])
 }
 
 pub fn quick(section: &[u32], selection: &[u32]) -> Quick {
-    second_engine::quick(section, selection, WORK)
+    agrees(section, selection, WORK, &[NOISE; BUFFER]);
+    quick_in(section, selection, WORK)
+}
+
+pub fn snippet(section: &[u32], from: u32, to: u32) -> &[u32] {
+    crate::engine().snippet(section, from, to)
 }
 
 /// The list, one line a match, from the listing's own buffer; after looking whether the unlimited list, the program and
 /// the quick answer say the same.
 pub fn lines(section: &[u32], selection: &Selection) -> Vec<String> {
     let selection = selection.numbers();
-    let mut buffer = [0xEEEE_EEEE; BUFFER];
-    let listed = second_engine::listing(section, &selection, WORK, &mut buffer);
+    let mut buffer = [NOISE; BUFFER];
+    let listed = listing_in(section, &selection, WORK, &mut buffer);
     let Listing::Listed { matches, strings, yes } = listed else { panic!("{listed:?}") };
     let list = unlimited(section, &selection).unwrap();
-    let numbers = engine::encode(&list);
+    let numbers = second::encode(&list);
     assert_eq!(buffer[..numbers.len()], numbers);
-    assert!(buffer[numbers.len()..].iter().all(|&number| number == 0xEEEE_EEEE));
+    assert!(buffer[numbers.len()..].iter().all(|&number| number == NOISE));
     assert_eq!(buffer[..2], [matches, strings]);
-    let quick = quick(section, &selection);
+    let quick = quick_in(section, &selection, WORK);
     assert!(matches!(quick, Quick::Answered { yes: answer, .. } if answer == yes), "{quick:?} against {listed:?}");
     let printed = text::ftlist(&text::bytes(section, &selection));
     let mut lines: Vec<String> = decode(&buffer).iter().map(text::line).collect();

@@ -1,8 +1,6 @@
 //! "Mistakes mechanics would meet", each met; and the readings of the open words, each with an example.
 
-mod common;
-
-use common::*;
+use super::*;
 use second_engine::{Listing, Quick};
 
 /// "Dropping a match early because it has an exclude: a filter above may remove the exclude."

@@ -4,14 +4,12 @@
 //! Skipped: those whose `needs` isn't `base`. E11, E12, E76, E79 and E80 need `occurs` (kind 17), and E87 needs a window
 //! in sentences (kind 18): document 01 leaves both aside, and refuses the kinds as unknown, which is tested instead.
 
-mod common;
-
-use common::*;
+use super::*;
 use second_engine::json::{self, Json};
 use second_engine::{Listing, Match};
 
 fn examples() -> Json {
-    json::read(include_str!("../data/published_examples.json")).unwrap()
+    json::read(include_str!("../../data/published_examples.json")).unwrap()
 }
 
 /// The sections of an example: the standard asks a query of several elements at once.

@@ -1,0 +1,72 @@
+//! `bench` prints the table of times; `bench once` runs each case once for `bench/count`; `bench search SECONDS SEED [KIND]...`
+//! looks for the accepted inputs that cost most, some kinds left out.
+
+mod cases;
+mod least;
+mod notation;
+#[path = "../../tests/tests/proved/mod.rs"]
+mod proved;
+mod search;
+mod timing;
+
+use cases::Case;
+use proved::Proved;
+use second_engine::{Engine, Listing, Quick, SecondEngine, BUFFER, WORK};
+use std::hint::black_box;
+
+/// What is lent, kept from call to call and not cleared between them.
+struct Lent {
+    work: Vec<u32>,
+    buffer: Vec<u32>,
+}
+
+impl Lent {
+    fn new() -> Lent {
+        Lent { work: vec![0; WORK], buffer: vec![0; BUFFER] }
+    }
+}
+
+fn listing(engine: &dyn Engine, case: &Case, lent: &mut Lent) -> Listing {
+    engine.listing(black_box(&case.section), black_box(&case.selection), &mut lent.work, &mut lent.buffer)
+}
+
+fn quick(engine: &dyn Engine, case: &Case, lent: &mut Lent) -> Quick {
+    engine.quick(black_box(&case.section), black_box(&case.selection), &mut lent.work)
+}
+
+/// Counted by callgrind: one call, whatever it is.
+#[no_mangle]
+#[inline(never)]
+fn counted(call: &mut dyn FnMut()) {
+    call();
+}
+
+fn once() {
+    let mut lent = Lent::new();
+    let engines: [(&str, &dyn Engine); 2] = [("proved", &Proved), ("second", &SecondEngine::new())];
+    for case in cases::all() {
+        for (name, engine) in engines {
+            counted(&mut || _ = black_box(listing(engine, &case, &mut lent)));
+            println!("{}|{name}|listing", case.name);
+            counted(&mut || _ = black_box(quick(engine, &case, &mut lent)));
+            println!("{}|{name}|quick", case.name);
+        }
+        counted(&mut || _ = black_box(least::least(black_box(&case.section), black_box(9))));
+        println!("{}|least|loop", case.name);
+    }
+}
+
+fn main() {
+    let arguments: Vec<String> = std::env::args().skip(1).collect();
+    let arguments: Vec<&str> = arguments.iter().map(String::as_str).collect();
+    match arguments[..] {
+        [] => timing::table(),
+        ["once"] => once(),
+        ["search", seconds, seed, ref without @ ..] => {
+            let number = |text: &str| text.parse::<u64>().expect("a number");
+            let without: Vec<u32> = without.iter().map(|kind| number(kind) as u32).collect();
+            search::search(number(seconds), number(seed), &without);
+        }
+        _ => panic!("bench, bench once, or bench search SECONDS SEED [KIND LEFT OUT]..."),
+    }
+}

@@ -1,0 +1,95 @@
+// The engine's calls for C and Rust: numbers pass as themselves, a slice as a pointer and a length, and an answer as document 01's own numbers.
+use model::Listing;
+use model::Position;
+use model::Quick;
+ghost use mathlib.Core.Path.{_≡_};
+ghost use lib.ListN.{drop, getD, length, take};
+ghost use lib.Seq.{sets};
+ghost use Rattle.model.specs.Answers.{listingAnswer, listingBuffer, listingValues, quickAnswer, quickValues, snippetOf};
+
+// A listing's answer put down in document 01's numbers. Returned is the first of them: 0, or the refusal's number.
+fn put_listing(listing: Listing, answer: &mut [u32; 4]) -> u32
+    ensures { λ r. ⌜ r ≡ getD (listingValues listing) 0 0 ⌝ }
+    ensures { λ _. ⌜ now (answer .exit) ≡ sets (now (answer .entry)) 0 (listingValues listing) ⌝ }
+{
+    match listing {
+        Listing::Listed {
+            matches,
+            strings,
+            yes,
+        } => {
+            answer[0] = 0;
+            answer[1] = matches;
+            answer[2] = strings;
+            answer[3] = yes as u32;
+            0
+        }
+        Listing::Refused { number, place } => {
+            answer[0] = number;
+            answer[1] = place;
+            number
+        }
+    }
+}
+
+// The full listing. The answer is 0, M, S and 1 for yes or 0 for no; or a refusal's number and place, with the rest of it unchanged.
+#[no_mangle]
+pub extern "C" fn jullpinay_listing(
+    section: &[u32],
+    selection: &[u32],
+    work: &mut [u32],
+    buffer: &mut [u32],
+    answer: &mut [u32; 4],
+) -> u32
+    ensures { λ r. ⌜ r ≡ getD (listingValues (listingAnswer (now (section .entry)) (now (selection .entry)) (length (now (work .entry))) (length (now (buffer .entry))))) 0 0 ⌝ }
+    ensures { λ _. ⌜ now (answer .exit) ≡ sets (now (answer .entry)) 0 (listingValues (listingAnswer (now (section .entry)) (now (selection .entry)) (length (now (work .entry))) (length (now (buffer .entry))))) ⌝ }
+    ensures { λ _. ⌜ now (buffer .exit) ≡ listingBuffer (now (section .entry)) (now (selection .entry)) (length (now (work .entry))) (now (buffer .entry)) ⌝ }
+{
+    let listing = engine::listing(section, selection, work, buffer);
+    put_listing(listing, answer)
+}
+
+// A quick answer put down in document 01's numbers. Returned is the first of them: 0, or the refusal's number.
+fn put_quick(quick: Quick, answer: &mut [u32; 3]) -> u32
+    ensures { λ r. ⌜ r ≡ getD (quickValues quick) 0 0 ⌝ }
+    ensures { λ _. ⌜ now (answer .exit) ≡ sets (now (answer .entry)) 0 (quickValues quick) ⌝ }
+{
+    match quick {
+        Quick::Answered { yes, codes } => {
+            answer[0] = 0;
+            answer[1] = yes as u32;
+            answer[2] = codes;
+            0
+        }
+        Quick::Refused { number, place } => {
+            answer[0] = number;
+            answer[1] = place;
+            number
+        }
+    }
+}
+
+// The quick answer. The answer is 0, 1 for yes or 0 for no, and the count of codes; or a refusal's number and place, with the rest of it unchanged.
+#[no_mangle]
+pub extern "C" fn jullpinay_quick(
+    section: &[u32],
+    selection: &[u32],
+    work: &mut [u32],
+    answer: &mut [u32; 3],
+) -> u32
+    ensures { λ r. ⌜ r ≡ getD (quickValues (quickAnswer (now (section .entry)) (now (selection .entry)) (length (now (work .entry))))) 0 0 ⌝ }
+    ensures { λ _. ⌜ now (answer .exit) ≡ sets (now (answer .entry)) 0 (quickValues (quickAnswer (now (section .entry)) (now (selection .entry)) (length (now (work .entry))))) ⌝ }
+{
+    let quick = engine::quick(section, selection, work);
+    put_quick(quick, answer)
+}
+
+// The snippet's length. It stands in the section from the index `from` on.
+#[no_mangle]
+pub extern "C" fn jullpinay_snippet(section: &[u32], from: u32, to: u32) -> usize
+    ensures { λ r. ⌜ r ≡ length (snippetOf (now (section .entry)) from to) ⌝ }
+    ensures { λ r. ⌜ take r (drop from (now (section .entry))) ≡ snippetOf (now (section .entry)) from to ⌝ }
+{
+    let part = engine::snippet(section, Position(from), Position(to));
+    part.len()
+}

@@ -1,0 +1,28 @@
+//! The proved engine beside the second one: every example, and random cases.
+//!
+//! `rt staticlib boundary` builds the library that this is linked with. A case that fails is printed as a test, to be
+//! pasted in here.
+
+mod examples;
+mod proved;
+
+use proved::Proved;
+use second_engine::{hunt, Engine};
+use std::time::Instant;
+
+fn engine() -> impl Engine {
+    Proved
+}
+
+/// 100,000 cases in release, fewer without optimisation; or as the environment says: `CASES=1000000 SEED=7 cargo test ...`.
+#[test]
+fn random_cases() {
+    let number = |variable: &str| std::env::var(variable).ok().and_then(|text| text.parse().ok());
+    let count = number("CASES").unwrap_or(if cfg!(debug_assertions) { 5_000 } else { 100_000 });
+    let seed = number("SEED").unwrap_or(1);
+    let begun = Instant::now();
+    if let Err(wrong) = hunt(&engine(), seed, count as usize) {
+        panic!("{wrong}");
+    }
+    println!("seed {seed}: {count} cases agree, {:?}", begun.elapsed());
+}

@@ -1,0 +1,125 @@
+//! The proved engine, by the exported functions of `crates/boundary`.
+
+use second_engine::{Engine, Listing, Quick};
+
+#[cfg(not_built)]
+compile_error!("target/staticlib/libboundary.a is not there: build it by `rt staticlib boundary`");
+
+mod exported {
+    // Nothing holds these declarations to crates/boundary/src/lib.rt: keep them alike. A slice is a pointer and a length.
+    #[link(name = "boundary", kind = "static")]
+    extern "C" {
+        pub fn jullpinay_listing(
+            section: *const u32,
+            section_len: usize,
+            selection: *const u32,
+            selection_len: usize,
+            work: *mut u32,
+            work_len: usize,
+            buffer: *mut u32,
+            buffer_len: usize,
+            answer: *mut [u32; 4],
+        ) -> u32;
+
+        pub fn jullpinay_quick(
+            section: *const u32,
+            section_len: usize,
+            selection: *const u32,
+            selection_len: usize,
+            work: *mut u32,
+            work_len: usize,
+            answer: *mut [u32; 3],
+        ) -> u32;
+
+        pub fn jullpinay_snippet(section: *const u32, section_len: usize, from: u32, to: u32) -> usize;
+    }
+}
+
+/// What an answer holds before a call: no number of it may be left where an answer writes.
+const UNWRITTEN: u32 = 0xDEAD_BEEF;
+
+/// The full listing: what is returned, and the answer's four numbers.
+pub fn listing(section: &[u32], selection: &[u32], work: &mut [u32], buffer: &mut [u32]) -> (u32, [u32; 4]) {
+    let mut answer = [UNWRITTEN; 4];
+    // SAFETY: the function takes any four slices and reads and writes within them alone; none of them overlap.
+    let returned = unsafe {
+        exported::jullpinay_listing(
+            section.as_ptr(),
+            section.len(),
+            selection.as_ptr(),
+            selection.len(),
+            work.as_mut_ptr(),
+            work.len(),
+            buffer.as_mut_ptr(),
+            buffer.len(),
+            &mut answer,
+        )
+    };
+    (returned, answer)
+}
+
+/// The quick answer: what is returned, and the answer's three numbers.
+pub fn quick(section: &[u32], selection: &[u32], work: &mut [u32]) -> (u32, [u32; 3]) {
+    let mut answer = [UNWRITTEN; 3];
+    // SAFETY: as above.
+    let returned = unsafe {
+        exported::jullpinay_quick(
+            section.as_ptr(),
+            section.len(),
+            selection.as_ptr(),
+            selection.len(),
+            work.as_mut_ptr(),
+            work.len(),
+            &mut answer,
+        )
+    };
+    (returned, answer)
+}
+
+/// The snippet, a part of the section.
+pub fn snippet(section: &[u32], from: u32, to: u32) -> &[u32] {
+    // SAFETY: the function takes any slice, and reads within it alone.
+    let length = unsafe { exported::jullpinay_snippet(section.as_ptr(), section.len(), from, to) };
+    if length == 0 {
+        return &section[..0];
+    }
+    &section[from as usize..][..length]
+}
+
+pub struct Proved;
+
+impl Engine for Proved {
+    fn listing(&self, section: &[u32], selection: &[u32], work: &mut [u32], buffer: &mut [u32]) -> Listing {
+        let (returned, answer) = listing(section, selection, work, buffer);
+        assert_eq!(returned, answer[0]);
+        match answer {
+            [0, matches, strings, yes] => {
+                assert!(yes <= 1);
+                Listing::Listed { matches, strings, yes: yes == 1 }
+            }
+            [number, place, rest @ ..] => {
+                assert_eq!(rest, [UNWRITTEN; 2], "a refusal leaves the rest of the answer unchanged");
+                Listing::Refused { number, place }
+            }
+        }
+    }
+
+    fn quick(&self, section: &[u32], selection: &[u32], work: &mut [u32]) -> Quick {
+        let (returned, answer) = quick(section, selection, work);
+        assert_eq!(returned, answer[0]);
+        match answer {
+            [0, yes, codes] => {
+                assert!(yes <= 1);
+                Quick::Answered { yes: yes == 1, codes }
+            }
+            [number, place, rest] => {
+                assert_eq!(rest, UNWRITTEN, "a refusal leaves the rest of the answer unchanged");
+                Quick::Refused { number, place }
+            }
+        }
+    }
+
+    fn snippet<'a>(&self, section: &'a [u32], from: u32, to: u32) -> &'a [u32] {
+        snippet(section, from, to)
+    }
+}
