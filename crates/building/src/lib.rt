@@ -33,7 +33,8 @@ fn lists_behind(code: Code, lists: usize) -> usize
     }
 }
 
-// "it builds that code's whole part by the rules above, left to right": of the codes behind lo up to hi, the first phrase with the given rank.
+// "it builds that code's whole part by the rules above, left to right": the codes at the places lo + 1 to hi, the first phrase among them with the given
+// rank.
 pub fn build(
     section: &[u32],
     selection: &[u32],

@@ -1,6 +1,6 @@
--- What follows from the listing's definition: when it refuses for size, what its three numbers are, and what it leaves of the buffer. The tree is
+-- What follows from the listing's definition: where it refuses, what its three numbers are, and what it leaves of the buffer. The tree is
 -- the last of its own parts, so where no part's list is too long the complete list fits the buffer.
-use Prim.Native.Nat.{ℕ, _+_, _*_, _≤_}
+use Prim.Native.Nat.{ℕ, _+_, _*_, _≤_, _<_}
 use native.Mathlib.Omega.{arith}
 use mathlib.Core.Path.{_≡_, refl}
 use mathlib.Core.Bool.{Bool}
@@ -8,9 +8,11 @@ use mathlib.Core.List.{List, _++_}
 use mathlib.Core.Logic.{_↔_}
 use mathlib.Core.Option.{Option, some, none}
 use lib.ListN.{length, drop, length-append, length-drop}
+use borrow.Author.Tests.{le-leb, lt-leb}
 use Rattle.model.specs.declared.Listing.the-variants.{Listed, Refused}
 use Rattle.model.specs.Answers.{completeList, listingRefusal, listingAnswer, listingNumbers, bufferUnless, listingBuffer}
-use Rattle.model.specs.Checks.{Refusal, inputRefusal}
+use Rattle.model.specs.Checks.{Refusal, inputRefusal, listingChecks}
+use Rattle.model.specs.Demand3.{Passes}
 use Rattle.model.specs.Limits.{maxMatches, maxStrings, workLength, bufferLength}
 use Rattle.model.specs.Matches.{isYes, strings}
 use Rattle.model.specs.Section.{sectionOf}
@@ -20,12 +22,26 @@ use Rattle.model.proofs.AnswersLaws.{answerUnless-nine, answerUnless-re
 
 module _ (section selection : List ℕ) (work : ℕ) where
   -- Refusal 9 at c says that c is the first of all the selection's codes whose unlimited list is too long, and the other way round.
-  pub listed-exactly : (buffer : ℕ) → inputRefusal section selection ≡ none → workLength ≤ work → bufferLength ≤ buffer → (c : ℕ)
+  pub refused-for-size : (buffer : ℕ) → Passes section selection work → bufferLength ≤ buffer → (c : ℕ)
       → (listingAnswer section selection work buffer ≡ Refused 9 c) ↔ (firstTooLong (sectionOf section) (parts (treeOf selection)) ≡ some c)
   unfolding listingAnswer
-  listed-exactly buffer e enough room c =
-      rw (listingRefusal-passes section selection work buffer (record { checks = e; enough = enough }) room)
+  refused-for-size buffer passes room c =
+      rw (listingRefusal-passes section selection work buffer passes room)
       (answerUnless-nine (firstTooLong (sectionOf section) (parts (treeOf selection))) (completeList section selection) c)
+
+  -- What falls on section or selection is the listing's refusal, whatever the lent memory.
+  pub refused-by-checks : (buffer : ℕ) (r : Refusal) → inputRefusal section selection ≡ some r → listingAnswer section selection work buffer ≡ Refused (r .number) (r .place)
+  unfolding listingAnswer listingRefusal listingChecks
+  refused-by-checks buffer r e = rw e
+
+  -- Where they pass, lent memory too short is refusal 8.
+  pub refused-for-work : (buffer : ℕ) → inputRefusal section selection ≡ none → work < workLength → listingAnswer section selection work buffer ≡ Refused 8 0
+  unfolding listingAnswer listingRefusal listingChecks
+  refused-for-work buffer e h = rw (e, lt-leb workLength work h)
+
+  pub refused-for-buffer : (buffer : ℕ) → Passes section selection work → buffer < bufferLength → listingAnswer section selection work buffer ≡ Refused 8 0
+  unfolding listingAnswer listingRefusal listingChecks
+  refused-for-buffer buffer p h = rw (p .checks, le-leb workLength work (p .enough), lt-leb bufferLength buffer h)
 
   -- "It answers M, S and yes or no": those of the complete AllMatches, which is within the limits.
   pub yes-exactly : (buffer m k : ℕ) (y : Bool) → listingAnswer section selection work buffer ≡ Listed m k y

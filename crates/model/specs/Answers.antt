@@ -104,11 +104,7 @@ snippetOf section from to =
     (take (to + 1 - from) (drop from section))
     []
 
--- What each case of an answer says, in document 01's numbers: a refusal's number and place; for what is given 0, and its values.
-abbrev pub checkedValues : Checked → List ℕ
-checkedValues Accepted = 0 ∷ []
-checkedValues (CheckedRefused number place) = number ∷ place ∷ []
-
+-- What each case of a call's answer says, in document 01's numbers: a refusal's number and place; for what is given 0, and its values.
 abbrev pub listingValues : Listing → List ℕ
 listingValues (Listed matches strs answer) = 0 ∷ matches ∷ strs ∷ cond answer 1 0 ∷ []
 listingValues (ListingRefused number place) = number ∷ place ∷ []

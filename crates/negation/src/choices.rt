@@ -1,6 +1,6 @@
 // The choices from the list in the slot at src, of which there are `total`, written above it. A choice is written by two walks over the list, its includes
 // and then its excludes; each match's string is the next digit of the choice's number.
-use crate::sizes::strings_in;
+use store::strings_in;
 ghost use Prim.Native.Nat.{_+_};
 ghost use lib.ListN.{getD};
 ghost use Rattle.model.specs.Choices.{choice};

@@ -3,22 +3,15 @@
 use model::MAX_MATCHES;
 use model::MAX_STRINGS;
 use store::Built;
+use store::strings_in;
 ghost use mathlib.Core.Path.{_≡_};
 ghost use Prim.Native.Nat.{_+_, _*_, _≤_};
 ghost use Rattle.model.specs.Choices.{choices};
 ghost use Rattle.model.specs.Limits.{maxStrings};
 ghost use Rattle.model.specs.Rules.{notList};
 ghost use Rattle.store.specs.Built.{builtOf};
-ghost use Rattle.store.specs.Layout.{excludesIn, includesIn};
 ghost use Rattle.store.specs.Slot.{SlotAt};
 ghost use Rattle.negation.specs.Sizes.{capped, ceiling};
-
-// How many strings a match has, by its header.
-pub fn strings_in(header: u32) -> usize
-    ensures { λ r. ⌜ r ≡ includesIn header + excludesIn header ⌝ }
-{
-    store::includes_in(header) + store::excludes_in(header)
-}
 
 // A product, or the first number above the limit of matches, 257, where it is above the limit.
 fn product(total: u32, strings: u32) -> u32

@@ -7,17 +7,9 @@ ghost use lib.Seq.{sets};
 ghost use Rattle.model.specs.Answers.{listingNumbers};
 ghost use Rattle.model.specs.Limits.{bufferLength};
 ghost use Rattle.model.specs.Matches.{isYes, stringsIn};
-ghost use Rattle.store.specs.Layout.{excludesIn, includesIn};
 ghost use Rattle.store.specs.Slot.{SlotAt};
 ghost use Rattle.store.specs.Stream.{StreamAt};
 ghost use Rattle.output.specs.Columns.{ColumnAt, columnIn, everySecond};
-
-// How many strings a match has, by its header.
-fn strings_in(header: u32) -> usize
-    ensures { λ r. ⌜ r ≡ includesIn header + excludesIn header ⌝ }
-{
-    store::includes_in(header) + store::excludes_in(header)
-}
 
 // Copies every second of the numbers from p on, n of them, to the buffer from q on.
 fn copy_every_second(mem: &[u32], p: usize, n: usize, buffer: &mut [u32], q: usize)
@@ -40,7 +32,7 @@ fn put_counts(mem: &[u32], first: usize, n: usize, buffer: &mut [u32], q: usize)
     let mut p = first;
     let mut i = 0;
     while i < n {
-        let strings = strings_in(mem[p]);
+        let strings = store::strings_in(mem[p]);
         buffer[q + i] = strings as u32;
         p += 1 + 2 * strings;
         i += 1;
@@ -58,7 +50,7 @@ fn put_column(mem: &[u32], first: usize, n: usize, column: usize, buffer: &mut [
     let mut q = at;
     let mut i = 0;
     while i < n {
-        let strings = strings_in(mem[p]);
+        let strings = store::strings_in(mem[p]);
         copy_every_second(mem, p + column, strings, buffer, q);
         q += strings;
         p += 1 + 2 * strings;

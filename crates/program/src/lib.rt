@@ -5,7 +5,7 @@ ghost use mathlib.Core.Path.{_≡_};
 ghost use Prim.Native.Nat.{_≤_};
 ghost use lib.ListN.{length, take};
 ghost use Rattle.model.specs.declared.Listing.the-variants.{Refused};
-ghost use Rattle.text.specs.Input.{listingOf, programText, sectionPart, selectionPart};
+ghost use Rattle.text.specs.Input.{listingOf, maxNumbers, programText, sectionPart, selectionPart};
 ghost use Rattle.text.specs.Printable.{textLength};
 ghost use Rattle.text.specs.Printed.{listingText};
 ghost use Rattle.program.specs.Lent.{Lent};
@@ -57,7 +57,7 @@ pub fn run(
     buffer: &mut [u32],
     text: &mut [u8],
 ) -> usize
-    requires { ⌜ 16384 ≤ length (now numbers) ⌝ }
+    requires { ⌜ maxNumbers ≤ length (now numbers) ⌝ }
     requires { ⌜ Lent (now work) (now buffer) (now text) ⌝ }
     ensures { λ r. ⌜ take r (now (text .exit)) ≡ programText (now (input .entry)) ⌝ }
     ensures { λ r. ⌜ r ≤ length (now (text .exit)) ⌝ }

@@ -1,6 +1,7 @@
 // The waiting rule: lists and loose words wait while codes are read from left to right.
 use model::Code;
 use model::Fault;
+use model::MAX_WAITING;
 ghost use mathlib.Core.Bool.{_&&_};
 ghost use mathlib.Core.Path.{_≡_};
 ghost use Prim.Native.Nat.{_<_};
@@ -24,12 +25,12 @@ fn code_fits(code: Code, lists: usize, words: usize) -> bool
     ensures { λ r. ⌜ r ≡ fits code lists words ⌝ }
 {
     match code {
-        Code::Word(_) => words < 8,
+        Code::Word(_) => words < MAX_WAITING as usize,
         Code::Phrase(k) => {
             if words != k as usize {
                 return false;
             }
-            lists < 8
+            lists < MAX_WAITING as usize
         }
         Code::Combine(_) => takes(2, lists, words),
         Code::Not => takes(1, lists, words),

@@ -22,7 +22,3 @@ module _ (F : Match → List Match) where
     pub stream : Left list mem p 0 n
     pub below : p + length (matchesNumbers list) ≤ at
     pub room : at + length (matchesNumbers (flatMap F list)) ≤ length mem
-
-  pub record EachAt (mem : List ℕ) (p n at : ℕ) : Type 0 where
-    pub list : List Match
-    pub each : Each list mem p n at

@@ -22,10 +22,6 @@ pub record MatchHolds (mem : List ℕ) (p : ℕ) (m : Match) : Type 0 where
   pub fine : AllMatch Fine m
   pub header : Header mem p
 
-pub record MatchAt (mem : List ℕ) (p : ℕ) : Type 0 where
-  pub item : Match
-  pub held : MatchHolds mem p item
-
 -- from match number i on, of n, the matches todo are left, at p
 pub record Left (todo : List Match) (mem : List ℕ) (p i n : ℕ) : Type 0 where
   pub holds : Holds mem p (matchesNumbers todo)

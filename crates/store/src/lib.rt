@@ -77,11 +77,18 @@ pub fn excludes_in(header: u32) -> usize
     (header % RADIX) as usize
 }
 
+// How many strings a match has, by its header.
+pub fn strings_in(header: u32) -> usize
+    ensures { λ r. ⌜ r ≡ includesIn header + excludesIn header ⌝ }
+{
+    includes_in(header) + excludes_in(header)
+}
+
 // How many numbers a match takes, by its header.
 pub fn match_length(header: u32) -> usize
     ensures { λ r. ⌜ r ≡ matchLength header ⌝ }
 {
-    1 + 2 * (includes_in(header) + excludes_in(header))
+    1 + 2 * strings_in(header)
 }
 
 // How many numbers the list in a slot takes, by its two heads.

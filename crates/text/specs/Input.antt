@@ -15,6 +15,10 @@ use Rattle.text.specs.Printed.{listingText}
 abbrev pub maxInput : ℕ
 maxInput = 65536
 
+-- as many numbers
+abbrev pub maxNumbers : ℕ
+maxNumbers = 16384
+
 -- "little-endian u32"
 abbrev pub littleEndian : ℕ → ℕ → ℕ → ℕ → ℕ
 littleEndian a b c d = a + b * 256 + c * 65536 + d * 16777216

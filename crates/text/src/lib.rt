@@ -13,3 +13,5 @@ pub use reading::section_length;
 pub const TEXT_LENGTH: usize = 9228;
 // "Over 65,536 bytes"
 pub const MAX_INPUT: usize = 65536;
+// As many numbers.
+pub const MAX_NUMBERS: usize = 16384;

@@ -17,7 +17,7 @@ ghost use Rattle.model.specs.Selection.{codeAt, upTo};
 ghost use Rattle.model.specs.Walk.{build as buildOf, walk as walkOf};
 ghost use Rattle.walking.specs.Walkable.{Walkable};
 
-// One for every code but a word.
+// One for every code other than a word.
 fn count_code(code: Code) -> u32
     ensures { λ r. ⌜ r ≡ headOf code ⌝ }
 {
@@ -30,7 +30,7 @@ fn count_code(code: Code) -> u32
     }
 }
 
-// How many codes but words stand behind lo up to hi.
+// How many codes other than words stand at the places lo + 1 to hi.
 fn count_codes(selection: &[u32], lo: u32, hi: u32) -> u32
     requires { ⌜ lo ≤ hi ⌝ }
     ensures { λ r. ⌜ heads (upTo (codeAt (now (selection .entry))) lo) + r ≡ heads (upTo (codeAt (now (selection .entry))) hi) ⌝ }
@@ -79,8 +79,8 @@ pub fn walk(section: &[u32], selection: &[u32], work: &mut [u32], hi: u32) -> Qu
     match code {
         // no part ends in a word
         Code::Word(_) => Quick::Refused {
-            number: 6,
-            place: hi,
+            number: 0,
+            place: 0,
         },
         Code::Phrase(_) => {
             let words = selection::parts::phrase_words(selection, hi);

@@ -1,4 +1,5 @@
 // "the excludes inside W to W + N − 1": a window is named by its last position, W + N − 1.
+use model::Position;
 ghost use mathlib.Core.Path.{_≡_};
 ghost use lib.ListN.{getD, length};
 ghost use Prim.Native.Nat.{_+_};
@@ -9,20 +10,20 @@ ghost use Rattle.store.specs.Put.{Put};
 ghost use Rattle.window.specs.Inside.{ExcludesAt, insideNumbers, StringAt, WindowSize};
 
 // Does a string of this span lie inside the window of n positions up to `last`?
-fn is_inside(n: u32, last: u32, span: u32) -> bool
+fn is_inside(n: u32, last: Position, span: u32) -> bool
     requires { ⌜ WindowSize n ⌝ }
-    ensures { λ r. ⌜ r ≡ insideWindow n last (strOf span 0) ⌝ }
+    ensures { λ r. ⌜ r ≡ insideWindow n (last .0) (strOf span 0) ⌝ }
 {
-    if strings::start_of(span) + n <= last {
+    if strings::start_of(span) + n <= last.0 {
         return false;
     }
-    strings::end_of(span) <= last
+    strings::end_of(span) <= last.0
 }
 
 // How many strings of a part lie inside the window.
-pub fn count_inside(n: u32, last: u32, strs: &[u32]) -> usize
+pub fn count_inside(n: u32, last: Position, strs: &[u32]) -> usize
     requires { ⌜ WindowSize n ⌝ }
-    ensures { λ r. ⌜ r ≡ length (keep (insideWindow n last) (strsAt (now (strs .entry)))) ⌝ }
+    ensures { λ r. ⌜ r ≡ length (keep (insideWindow n (last .0)) (strsAt (now (strs .entry)))) ⌝ }
 {
     let mut count = 0;
     let mut i = 0;
@@ -34,9 +35,9 @@ pub fn count_inside(n: u32, last: u32, strs: &[u32]) -> usize
 }
 
 // Puts the string at i to q if it lies inside the window; gives the place behind it.
-fn put_if_inside(mem: &mut [u32], n: u32, last: u32, i: usize, q: usize) -> usize
-    requires { ⌜ StringAt n last (now mem) i q ⌝ }
-    ensures { λ r. ⌜ Put (now (mem .entry)) (now (mem .exit)) q (insideNumbers n last (getD (now (mem .entry)) i 0) (getD (now (mem .entry)) (i + 1) 0)) r ⌝ }
+fn put_if_inside(mem: &mut [u32], n: u32, last: Position, i: usize, q: usize) -> usize
+    requires { ⌜ StringAt n (last .0) (now mem) i q ⌝ }
+    ensures { λ r. ⌜ Put (now (mem .entry)) (now (mem .exit)) q (insideNumbers n (last .0) (getD (now (mem .entry)) i 0) (getD (now (mem .entry)) (i + 1) 0)) r ⌝ }
 {
     let span = mem[i];
     if !is_inside(n, last, span) {
@@ -49,11 +50,11 @@ fn put_if_inside(mem: &mut [u32], n: u32, last: u32, i: usize, q: usize) -> usiz
 }
 
 // Puts those strings from a to e that lie inside the window, from q on; gives the place behind them.
-pub fn put_inside(mem: &mut [u32], n: u32, last: u32, a: usize, e: usize, q: usize) -> usize
-    requires { ⌜ ExcludesAt n last (now mem) a e q ⌝ }
+pub fn put_inside(mem: &mut [u32], n: u32, last: Position, a: usize, e: usize, q: usize) -> usize
+    requires { ⌜ ExcludesAt n (last .0) (now mem) a e q ⌝ }
     ensures { λ r.
-        ⌜ ((w : ExcludesAt n last (now (mem .entry)) a e q)
-        → Put (now (mem .entry)) (now (mem .exit)) q (strsOf 1 (keep (insideWindow n last) (w .list))) r) ⌝ }
+        ⌜ ((w : ExcludesAt n (last .0) (now (mem .entry)) a e q)
+        → Put (now (mem .entry)) (now (mem .exit)) q (strsOf 1 (keep (insideWindow n (last .0)) (w .list))) r) ⌝ }
 {
     let mut next = q;
     let mut i = a;

@@ -7,6 +7,7 @@ use inside::count_inside;
 use inside::put_inside;
 use model::MAX_MATCHES;
 use model::MAX_STRINGS;
+use model::Position;
 use store::Built;
 use strings::joining::join_span;
 use strings::joining::join_tag;
@@ -37,11 +38,19 @@ enum Listed {
 }
 
 // "one match: the join, and the excludes inside W to W + N − 1", of the match at p, put to q; gives the place behind it.
-fn put_window(mem: &mut [u32], n: u32, last: u32, p: usize, q: usize, span: u32, tag: u32) -> usize
-    requires { ⌜ WindowAt n last (now mem) p q span tag ⌝ }
+fn put_window(
+    mem: &mut [u32],
+    n: u32,
+    last: Position,
+    p: usize,
+    q: usize,
+    span: u32,
+    tag: u32,
+) -> usize
+    requires { ⌜ WindowAt n (last .0) (now mem) p q span tag ⌝ }
     ensures { λ r.
-        ⌜ ((w : WindowAt n last (now (mem .entry)) p q span tag)
-        → Put (now (mem .entry)) (now (mem .exit)) q (matchNumbers (windowTo n (w .item) last)) r) ⌝ }
+        ⌜ ((w : WindowAt n (last .0) (now (mem .entry)) p q span tag)
+        → Put (now (mem .entry)) (now (mem .exit)) q (matchNumbers (windowTo n (w .item) (last .0))) r) ⌝ }
 {
     let header = mem[p];
     let a = p + 1 + 2 * store::includes_in(header);
@@ -73,11 +82,11 @@ fn put_each(mem: &mut [u32], n: u32, p: usize, span: u32, tag: u32, from: Writte
         if MAX_MATCHES < matches + 1 {
             return Listed::TooLong;
         }
-        let more = 1 + count_inside(n, last, &mem[a..e]) as u32;
+        let more = 1 + count_inside(n, Position(last), &mem[a..e]) as u32;
         if MAX_STRINGS < strings + more {
             return Listed::TooLong;
         }
-        next = put_window(mem, n, last, p, next, span, tag);
+        next = put_window(mem, n, Position(last), p, next, span, tag);
         matches += 1;
         strings += more;
         last += 1;

@@ -7,6 +7,9 @@ use Rattle.selection.proofs.waiting.code_fits.Tie as tie
 enum-told : tie.Need-enum-told
 enum-told c = search needs
 
+cast-result : tie.Need-cast-result
+cast-result c = search needs
+
 enum-known-code : tie.Need-enum-known-code
 enum-known-code c = search needs
 
@@ -15,6 +18,9 @@ cast-if1 c = search needs
 
 returns : tie.Need-returns
 returns c = rw (c .before .before .code .given .1) (simp (ne-eqb _ _ (c .if1 .taken)))
+
+cast-result-2 : tie.Need-cast-result-2
+cast-result-2 c = search needs
 
 enum-told-2 : tie.Need-enum-told-2
 enum-told-2 c = search needs
@@ -54,9 +60,11 @@ code-fits-spec =
     tie.close
     (tie.spec
     enum-told
+    cast-result
     enum-known-code
     cast-if1
     returns
+    cast-result-2
     enum-told-2
     takes-requires
     enum-told-3

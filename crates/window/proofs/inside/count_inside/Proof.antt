@@ -8,7 +8,7 @@ use Rattle.window.proofs.inside.count_inside.Statement.{statement}
 use Rattle.window.proofs.inside.count_inside.Tie as tie
 
 abbrev Inv-loop : tie.InvT-loop
-Inv-loop n last strs count₀ i₀ count i = Counted n last strs count i
+Inv-loop n last strs count₀ i₀ count i = Counted n (last .0) strs count i
 
 abbrev μ-loop : tie.MeasureT-loop
 μ-loop n last strs count₀ i₀ count i = length strs - i

@@ -11,7 +11,7 @@ use Rattle.window.proofs.inside.put_inside.Tie as tie
 
 abbrev Inv-loop : tie.InvT-loop
 Inv-loop mem₀ n last a e q next₀ i₀ mem next i =
-    (length mem ≡ length mem₀) × ((w : ExcludesAt n last mem₀ a e q) → Copying n last (w .list) mem₀ e q mem next i)
+    (length mem ≡ length mem₀) × ((w : ExcludesAt n (last .0) mem₀ a e q) → Copying n (last .0) (w .list) mem₀ e q mem next i)
 
 abbrev μ-loop : tie.MeasureT-loop
 μ-loop mem₀ n last a e q next₀ i₀ mem next i = e - i
