@@ -4,6 +4,7 @@
  *   rt staticlib boundary
  *   cc -Iinclude examples/panel.c target/staticlib/libboundary.a -o target/panel && target/panel
  */
+#include <inttypes.h>
 #include <stdio.h>
 
 #include "jullpinay.h"
@@ -24,11 +25,11 @@ static void print_listing(const uint32_t answer[4])
     uint32_t matches = answer[1], strings = answer[2], next = 0;
     const uint32_t *counts = buffer + 2, *spans = counts + matches, *tags = spans + strings;
 
-    printf("listing: %s, %u matches, %u strings\n", answer[3] ? "yes" : "no", matches, strings);
+    printf("listing: %s, %" PRIu32 " matches, %" PRIu32 " strings\n", answer[3] ? "yes" : "no", matches, strings);
     for (uint32_t m = 0; m < matches; m++) {
         printf(" ");
         for (uint32_t s = 0; s < counts[m]; s++, next++)
-            printf(" %s %u to %u", tags[next] & 1 ? "not" : "at", spans[next] >> 16, spans[next] & 65535);
+            printf(" %s %" PRIu32 " to %" PRIu32, tags[next] & 1 ? "not" : "at", spans[next] >> 16, spans[next] & 65535);
         printf("\n");
     }
 }
@@ -38,22 +39,24 @@ int main(void)
     uint32_t listed[4], answered[3];
 
     if (jullpinay_listing(section, COUNT(section), window, COUNT(window), work, COUNT(work), buffer, COUNT(buffer), listed)) {
-        printf("listing: refused %u at %u\n", listed[0], listed[1]);
+        printf("listing: refused %" PRIu32 " at %" PRIu32 "\n", listed[0], listed[1]);
         return 1;
     }
     print_listing(listed);
 
     if (jullpinay_quick(section, COUNT(section), not_99, COUNT(not_99), work, COUNT(work), answered))
-        printf("quick: refused %u at %u\n", answered[0], answered[1]);
+        printf("quick: refused %" PRIu32 " at %" PRIu32 "\n", answered[0], answered[1]);
     else
-        printf("quick: %s, %u codes\n", answered[1] ? "yes" : "no", answered[2]);
+        printf("quick: %s, %" PRIu32 " codes\n", answered[1] ? "yes" : "no", answered[2]);
 
-    /* the first string of the listing: its span stands behind M, S and the M counts */
+    if (listed[2] == 0)
+        return 0;
+    /* the first string of the listing: its span stands after M, S and the M counts */
     uint32_t from = buffer[2 + listed[1]] >> 16, to = buffer[2 + listed[1]] & 65535;
     size_t words = jullpinay_snippet(section, COUNT(section), from, to);
-    printf("snippet of %u to %u:", from, to);
+    printf("snippet of %" PRIu32 " to %" PRIu32 ":", from, to);
     for (size_t i = 0; i < words; i++)
-        printf(" %u", section[from + i]);
+        printf(" %" PRIu32, section[from + i]);
     printf("\n");
     return 0;
 }

@@ -1,7 +1,8 @@
 /* The engine's three calls. Each has an answer for every slice of every length: a result, or one refusal by number and place.
  *
  * A slice is a pointer and a count of numbers. `section`, `selection` and `buffer` are laid out as document 01 says; `work` is free to the call and
- * may end holding anything. No slice that a call writes may overlap another. Nothing is kept between calls, and nothing else is touched.
+ * may end holding anything. Nothing that a call writes, `answer` included, may overlap anything else that is passed. No pointer may be null, also
+ * where its count is 0. Nothing is kept between calls, and nothing else is touched.
  *
  * Link with the archive that `rt staticlib boundary` writes, target/staticlib/libboundary.a. */
 #ifndef JULLPINAY_H
@@ -9,6 +10,10 @@
 
 #include <stddef.h>
 #include <stdint.h>
+
+#ifdef __cplusplus
+extern "C" {
+#endif
 
 /* "working memory (at least 12,800 u32) and a listing buffer (at least 1,282 u32)" */
 #define JULLPINAY_WORK 12800
@@ -22,13 +27,19 @@ uint32_t jullpinay_listing(const uint32_t *section, size_t section_count,
                            uint32_t *buffer, size_t buffer_count,
                            uint32_t answer[4]);
 
-/* The quick answer. Returns 0 and answers {0, yes, codes walked or built}; or returns a refusal's number and answers {number, place}. */
+/* The quick answer. Returns 0 and answers {0, yes, codes walked or built}; or returns a refusal's number and answers {number, place},
+ * with the rest of the answer unchanged. */
 uint32_t jullpinay_quick(const uint32_t *section, size_t section_count,
                          const uint32_t *selection, size_t selection_count,
                          uint32_t *work, size_t work_count,
                          uint32_t answer[3]);
 
-/* The snippet of the positions from `from` to `to`: how many words it has. They are section[from], section[from + 1], .. */
+/* The snippet of the positions from `from` to `to`: how many words it has, 0 if the section isn't accepted or
+ * 1 <= from <= to <= n fails. They are section[from], section[from + 1], .. */
 size_t jullpinay_snippet(const uint32_t *section, size_t section_count, uint32_t from, uint32_t to);
+
+#ifdef __cplusplus
+}
+#endif
 
 #endif

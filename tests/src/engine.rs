@@ -115,7 +115,7 @@ impl RuleBook {
                 return Err(size);
             }
             if *rule == Rule::Not && size.matches == 0 {
-                // "A not with a stringless match below it is empty, however large the rest of its product": the product
+                // (Reading: a not with a stringless match below it is empty, however large the rest of its product.) The product
                 // that the rule goes through on its way may be astronomical, so it isn't gone through.
                 return Ok(vec![]);
             }

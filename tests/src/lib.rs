@@ -1,6 +1,6 @@
 //! A second engine for document 01 ("The manual search engine: sections, selections, AllMatches"), by another hand.
 //!
-//! Written from the paper alone, to be compared with the first engine on random inputs. Its method is the plainest one:
+//! Written from the paper and the readings in docs/DECISIONS.md, to be compared with the first engine on random inputs. Its method is the plainest one:
 //! a match is two vectors of strings, a list is a vector of matches, a selection is a tree, and every rule is a function
 //! from lists to a list. It allocates freely and asks for no working memory; it only looks at its length.
 //!
@@ -15,7 +15,7 @@
 //! - [`shrink`]: a failing case made smaller, and printed as a test.
 //! - [`json`]: a reader just good enough for the published examples.
 //!
-//! To test an engine: implement [`Engine`] for it (in `tests/agree.rs`) and call [`agreement::hunt`] with a seed and a count
+//! To test an engine: implement [`Engine`] for it (as `tests/proved/mod.rs` does) and call [`agreement::hunt`] with a seed and a count
 //! of cases; the error is a message with a small test to paste back.
 
 pub mod agreement;

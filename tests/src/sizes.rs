@@ -189,7 +189,7 @@ mod tests {
         assert_eq!(not(&exact).matches, 1 << 127);
         let beyond = vec![two; 256];
         assert_eq!(not(&beyond), Size { matches: u128::MAX, strings: u128::MAX });
-        // "a not with a stringless match below it is empty, however large the rest of its product"
+        // a not with a stringless match below it is empty, however large the rest of its product
         for at in [0, 100, 256] {
             let mut empty = beyond.clone();
             empty.insert(at, Match::default());

@@ -5,6 +5,7 @@
 
 mod examples;
 mod proved;
+mod words;
 
 use proved::Proved;
 use second_engine::{hunt, Engine};

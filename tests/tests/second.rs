@@ -1,6 +1,7 @@
 //! The second engine on every example, and what it alone has: the program's text, and sizes beyond every number.
 
 mod examples;
+mod words;
 
 use examples::*;
 use second_engine::{engine as second, text, Engine, Listing, SecondEngine};

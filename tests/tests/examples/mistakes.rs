@@ -186,7 +186,7 @@ fn content() {
     assert_eq!(lines(&section, &phrase(&[1, 2]).and(phrase(&[2, 3])).entire_content())[0], "yes 1 2");
     assert_eq!(lines(&section, &phrase(&[1, 2]).and(word(3)).entire_content())[0], "yes 1 2");
     assert_eq!(lines(&section, &word(1).and(word(3)).entire_content())[0], "no 0 0");
-    // at start also by a join that isn't contiguous
+    // at end also by a join that isn't contiguous
     assert_eq!(lines(&section, &word(1).and(word(3)).window(3).at_end())[0], "yes 1 1");
     assert_eq!(lines(&section, &word(1).and(word(3)).window(3).entire_content())[0], "no 0 0");
     // excludes stay as they are

@@ -254,7 +254,7 @@ fn order() {
     assert_eq!(refused_with(&[], &[], 0, 0), Some((1, 0)));
     assert_eq!(refused_with(&faulty_section, &[], 0, 0), Some((2, 2)));
     assert_eq!(refused_with(&six, &[], 0, 0), Some((3, 0)));
-    // "kind 2 with operand 1 at code 1 and kind 22 at code 2 is 4 at 2"
+    // kind 2 with operand 1 at code 1 and kind 22 at code 2 is 4 at 2
     assert_eq!(refused_with(&six, &[2, 2, 22, 1, 0], 0, 0), Some((4, 2)));
     assert_eq!(refused_with(&six, &[2, 2, 6, 1, 0], 0, 0), Some((5, 1)));
     assert_eq!(refused_with(&six, &[2, 2, 6, 0, 1], 0, 0), Some((5, 2)));

@@ -104,7 +104,7 @@ fn nots() {
     lists(&counts(&[16, 16]), &two.clone().not(), 256, 512, true);
     lists(&counts(&[10, 17, 1]), &two.clone().or(word(3)).not(), 170, 510, false);
     too_long(&counts(&[9, 19, 1]), &two.or(word(3)).not());
-    // 2^256 on the way to nothing: a match without strings stands in the list
+    // 2^240 on the way to nothing: a match without strings stands in the list
     lists(&counts(&[16, 15]), &both().or(word(9).not()).not(), 0, 0, false);
 }
 
