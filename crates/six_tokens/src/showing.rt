@@ -1,7 +1,10 @@
-// What is printed of an example behind its name: its listing as `ftlist` prints it, and its quick answer.
+// What is printed of an example after its name: its listing as `ftlist` prints it, and its quick answer.
 use super::reading::line_end;
+use model::BUFFER_LENGTH;
 use model::Listing;
 use model::Quick;
+use model::WORK_LENGTH;
+use text::TEXT_LENGTH;
 
 // The text of a listing, or only its first line if it has over 20 matches.
 fn show_text(answer: Listing, text: &[u8]) {
@@ -16,9 +19,9 @@ fn show_text(answer: Listing, text: &[u8]) {
 }
 
 fn show_listing(section: &[u32], selection: &[u32]) {
-    let mut work = [0u32; 12800];
-    let mut buffer = [0u32; 1282];
-    let mut text = [0u8; 9228];
+    let mut work = [0u32; WORK_LENGTH];
+    let mut buffer = [0u32; BUFFER_LENGTH];
+    let mut text = [0u8; TEXT_LENGTH];
     let answer = engine::listing(section, selection, &mut work, &mut buffer);
     let end = text::put_listing_text(answer, &buffer, &mut text);
     show_text(answer, &text[..end]);
@@ -47,7 +50,7 @@ fn show_refusal(number: u32, place: u32) {
 }
 
 fn show_quick(section: &[u32], selection: &[u32]) {
-    let mut work = [0u32; 12800];
+    let mut work = [0u32; WORK_LENGTH];
     let quick = engine::quick(section, selection, &mut work);
     io::write_all(1, b"quick: ");
     match quick {
