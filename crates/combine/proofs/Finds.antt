@@ -4,10 +4,10 @@ use Prim.Native.Nat.{ℕ, suc, _+_, _-_, _*_, _≤_, _<_}
 use native.Mathlib.Numerals.{add-one}
 use native.Mathlib.Omega.{arith}
 use mathlib.Core.Path.{_≡_, refl, sym, ap, _∙_, subst}
-use mathlib.Core.Bool.{Bool, true, false, not, _&&_}
+use mathlib.Core.Bool.{Bool, true, false, not, _&&_, and-false}
 use mathlib.Core.List.{List, [], _∷_, flatMap}
 use mathlib.Core.Logic.{inl}
-use borrow.Author.Tests.{leb-true, leb-false, le-leb, lt-leb, eq-eqb, ne-eqb}
+use borrow.Author.Tests.{leb-true, leb-false, le-leb, eq-eqb, ne-eqb}
 use lib.Dec.{leb, eqb}
 use lib.ListN.{length, drop, getD, set, drop-of-length-le, length-map}
 use lib.Seq.{sets, drop-cons}
@@ -30,6 +30,16 @@ use Rattle.combine.specs.Finding.{startsFrom, NextStart}
 
 -- ---- standFrom
 
+-- more words than tokens from p on
+pub stands-beyond : (s : Section) (words : List ℕ) (p : ℕ) → p ≤ s .tokens + 1 → s .tokens + 1 < p + length words → false ≡ standFrom s words p
+unfolding standFrom
+stands-beyond s [] p h k = absurd (omega arith)
+stands-beyond s (w ∷ ws) p h k = at (leb p (s .tokens)) refl (λ l. stands-beyond s ws (p + 1) (omega arith) (omega arith))
+  where
+    at : (t : Bool) → leb p (s .tokens) ≡ t → (p ≤ s .tokens → false ≡ standFrom s ws (p + 1)) → false ≡ (t && eqb (s .word p) w && standFrom s ws (p + 1))
+    at true e later = rw (sym (later (leb-true p (s .tokens) e))) (sym (and-false (eqb (s .word p) w)))
+    at false e later = refl
+
 module _ (s : Section) (words : List ℕ) (i p : ℕ) where
   -- no word is left
   pub stands-all : length words ≤ i → true ≡ standFrom s (drop i words) p
@@ -40,10 +50,6 @@ module _ (s : Section) (words : List ℕ) (i p : ℕ) where
     stands-more : standFrom s (drop i words) p ≡ (leb p (s .tokens) && eqb (s .word p) (getD words i 0) && standFrom s (drop (i + 1) words) (p + 1))
     unfolding standFrom
     stands-more = ap (λ ws. standFrom s ws p) (drop-cons words i 0 h ∙ ap (λ j. getD words i 0 ∷ drop j words) (sym (add-one i)))
-
-    -- no token is left
-    pub stands-beyond : s .tokens < p → false ≡ standFrom s (drop i words) p
-    stands-beyond k = sym (stands-more ∙ rw (lt-leb p (s .tokens) k))
 
     module _ (k : p ≤ s .tokens) where
       -- another word stands there

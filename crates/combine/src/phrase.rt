@@ -23,11 +23,11 @@ pub fn stands_at(section: &[u32], words: &[u32], p: usize) -> bool
     ensures { λ r. ⌜ r ≡ standFrom (sectionOf (now (section .entry))) (now (words .entry)) p ⌝ }
 {
     let n = section[0] as usize;
+    if n + 1 < p + words.len() {
+        return false;
+    }
     let mut i = 0;
     while i < words.len() {
-        if n < p + i {
-            return false;
-        }
         if section[p + i] != words[i] {
             return false;
         }

@@ -1,21 +1,48 @@
 -- Mild not as a rule that goes over L match by match, and what its steps require: a match of L and the list R, both in memory.
-use Prim.Native.Nat.{ℕ}
-use mathlib.Core.Bool.{Bool, not}
-use mathlib.Core.List.{List}
+use Prim.Native.Nat.{ℕ, _+_}
+use mathlib.Core.Bool.{Bool, true, false, not, _&&_, cond}
+use mathlib.Core.List.{List, [], _∷_}
+use mathlib.Core.Path.{_≡_}
+use lib.ListN.{length}
 use Rattle.model.specs.Lists.{allOf, anyOf}
 use Rattle.model.specs.Matches.{Str, Match}
 use Rattle.model.specs.Rules.{covered, keptIf, positions, reachesBeyond}
 use Rattle.store.specs.Each.{One}
+use Rattle.store.specs.Layout.{matchesNumbers}
 use Rattle.store.specs.Slot.{SlotHolds}
-use Rattle.store.specs.Stream.{MatchHolds}
+use Rattle.store.specs.Stream.{Left, MatchHolds}
+use Rattle.mild.specs.declared.Found.{Found}
+use Rattle.mild.specs.declared.Found.the-variants.{At, Nothing}
 
 -- reachesBeyond, of the includes alone
 abbrev pub beyond : List Str → List Str → Bool
 beyond lefts rights = anyOf (λ s. anyOf (λ p. not (covered rights p)) (positions s)) lefts
 
+-- a position found that lefts cover and rights don't, or that there is none
+abbrev pub FoundBeyond : List Str → List Str → Found → Type 0
+FoundBeyond lefts rights (At p) = (covered lefts p ≡ true) × (covered rights p ≡ false)
+FoundBeyond lefts rights Nothing = beyond lefts rights ≡ false
+
+abbrev pub coverBoth : ℕ → ℕ → List Str → Bool
+coverBoth p q ss = covered ss p && covered ss q
+
+-- a list from its first match on whose includes cover both positions
+unfoldable pub fromCovering : ℕ → ℕ → List Match → List Match
+fromCovering p q [] = []
+fromCovering p q (m ∷ ms) = cond (coverBoth p q (m .includes)) (m ∷ ms) (fromCovering p q ms)
+
 -- what mild not makes of one match of L
 unfoldable pub mildNot : List Match → Match → List Match
 mildNot rights l = keptIf (allOf (reachesBeyond l) rights) l
+
+-- the matches todo lie from `at` up to `end`
+pub record Rest (todo : List Match) (mem : List ℕ) (at end : ℕ) : Type 0 where
+  pub left : Left todo mem at 0 (length todo)
+  pub up-to : at + length (matchesNumbers todo) ≡ end
+
+pub record RestAt (mem : List ℕ) (at end : ℕ) : Type 0 where
+  pub todo : List Match
+  pub rest : Rest todo mem at end
 
 -- the match l lies at p, and R in the slot at r
 pub record LeftAt (mem : List ℕ) (p r : ℕ) : Type 0 where

@@ -1,9 +1,12 @@
 // Mild not: "L's matches in which, for every match of R, some position covered by an include isn't covered by R's includes."
+use model::Position;
 use store::Built;
-use strings::covering::run_covered;
+use strings::covering::covered;
+use strings::covering::run_end;
 use strings::end_of;
 use strings::start_of;
 ghost use mathlib.Core.Path.{_≡_};
+ghost use Prim.Native.Nat.{_≤_};
 ghost use lib.ListN.{length};
 ghost use Rattle.model.specs.Lists.{allOf};
 ghost use Rattle.model.specs.Rules.{mildNotList, reachesBeyond};
@@ -13,42 +16,95 @@ ghost use Rattle.store.specs.Outcome.{Outcome};
 ghost use Rattle.store.specs.Places.{Under};
 ghost use Rattle.store.specs.Put.{Put};
 ghost use Rattle.store.specs.Slot.{SlotAt};
-ghost use Rattle.mild.specs.Beyond.{beyond, mildNot, KeepAt, LeftAt};
+ghost use Rattle.mild.specs.Beyond.{coverBoth, fromCovering, mildNot, FoundBeyond, KeepAt, LeftAt, Rest, RestAt};
 
-// "some position covered by an include isn't covered by R's includes"
-fn reaches_beyond(lefts: &[u32], rights: &[u32]) -> bool
-    ensures { λ r. ⌜ r ≡ beyond (strsAt (now (lefts .entry))) (strsAt (now (rights .entry))) ⌝ }
+// A position that includes of a left match cover, and those of a right match don't.
+enum Found {
+    At(u32),
+    Nothing,
+}
+
+// "some position covered by an include isn't covered by R's includes": one of a left match and a right match, if there is any
+fn find_beyond(lefts: &[u32], rights: &[u32]) -> Found
+    ensures { λ r. ⌜ FoundBeyond (strsAt (now (lefts .entry))) (strsAt (now (rights .entry))) r ⌝ }
 {
     let mut i = 0;
     while i + 1 < lefts.len() {
         let span = lefts[i];
-        if !run_covered(rights, start_of(span), end_of(span), false) {
-            return true;
+        let end = end_of(span);
+        let p = run_end(rights, start_of(span), end, false);
+        if p <= end {
+            return Found::At(p);
         }
         i += 2;
     }
-    false
+    Found::Nothing
 }
 
-// "for every match of R", of the match of L at p
+// Do the strings cover both positions?
+fn cover_both(strs: &[u32], p: u32, q: u32) -> bool
+    ensures { λ r. ⌜ r ≡ coverBoth p q (strsAt (now (strs .entry))) ⌝ }
+{
+    if !covered(strs, Position(p)) {
+        return false;
+    }
+    covered(strs, Position(q))
+}
+
+// The first match of R, from the one at `from` on, whose includes cover both positions: where it lies, or the end of R. A match that is one include goes its
+// own way, as the place behind it then doesn't wait for its header.
+fn next_covering(mem: &[u32], from: usize, end: usize, p: u32, q: u32) -> usize
+    requires { ⌜ RestAt (now mem) from end ⌝ }
+    ensures { λ r. ⌜ from ≤ r ⌝ }
+    ensures { λ r. ⌜ ((w : RestAt (now (mem .entry)) from end) → Rest (fromCovering p q (w .todo)) (now (mem .entry)) r end) ⌝ }
+{
+    let single = store::header(1, 0);
+    let mut at = from;
+    while at < end {
+        let header = mem[at];
+        let a = at + 1;
+        if header == single {
+            let b = a + 2;
+            if cover_both(&mem[a..b], p, q) {
+                return at;
+            }
+            at = b;
+            continue;
+        }
+        let e = a + 2 * store::includes_in(header);
+        if cover_both(&mem[a..e], p, q) {
+            return at;
+        }
+        at += store::match_length(header);
+    }
+    at
+}
+
+// "for every match of R", of the match of L at p. The last two positions found in its includes are held against the matches of R, and only where both are
+// covered is another one looked for.
 fn reaches_beyond_all(mem: &[u32], p: usize, r: usize) -> bool
     requires { ⌜ LeftAt (now mem) p r ⌝ }
     ensures { λ b. ⌜ ((w : LeftAt (now (mem .entry)) p r) → b ≡ allOf (reachesBeyond (w .item)) (w .rights)) ⌝ }
 {
+    let includes = store::includes_in(mem[p]);
+    if includes == 0 {
+        return mem[r] == 0;
+    }
     let a = p + 1;
-    let e = a + 2 * store::includes_in(mem[p]);
-    let n = mem[r] as usize;
-    let mut at = r + 2;
-    let mut i = 0;
-    while i < n {
+    let e = a + 2 * includes;
+    let end = r + store::slot_length(mem, r);
+    let mut last = start_of(mem[a]);
+    let mut at = next_covering(mem, r + 2, end, last, last);
+    while at < end {
         let header = mem[at];
         let from = at + 1;
         let to = from + 2 * store::includes_in(header);
-        if !reaches_beyond(&mem[a..e], &mem[from..to]) {
+        let found = find_beyond(&mem[a..e], &mem[from..to]);
+        let Found::At(q) = found else {
             return false;
-        }
-        at += store::match_length(header);
-        i += 1;
+        };
+        at = next_covering(mem, at + store::match_length(header), end, q, last);
+        last = q;
     }
     true
 }

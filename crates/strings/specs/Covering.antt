@@ -1,10 +1,12 @@
 -- Runs of covered positions, gone through string by string.
-use Prim.Native.Nat.{ℕ, _+_}
+use Prim.Native.Nat.{ℕ, _+_, _≤_}
 use mathlib.Core.Bool.{Bool, true, false, not, _&&_, _||_, cond}
 use mathlib.Core.List.{List, [], _∷_}
-use Rattle.model.specs.Lists.{keep}
+use mathlib.Core.Path.{_≡_}
+use lib.Dec.{ltb}
+use Rattle.model.specs.Lists.{allOf, fromTo, keep}
 use Rattle.model.specs.Matches.{Str}
-use Rattle.model.specs.Rules.{covers}
+use Rattle.model.specs.Rules.{covered, covers}
 
 -- all strings, or only the contiguous ones
 abbrev pub chosen : Bool → List Str → List Str
@@ -23,3 +25,9 @@ passed only p s = cond (isChosen only s && covers s p) (s .end + 1) p
 unfoldable pub advanced : ℕ → List Str → ℕ
 advanced p [] = p
 advanced p (s ∷ ss) = advanced (passed false p s) ss
+
+-- p is where the run from `from` to `to` stops being covered by ss: its first position that isn't, or one behind it
+pub record RunEnd (ss : List Str) (from to p : ℕ) : Type 0 where
+  pub not-before : from ≤ p
+  pub uncovered : p ≤ to → covered ss p ≡ false
+  pub same : allOf (covered ss) (fromTo from to) ≡ ltb to p

@@ -7,7 +7,7 @@ ghost use mathlib.Core.Path.{_≡_};
 ghost use Rattle.model.specs.Lists.{allOf, fromTo};
 ghost use Rattle.model.specs.Rules.{covered, covers};
 ghost use Rattle.strings.specs.Strings.{strOf, strsAt};
-ghost use Rattle.strings.specs.Covering.{advanced, chosen, isChosen, passed};
+ghost use Rattle.strings.specs.Covering.{advanced, chosen, isChosen, passed, RunEnd};
 
 // Does a string of this span cover a position?
 fn covers(span: u32, p: u32) -> bool
@@ -69,17 +69,24 @@ pub fn advance(strs: &[u32], p: u32, only_contiguous: bool) -> u32
     at
 }
 
-// "every position in it is covered"; with `only_contiguous`, "by some contiguous include"
-pub fn run_covered(strs: &[u32], from: u32, to: u32, only_contiguous: bool) -> bool
-    ensures { λ r. ⌜ r ≡ allOf (covered (chosen «only_contiguous» (strsAt (now (strs .entry))))) (fromTo from to) ⌝ }
+// Where a run of positions stops being covered: at the first that no chosen string covers, or behind its last.
+pub fn run_end(strs: &[u32], from: u32, to: u32, only_contiguous: bool) -> u32
+    ensures { λ r. ⌜ RunEnd (chosen «only_contiguous» (strsAt (now (strs .entry)))) from to r ⌝ }
 {
     let mut p = from;
     while p <= to {
         let next = advance(strs, p, only_contiguous);
         if next == p {
-            return false;
+            return p;
         }
         p = next;
     }
-    true
+    p
+}
+
+// "every position in it is covered"; with `only_contiguous`, "by some contiguous include"
+pub fn run_covered(strs: &[u32], from: u32, to: u32, only_contiguous: bool) -> bool
+    ensures { λ r. ⌜ r ≡ allOf (covered (chosen «only_contiguous» (strsAt (now (strs .entry))))) (fromTo from to) ⌝ }
+{
+    to < run_end(strs, from, to, only_contiguous)
 }

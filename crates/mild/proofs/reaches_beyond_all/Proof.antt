@@ -1,29 +1,23 @@
--- Invariant: against the matches of R that are left, the match of L decides as against all. Measure: the matches left. The two parts lent are the includes
--- of the two matches in hand.
+-- Invariant: against the matches of R from `at` on, the match of L decides as against all, and its includes cover the last position found. Measure: the numbers
+-- left. The matches passed over don't cover both, and the search decides for the one in hand.
 use borrow.Author.Needs.{needs}
 use Prim.Native.Nat.{_-_, _≤_}
 use native.Mathlib.Omega.{arith}
-use mathlib.Core.Path.{refl}
-use borrow.Author.Tests.{not-true, not-false}
 use Rattle.store.specs.Stream.{Header}
-use Rattle.store.proofs.Walking.{next}
 use Rattle.mild.specs.Beyond.{LeftAt}
-use Rattle.mild.proofs.Reaching.{Seeking, seek, stopped, passed, sought}
+use Rattle.mild.proofs.Reaching.{Seeking, rest-next, rest-after, without-includes, rights-rest, seek, stopped, passed, sought}
 use Rattle.mild.proofs.reaches_beyond_all.Statement.{statement}
 use Rattle.mild.proofs.reaches_beyond_all.Tie as tie
 
 abbrev Inv-loop : tie.InvT-loop
-Inv-loop mem p r a e n at₀ i₀ at i = (i ≤ n) × ((w : LeftAt mem p r) → Seeking (w .item) (w .rights) mem at i n)
+Inv-loop mem p r includes a e end last₀ at₀ last at = (w : LeftAt mem p r) → Seeking (w .item) (w .rights) mem at end last
 
 abbrev μ-loop : tie.MeasureT-loop
-μ-loop mem p r a e n at₀ i₀ at i = n - i
+μ-loop mem p r includes a e end last₀ at₀ last at = end - at
 
 -- the header of the match of R in hand
-one : (c : tie.In-loop Inv-loop μ-loop) → Header (c .before .before .before .before .before .before .args .mem .now) (c .before .loop .at)
-one c = next (c .before .loop .inv .1 (c .before .before .before .before .before .before .pre) .left) (c .loop-test .taken) .held .header
-
-add-a : tie.Need-add-a Inv-loop μ-loop
-add-a c = search needs
+one : (c : tie.In-loop Inv-loop μ-loop) → Header (c .before .before .before .before .before .before .before .before .before .before .args .mem .now) (c .before .loop .at)
+one c = rest-next (c .before .loop .inv (c .before .before .before .before .before .before .before .before .before .before .pre) .rest) (c .loop-test .taken) .held .header
 
 mul-includes-in : tie.Need-mul-includes-in Inv-loop μ-loop
 mul-includes-in c = search needs
@@ -34,26 +28,55 @@ shared-slice-read-includes-in c = search needs
 includes-in-requires : tie.Need-includes-in-requires Inv-loop μ-loop
 includes-in-requires c κs = search needs
 
+mul-result : tie.Need-mul-result Inv-loop μ-loop
+mul-result c = search needs
+
+shared-slice-read-result : tie.Need-shared-slice-read-result Inv-loop μ-loop
+shared-slice-read-result c = search needs
+
+returns : tie.Need-returns Inv-loop μ-loop
+returns c w = without-includes w (c .before .before .includes-in .ensures) (c .before .if1 .taken)
+
+add-a : tie.Need-add-a Inv-loop μ-loop
+add-a c = search needs
+
 mul-e : tie.Need-mul-e Inv-loop μ-loop
 mul-e c = search needs
 
 add-e : tie.Need-add-e Inv-loop μ-loop
 add-e c = search needs
 
-mul-n : tie.Need-mul-n Inv-loop μ-loop
-mul-n c = search needs
+slot-length-requires : tie.Need-slot-length-requires Inv-loop μ-loop
+slot-length-requires c κs = search needs
 
-shared-slice-read-n : tie.Need-shared-slice-read-n Inv-loop μ-loop
-shared-slice-read-n c = search needs
+add-end : tie.Need-add-end Inv-loop μ-loop
+add-end c = search needs
 
-cast-n : tie.Need-cast-n Inv-loop μ-loop
-cast-n c = search needs
+mul-start-of : tie.Need-mul-start-of Inv-loop μ-loop
+mul-start-of c = search needs
 
-add-at : tie.Need-add-at Inv-loop μ-loop
-add-at c = search needs
+shared-slice-read-start-of : tie.Need-shared-slice-read-start-of Inv-loop μ-loop
+shared-slice-read-start-of c = search needs
+
+start-of-requires : tie.Need-start-of-requires Inv-loop μ-loop
+start-of-requires c κs = search needs
+
+add-next-covering : tie.Need-add-next-covering Inv-loop μ-loop
+add-next-covering c = search needs
+
+next-covering-requires : tie.Need-next-covering-requires Inv-loop μ-loop
+next-covering-requires c κs =
+    let k = c .before .before in
+    let w = k .before .before .before .before .before .pre in
+    record { todo = w .rights; rest = rights-rest w (omega (arith, k .slot-length .ensures)) }
 
 loop-holds : tie.Need-loop-holds Inv-loop μ-loop
-loop-holds c = (search needs, λ w. seek w _ _ refl refl)
+loop-holds c = λ w.
+    let s = c .before in
+    let k = s .before .before in
+    let i = k .before .before in
+    seek w (i .includes-in .ensures) (k .before .if1 .left) (s .start-of .ensures)
+    (c .next-covering .ensures .1 (record { todo = w .rights; rest = rights-rest w (omega (arith, k .slot-length .ensures)) }))
 
 mul-header : tie.Need-mul-header Inv-loop μ-loop
 mul-header c = omega (arith, one c)
@@ -73,68 +96,79 @@ mul-to c = omega (arith, one (c .before .before))
 add-to : tie.Need-add-to Inv-loop μ-loop
 add-to c = omega (arith, one (c .before .before))
 
-mul-reaches-beyond : tie.Need-mul-reaches-beyond Inv-loop μ-loop
-mul-reaches-beyond c = search needs
+mul-find-beyond : tie.Need-mul-find-beyond Inv-loop μ-loop
+mul-find-beyond c = search needs
 
-sub-reaches-beyond : tie.Need-sub-reaches-beyond Inv-loop μ-loop
-sub-reaches-beyond c = search needs
+sub-find-beyond : tie.Need-sub-find-beyond Inv-loop μ-loop
+sub-find-beyond c = search needs
 
-part-reaches-beyond-start : tie.Need-part-reaches-beyond-start Inv-loop μ-loop
-part-reaches-beyond-start c = search needs
+part-find-beyond-start : tie.Need-part-find-beyond-start Inv-loop μ-loop
+part-find-beyond-start c = search needs
 
-part-reaches-beyond-end : tie.Need-part-reaches-beyond-end Inv-loop μ-loop
-part-reaches-beyond-end c = search needs
+part-find-beyond-end : tie.Need-part-find-beyond-end Inv-loop μ-loop
+part-find-beyond-end c = search needs
 
-mul-reaches-beyond-2 : tie.Need-mul-reaches-beyond-2 Inv-loop μ-loop
-mul-reaches-beyond-2 c = omega (arith, one (c .before .before .before))
+mul-find-beyond-2 : tie.Need-mul-find-beyond-2 Inv-loop μ-loop
+mul-find-beyond-2 c = omega (arith, one (c .before .before .before))
 
-sub-reaches-beyond-2 : tie.Need-sub-reaches-beyond-2 Inv-loop μ-loop
-sub-reaches-beyond-2 c = omega (arith, one (c .before .before .before))
+sub-find-beyond-2 : tie.Need-sub-find-beyond-2 Inv-loop μ-loop
+sub-find-beyond-2 c = omega (arith, one (c .before .before .before))
 
-part-reaches-beyond-start-2 : tie.Need-part-reaches-beyond-start-2 Inv-loop μ-loop
-part-reaches-beyond-start-2 c = omega (arith, one (c .before .before .before))
+part-find-beyond-start-2 : tie.Need-part-find-beyond-start-2 Inv-loop μ-loop
+part-find-beyond-start-2 c = omega (arith, one (c .before .before .before))
 
-part-reaches-beyond-end-2 : tie.Need-part-reaches-beyond-end-2 Inv-loop μ-loop
-part-reaches-beyond-end-2 c = omega (arith, one (c .before .before .before))
+part-find-beyond-end-2 : tie.Need-part-find-beyond-end-2 Inv-loop μ-loop
+part-find-beyond-end-2 c = omega (arith, one (c .before .before .before))
 
-reaches-beyond-requires : tie.Need-reaches-beyond-requires Inv-loop μ-loop
-reaches-beyond-requires c κs = search needs
+find-beyond-requires : tie.Need-find-beyond-requires Inv-loop μ-loop
+find-beyond-requires c κs = search needs
 
-returns : tie.Need-returns Inv-loop μ-loop
-returns c w =
-    let k = c .before in
+enum-known-found : tie.Need-enum-known-found Inv-loop μ-loop
+enum-known-found c = search needs
+
+enum-told : tie.Need-enum-told Inv-loop μ-loop
+enum-told c = search needs
+
+returns-2 : tie.Need-returns-2 Inv-loop μ-loop
+returns-2 c w =
+    let k = c .before .before in
     let x = k .before .before .before in
     let t = x .before .before in
-    let i = t .before .before .before in
-    stopped w (t .before .loop .inv .1 w) (t .loop-test .taken) (i .includes-in .ensures) (x .includes-in2 .ensures) (k .reaches-beyond .ensures)
-    (not-true _ (c .if1 .taken))
+    let i = t .before .before .before .before .before .before .before in
+    stopped w (t .before .loop .inv w) (t .loop-test .taken) (k .find-beyond .result) (i .includes-in .ensures) (x .includes-in2 .ensures) (k .find-beyond .ensures)
+    (c .enum-told .given .1)
 
 match-length-requires : tie.Need-match-length-requires Inv-loop μ-loop
 match-length-requires c κs = search needs
 
-add-at-2 : tie.Need-add-at-2 Inv-loop μ-loop
-add-at-2 c = omega (arith, one (c .before .before .before .before .before .before .before))
+add-next-covering-2 : tie.Need-add-next-covering-2 Inv-loop μ-loop
+add-next-covering-2 c = omega (arith, one (c .before .before .before .before .before .before .before .before .before))
 
-add-i : tie.Need-add-i Inv-loop μ-loop
-add-i c = search needs
+next-covering-requires-2 : tie.Need-next-covering-requires-2 Inv-loop μ-loop
+next-covering-requires-2 c κs =
+    let t = c .before .before .before .before .before .before .before .before .before in
+    let g = t .before .loop .inv (t .before .before .before .before .before .before .before .before .before .before .pre) in
+    record { todo = _; rest = rest-after (g .rest) (t .loop-test .taken) (c .match-length .ensures) }
 
 loop-less : tie.Need-loop-less Inv-loop μ-loop
-loop-less c = search needs
+loop-less c =
+    let m = c .before in
+    omega (arith, c .next-covering2 .ensures .0, m .match-length .ensures, m .before .before .before .before .before .before .before .before .before .loop-test .taken)
 
 loop-again : tie.Need-loop-again Inv-loop μ-loop
-loop-again c =
-    let k = c .before .before in
+loop-again c = λ w.
+    let m = c .before in
+    let k = m .before .before .before .before in
     let x = k .before .before .before in
     let t = x .before .before in
-    let i = t .before .before .before in (
-      search needs,
-      λ w.
-          passed w (t .before .loop .inv .1 w) (t .loop-test .taken) (i .includes-in .ensures) (x .includes-in2 .ensures) (k .reaches-beyond .ensures)
-          (not-false _ (c .before .if1 .left)) (c .match-length .ensures),
-    )
+    let i = t .before .before .before .before .before .before .before in
+    let g = t .before .loop .inv w in
+    passed w g (t .loop-test .taken) (k .find-beyond .result) (i .includes-in .ensures) (x .includes-in2 .ensures) (k .find-beyond .ensures)
+    (m .before .before .found .given .1)
+    (c .next-covering2 .ensures .1 (record { todo = _; rest = rest-after (g .rest) (t .loop-test .taken) (m .match-length .ensures) }))
 
-returns-2 : tie.Need-returns-2 Inv-loop μ-loop
-returns-2 c w = sought w (c .before .loop .inv .1 w) (c .loop-test .left)
+returns-3 : tie.Need-returns-3 Inv-loop μ-loop
+returns-3 c w = sought w (c .before .loop .inv w) (c .loop-test .left)
 
 pub reaches-beyond-all-spec : {M : Type 1} → statement M
 reaches-beyond-all-spec =
@@ -142,16 +176,22 @@ reaches-beyond-all-spec =
     (tie.spec
     Inv-loop
     μ-loop
-    add-a
     mul-includes-in
     shared-slice-read-includes-in
     includes-in-requires
+    mul-result
+    shared-slice-read-result
+    returns
+    add-a
     mul-e
     add-e
-    mul-n
-    shared-slice-read-n
-    cast-n
-    add-at
+    slot-length-requires
+    add-end
+    mul-start-of
+    shared-slice-read-start-of
+    start-of-requires
+    add-next-covering
+    next-covering-requires
     loop-holds
     mul-header
     shared-slice-read-header
@@ -159,19 +199,21 @@ reaches-beyond-all-spec =
     includes-in-requires-2
     mul-to
     add-to
-    mul-reaches-beyond
-    sub-reaches-beyond
-    part-reaches-beyond-start
-    part-reaches-beyond-end
-    mul-reaches-beyond-2
-    sub-reaches-beyond-2
-    part-reaches-beyond-start-2
-    part-reaches-beyond-end-2
-    reaches-beyond-requires
-    returns
+    mul-find-beyond
+    sub-find-beyond
+    part-find-beyond-start
+    part-find-beyond-end
+    mul-find-beyond-2
+    sub-find-beyond-2
+    part-find-beyond-start-2
+    part-find-beyond-end-2
+    find-beyond-requires
+    enum-known-found
+    enum-told
+    returns-2
     match-length-requires
-    add-at-2
-    add-i
+    add-next-covering-2
+    next-covering-requires-2
     loop-less
     loop-again
-    returns-2)
+    returns-3)

@@ -1,4 +1,4 @@
--- Invariant: the words from number i on stand at p + i exactly where all stand at p. Measure: the words left.
+-- Invariant: the words from number i on stand at p + i exactly where all stand at p. Measure: the words left. More words than tokens stand nowhere.
 use Prim.Native.Nat.{_+_, _-_, _≤_}
 use native.Mathlib.Omega.{arith}
 use borrow.Author.Needs.{needs}
@@ -11,7 +11,7 @@ use Rattle.combine.proofs.phrase.stands_at.Statement.{statement}
 use Rattle.combine.proofs.phrase.stands_at.Tie as tie
 
 abbrev Inv-loop : tie.InvT-loop
-Inv-loop section words p n i₀ i = (p + i ≤ n + 1) × (standFrom (sectionOf section) (drop i words) (p + i) ≡ standFrom (sectionOf section) words p)
+Inv-loop section words p n i₀ i = (i ≤ length words) × (standFrom (sectionOf section) (drop i words) (p + i) ≡ standFrom (sectionOf section) words p)
 
 abbrev μ-loop : tie.MeasureT-loop
 μ-loop section words p n i₀ i = length words - i
@@ -22,20 +22,22 @@ shared-slice-read-n c = search needs
 cast-n : tie.Need-cast-n Inv-loop μ-loop
 cast-n c = search needs
 
-loop-holds : tie.Need-loop-holds Inv-loop μ-loop
-loop-holds c =
-    let a = c .before .args in
-    let e : a .p + 0 ≡ a .p = omega arith in
-    (omega arith, ap (standFrom (sectionOf (a .section .now)) (a .words .now)) e)
-
 add-if1 : tie.Need-add-if1 Inv-loop μ-loop
 add-if1 c = search needs
 
+add-if1-2 : tie.Need-add-if1-2 Inv-loop μ-loop
+add-if1-2 c = search needs
+
 returns : tie.Need-returns Inv-loop μ-loop
 returns c =
-    let l = c .before .before in
-    let a = l .before .before .args in
-    stands-beyond (sectionOf (a .section .now)) (a .words .now) (l .loop .i) (a .p + l .loop .i) (c .before .loop-test .taken) (c .if1 .taken) ∙ l .loop .inv .1
+    let a = c .before .before .args in
+    stands-beyond (sectionOf (a .section .now)) (a .words .now) (a .p) (omega arith) (c .if1 .taken)
+
+loop-holds : tie.Need-loop-holds Inv-loop μ-loop
+loop-holds c =
+    let a = c .before .before .args in
+    let e : a .p + 0 ≡ a .p = omega arith in
+    (omega arith, ap (standFrom (sectionOf (a .section .now)) (a .words .now)) e)
 
 add-if2 : tie.Need-add-if2 Inv-loop μ-loop
 add-if2 c = search needs
@@ -55,10 +57,9 @@ shared-slice-read-if2-2 c = search needs
 returns-2 : tie.Need-returns-2 Inv-loop μ-loop
 returns-2 c =
     let t = c .before .before .before in
-    let l = t .before .before in
-    let a = l .before .before .args in
-    let s = sectionOf (a .section .now) in
-    stands-not s (a .words .now) (l .loop .i) (a .p + l .loop .i) (t .before .loop-test .taken) (t .if1 .left) (c .if2 .taken) ∙ l .loop .inv .1
+    let l = t .before in
+    let a = l .before .before .before .args in
+    stands-not (sectionOf (a .section .now)) (a .words .now) (l .loop .i) (a .p + l .loop .i) (t .loop-test .taken) (omega arith) (c .if2 .taken) ∙ l .loop .inv .1
 
 add-i : tie.Need-add-i Inv-loop μ-loop
 add-i c = search needs
@@ -69,15 +70,15 @@ loop-less c = search needs
 loop-again : tie.Need-loop-again Inv-loop μ-loop
 loop-again c =
     let t = c .before .before .before in
-    let l = t .before .before in
-    let a = l .before .before .args in
-    let on = stands-on (sectionOf (a .section .now)) (a .words .now) (l .loop .i) (a .p + l .loop .i) (t .before .loop-test .taken) (t .if1 .left) (c .if2 .left) in
+    let l = t .before in
+    let a = l .before .before .before .args in
+    let on = stands-on (sectionOf (a .section .now)) (a .words .now) (l .loop .i) (a .p + l .loop .i) (t .loop-test .taken) (omega arith) (c .if2 .left) in
     (omega arith, on _ (omega arith) ∙ l .loop .inv .1)
 
 returns-3 : tie.Need-returns-3 Inv-loop μ-loop
 returns-3 c =
     let l = c .before in
-    let a = l .before .before .args in
+    let a = l .before .before .before .args in
     stands-all (sectionOf (a .section .now)) (a .words .now) (l .loop .i) (a .p + l .loop .i) (c .loop-test .left) ∙ l .loop .inv .1
 
 pub stands-at-spec : {M : Type 1} → statement M
@@ -88,9 +89,10 @@ stands-at-spec =
     μ-loop
     shared-slice-read-n
     cast-n
-    loop-holds
     add-if1
+    add-if1-2
     returns
+    loop-holds
     add-if2
     mul-if2
     shared-slice-read-if2

@@ -1,59 +1,14 @@
--- Invariant: the run from p on is covered just where the whole run is. Measure: the positions left, as a pass that goes on moves p up. A pass moves p over
--- covered positions only, and leaves it where no string covers it (CoveringLaws).
-use Prim.Native.Nat.{_-_, _+_}
-use native.Mathlib.Omega.{arith}
-use mathlib.Core.List.{List}
-use mathlib.Core.Path.{_≡_, refl, ap, sym, _∙_}
+-- A run is covered just where it stops being so behind its last position.
 use borrow.Author.Needs.{needs}
-use Rattle.model.specs.Lists.{allOf, fromTo}
-use Rattle.model.specs.Matches.{Str}
-use Rattle.model.specs.Rules.{covered}
-use Rattle.strings.specs.Covering.{chosen}
-use Rattle.strings.specs.Strings.{strsAt}
-use Rattle.strings.proofs.CoveringLaws.{all-range-empty, all-range-false, advanced-up, advanced-stuck, covered-advanced}
+use mathlib.Core.Path.{sym}
 use Rattle.strings.proofs.covering.run_covered.Statement.{statement}
 use Rattle.strings.proofs.covering.run_covered.Tie as tie
 
-abbrev Inv-loop : tie.InvT-loop
-Inv-loop strs from to only-contiguous p₀ p =
-    allOf (covered (chosen only-contiguous (strsAt strs))) (fromTo from to) ≡ allOf (covered (chosen only-contiguous (strsAt strs))) (fromTo p to)
+run-end-requires : tie.Need-run-end-requires
+run-end-requires c κs = search needs
 
-abbrev μ-loop : tie.MeasureT-loop
-μ-loop strs from to only-contiguous p₀ p = to + 1 - p
-
-loop-holds : tie.Need-loop-holds Inv-loop μ-loop
-loop-holds c = refl
-
-advance-requires : tie.Need-advance-requires Inv-loop μ-loop
-advance-requires c κs = search needs
-
-returns : tie.Need-returns Inv-loop μ-loop
-returns c =
-    let l = c .before .before .before in
-    let a = l .before .before .args in
-    let ss : List Str = chosen (a .only-contiguous) (strsAt (a .strs .now)) in
-    sym (l .loop .inv ∙ all-range-false (covered ss) _ _ (c .before .before .loop-test .taken) (advanced-stuck _ ss (sym (c .before .advance .ensures) ∙ c .if1 .taken)))
-
-loop-less : tie.Need-loop-less Inv-loop μ-loop
-loop-less c =
-    let l = c .before .before .before in
-    let a = l .before .before .args in
-    let up = advanced-up (l .loop .p) (chosen (a .only-contiguous) (strsAt (a .strs .now))) in
-    omega arith
-
-loop-again : tie.Need-loop-again Inv-loop μ-loop
-loop-again c =
-    let l = c .before .before .before in
-    let a = l .before .before .args in
-    let ss : List Str = chosen (a .only-contiguous) (strsAt (a .strs .now)) in
-    l .loop .inv ∙ covered-advanced ss _ _ ∙ ap (λ k. allOf (covered ss) (fromTo k (a .to))) (sym (c .before .advance .ensures))
-
-returns-2 : tie.Need-returns-2 Inv-loop μ-loop
-returns-2 c =
-    let a = c .before .before .before .args in
-    sym (c .before .loop .inv ∙ all-range-empty (covered (chosen (a .only-contiguous) (strsAt (a .strs .now)))) _ _ (c .loop-test .left))
+returns : tie.Need-returns
+returns c = sym (c .run-end .ensures .same)
 
 pub run-covered-spec : {M : Type 1} → statement M
-run-covered-spec =
-    tie.close
-    (tie.spec Inv-loop μ-loop loop-holds advance-requires returns loop-less loop-again returns-2)
+run-covered-spec = tie.close (tie.spec run-end-requires returns)
