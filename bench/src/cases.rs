@@ -43,6 +43,7 @@ pub fn all() -> Vec<Case> {
         case("phrase of two, 4,096 tokens", &long, "2-3"),
         case("absent phrase of eight, 4,096 tokens", &long, "2-3-2-3-2-3-2-9"),
         case("absent phrase of eight over equal tokens", &notation::section("1*4096"), "1-1-1-1-1-1-1-9"),
+        case("the same, the fifth word absent", &notation::section("1*4096"), "1-1-1-1-9-1-1-1"),
         case("64 codes, 4,096 tokens", &long, &format!("1 {}not not", "1 and ".repeat(20))),
     ];
     // 256 matches of two strings, and what is made of them

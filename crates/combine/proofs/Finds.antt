@@ -1,13 +1,13 @@
 -- Phrase: words stand in a row where the first does and the rest stand behind it; the starts from a position on are those from the next start on; and the
 -- finds put one behind the other are the phrase's list.
-use Prim.Native.Nat.{ℕ, suc, _+_, _-_, _*_, _≤_, _<_}
+use Prim.Native.Nat.{ℕ, zero, suc, _+_, _-_, _*_, _≤_, _<_}
 use native.Mathlib.Numerals.{add-one}
 use native.Mathlib.Omega.{arith}
 use mathlib.Core.Path.{_≡_, refl, sym, ap, _∙_, subst}
-use mathlib.Core.Bool.{Bool, true, false, not, _&&_, and-false}
+use mathlib.Core.Bool.{Bool, true, false, not, _&&_, and-false, true≢false}
 use mathlib.Core.List.{List, [], _∷_, flatMap}
 use mathlib.Core.Logic.{inl}
-use borrow.Author.Tests.{leb-true, leb-false, le-leb, eq-eqb, ne-eqb}
+use borrow.Author.Tests.{leb-true, leb-false, le-leb, lt-leb, eq-eqb, ne-eqb, not-true}
 use lib.Dec.{leb, eqb}
 use lib.ListN.{length, drop, getD, set, drop-of-length-le, length-map}
 use lib.Seq.{sets, drop-cons}
@@ -26,7 +26,7 @@ use Rattle.store.specs.Put.{Put}
 use Rattle.store.proofs.LayoutLaws.{length-match, matches-map}
 use Rattle.store.proofs.Rows.{Rows, rows-start, rows-step, rows-finish}
 use Rattle.store.proofs.Slots.{built-made, built-long, refused, filled}
-use Rattle.combine.specs.Finding.{startsFrom, NextStart}
+use Rattle.combine.specs.Finding.{startsFrom, Misplaced, NextStart}
 
 -- ---- standFrom
 
@@ -59,6 +59,26 @@ module _ (s : Section) (words : List ℕ) (i p : ℕ) where
       -- the word stands there
       pub stands-on : s .word p ≡ getD words i 0 → (q : ℕ) → q ≡ p + 1 → standFrom s (drop (i + 1) words) q ≡ standFrom s (drop i words) p
       stands-on e q f = ap (standFrom s (drop (i + 1) words)) f ∙ sym (stands-more ∙ rw (le-leb p (s .tokens) k, eq-eqb (s .word p) (getD words i 0) e))
+
+-- a row whose rest doesn't stand doesn't stand
+pub stands-rest : (s : Section) (words : List ℕ) (i p : ℕ) → standFrom s (drop i words) (p + i) ≡ false → standFrom s words p ≡ false
+unfolding standFrom
+stands-rest s words zero p e = let same : p + 0 ≡ p = omega arith in ap (standFrom s words) (sym same) ∙ e
+stands-rest s [] (suc i) p e = e
+stands-rest s (w ∷ ws) (suc i) p e =
+    let next : p + suc i ≡ p + 1 + i = omega arith in
+    let later = stands-rest s ws i (p + 1) (ap (standFrom s (drop i ws)) (sym next) ∙ e) in
+    rw later (and-false (leb p (s .tokens) && eqb (s .word p) w))
+
+-- a word that isn't in its place, and what it says of the row
+pub misplaced : (s : Section) (words : List ℕ) (p i : ℕ) → i < length words → p + length words ≤ s .tokens + 1 → not (eqb (s .word (p + i)) (getD words i 0)) ≡ true
+    → Misplaced s words p i
+misplaced s words p i h k e =
+    let other : s .word (p + i) ≡ getD words i 0 → ⊥ = λ z. true≢false (sym (eq-eqb (s .word (p + i)) (getD words i 0) z) ∙ not-true (eqb (s .word (p + i)) (getD words i 0)) e) in
+    record { is-word = h; stands-not = stands-rest s words i p (sym (stands-not s words i (p + i) h (omega arith) other)) }
+
+pub says-not : (s : Section) (words : List ℕ) (p i : ℕ) → i < length words → standFrom s words p ≡ false → leb (length words) i ≡ standFrom s words p
+says-not s words p i h e = lt-leb (length words) i h ∙ sym e
 
 -- ---- startsFrom
 

@@ -1,17 +1,28 @@
 -- Where the words of a phrase stand in a row.
-use Prim.Native.Nat.{ℕ, _+_, _≤_}
-use mathlib.Core.Bool.{true}
+use Prim.Native.Nat.{ℕ, _+_, _≤_, _<_}
+use mathlib.Core.Bool.{true, false}
 use mathlib.Core.List.{List}
 use mathlib.Core.Path.{_≡_}
-use Rattle.model.specs.Accepted.{maxPhrases}
+use lib.ListN.{length}
+use Rattle.model.specs.Accepted.{AcceptedSection, maxPhrases}
 use Rattle.model.specs.Limits.{maxTokens, maxWaiting}
 use Rattle.model.specs.Lists.{keep, fromTo}
 use Rattle.model.specs.Rules.{standFrom}
-use Rattle.model.specs.Section.{Section}
+use Rattle.model.specs.Section.{Section, size}
 
 -- the starts from p on, ascending
 unfoldable pub startsFrom : Section → List ℕ → ℕ → List ℕ
 startsFrom s words p = keep (standFrom s words) (fromTo p (s .tokens))
+
+-- a row of the words from p on lies within an accepted section
+pub record RowWithin (section words : List ℕ) (p : ℕ) : Type 0 where
+  pub accepted : AcceptedSection section
+  pub from-p : p + length words ≤ size section + 1
+
+-- the word number i doesn't stand in its place in a row from p on
+pub record Misplaced (s : Section) (words : List ℕ) (p i : ℕ) : Type 0 where
+  pub is-word : i < length words
+  pub stands-not : standFrom s words p ≡ false
 
 -- p is the first start from `from` on, or the position behind the last one
 pub record NextStart (s : Section) (words : List ℕ) (from p : ℕ) : Type 0 where

@@ -2,9 +2,10 @@
 use model::MAX_MATCHES;
 use model::RADIX;
 use store::Built;
-ghost use mathlib.Core.Bool.{not};
+ghost use mathlib.Core.Bool.{not, true};
 ghost use mathlib.Core.Path.{_≡_};
 ghost use Prim.Native.Nat.{ℕ, _+_, _≤_};
+ghost use lib.Dec.{leb};
 ghost use lib.ListN.{length};
 ghost use Rattle.model.specs.Accepted.{AcceptedSection, maxPhrases};
 ghost use Rattle.model.specs.Limits.{maxWaiting};
@@ -14,26 +15,41 @@ ghost use Rattle.model.specs.Section.{sectionOf, size};
 ghost use Rattle.store.specs.Layout.{matchNumbers, slotSize};
 ghost use Rattle.store.specs.Outcome.{Outcome};
 ghost use Rattle.store.specs.Put.{Put};
-ghost use Rattle.combine.specs.Finding.{Findable, NextStart};
+ghost use Rattle.combine.specs.Finding.{Findable, Misplaced, NextStart, RowWithin};
 
-// Do the words stand in a row from position p on?
-pub fn stands_at(section: &[u32], words: &[u32], p: usize) -> bool
+// Is the token where the word number i would stand, in a row from position p on, another one? Words are counted from 0; there may be no such word.
+fn is_other(section: &[u32], words: &[u32], p: usize, i: usize) -> bool
+    requires { ⌜ RowWithin (now section) (now words) p ⌝ }
+    ensures { λ r. ⌜ (r ≡ true → Misplaced (sectionOf (now (section .entry))) (now (words .entry)) p i) ⌝ }
+{
+    if words.len() <= i {
+        return false;
+    }
+    section[p + i] != words[i]
+}
+
+// The number of a word that doesn't stand in its place in a row from position p on, or how many words there are where all do. The word that didn't at
+// another start is tried first.
+fn misplaced_word(section: &[u32], words: &[u32], p: usize, first: usize) -> usize
     requires { ⌜ AcceptedSection (now section) ⌝ }
     requires { ⌜ p ≤ size (now section) + 1 ⌝ }
-    ensures { λ r. ⌜ r ≡ standFrom (sectionOf (now (section .entry))) (now (words .entry)) p ⌝ }
+    ensures { λ r. ⌜ leb (length (now (words .entry))) r ≡ standFrom (sectionOf (now (section .entry))) (now (words .entry)) p ⌝ }
 {
     let n = section[0] as usize;
     if n + 1 < p + words.len() {
-        return false;
+        return 0;
+    }
+    if is_other(section, words, p, first) {
+        return first;
     }
     let mut i = 0;
     while i < words.len() {
         if section[p + i] != words[i] {
-            return false;
+            return i;
         }
         i += 1;
     }
-    true
+    i
 }
 
 // The first start from `from` on, or the position behind the last one.
@@ -44,8 +60,10 @@ fn next_start(section: &[u32], words: &[u32], from: usize) -> usize
 {
     let n = section[0] as usize;
     let mut p = from;
+    let mut misplaced = 0;
     while p <= n {
-        if stands_at(section, words, p) {
+        misplaced = misplaced_word(section, words, p, misplaced);
+        if words.len() <= misplaced {
             return p;
         }
         p += 1;

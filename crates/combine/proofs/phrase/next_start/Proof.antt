@@ -1,19 +1,20 @@
 -- Invariant: the starts from p on are those from the beginning on. Measure: the positions left.
-use Prim.Native.Nat.{_+_, _-_, _≤_}
-use native.Mathlib.Omega.{arith}
-use borrow.Author.Needs.{needs}
-use mathlib.Core.Path.{_≡_, refl, sym, _∙_}
-use Rattle.model.specs.Section.{sectionOf}
-use Rattle.combine.specs.Finding.{startsFrom}
 use Rattle.combine.proofs.Finds.{starts-later}
+use Rattle.combine.specs.Finding.{startsFrom}
+use Rattle.model.specs.Section.{sectionOf}
+use borrow.Author.Tests.{le-leb, lt-leb}
+use mathlib.Core.Path.{_≡_, refl, sym, _∙_}
+use native.Mathlib.Omega.{arith}
+use Prim.Native.Nat.{_+_, _-_, _≤_}
+use borrow.Author.Needs.{needs}
 use Rattle.combine.proofs.phrase.next_start.Statement.{statement}
 use Rattle.combine.proofs.phrase.next_start.Tie as tie
 
 abbrev Inv-loop : tie.InvT-loop
-Inv-loop section words from n p₀ p = (from ≤ p) × (p ≤ n + 1) × (startsFrom (sectionOf section) words from ≡ startsFrom (sectionOf section) words p)
+Inv-loop section words from n p₀ misplaced₀ p misplaced = (from ≤ p) × (p ≤ n + 1) × (startsFrom (sectionOf section) words from ≡ startsFrom (sectionOf section) words p)
 
 abbrev μ-loop : tie.MeasureT-loop
-μ-loop section words from n p₀ p = n + 1 - p
+μ-loop section words from n p₀ misplaced₀ p misplaced = n + 1 - p
 
 shared-slice-read-n : tie.Need-shared-slice-read-n Inv-loop μ-loop
 shared-slice-read-n c = search needs
@@ -24,13 +25,13 @@ cast-n c = search needs
 loop-holds : tie.Need-loop-holds Inv-loop μ-loop
 loop-holds c = (omega arith, omega arith, refl)
 
-stands-at-requires : tie.Need-stands-at-requires Inv-loop μ-loop
-stands-at-requires c κs = search needs
+misplaced-word-requires : tie.Need-misplaced-word-requires Inv-loop μ-loop
+misplaced-word-requires c κs = search needs
 
 returns : tie.Need-returns Inv-loop μ-loop
-returns c =
-    let l = c .before .before .before in
-    record { not-before = l .loop .inv .0; up-to = l .loop .inv .1; stands = λ h. sym (c .before .stands-at .ensures) ∙ c .if1 .taken; same = l .loop .inv .2 }
+returns c = let m = c .before in
+    let l = m .before .before in
+    record { not-before = l .loop .inv .0; up-to = l .loop .inv .1; stands = λ h. sym (m .misplaced-word .ensures) ∙ le-leb _ _ (c .if1 .taken); same = l .loop .inv .2 }
 
 add-p : tie.Need-add-p Inv-loop μ-loop
 add-p c = search needs
@@ -39,16 +40,15 @@ loop-less : tie.Need-loop-less Inv-loop μ-loop
 loop-less c = search needs
 
 loop-again : tie.Need-loop-again Inv-loop μ-loop
-loop-again c =
-    let i = c .before .before in
+loop-again c = let m = c .before in
+    let i = m .before in
     let l = i .before in
     let a = l .before .before .before .before .args in
-    let no = sym (c .before .stands-at .ensures) ∙ c .if1 .left in
+    let no = sym (m .misplaced-word .ensures) ∙ lt-leb _ _ (c .if1 .left) in
     (omega arith, omega arith, l .loop .inv .2 ∙ starts-later (sectionOf (a .section .now)) (a .words .now) (l .loop .p) (i .loop-test .taken) no)
 
 returns-2 : tie.Need-returns-2 Inv-loop μ-loop
-returns-2 c =
-    let l = c .before in
+returns-2 c = let l = c .before in
     record { not-before = l .loop .inv .0; up-to = l .loop .inv .1; stands = λ h. absurd (omega arith); same = l .loop .inv .2 }
 
 pub next-start-spec : {M : Type 1} → statement M
@@ -60,7 +60,7 @@ next-start-spec =
     shared-slice-read-n
     cast-n
     loop-holds
-    stands-at-requires
+    misplaced-word-requires
     returns
     add-p
     loop-less
