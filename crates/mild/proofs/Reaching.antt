@@ -36,7 +36,7 @@ use Rattle.store.proofs.Slots.{slot-below, slot-small, slot-stream, closed, len
 use Rattle.store.proofs.Walking.{Next, next, none-left}
 use Rattle.mild.specs.declared.Found.{Found}
 use Rattle.mild.specs.declared.Found.the-variants.{At, Nothing}
-use Rattle.mild.specs.Beyond.{beyond, coverBoth, fromCovering, mildNot, FoundBeyond, KeepAt, LeftAt, Rest}
+use Rattle.mild.specs.Beyond.{beyond, coverBoth, fromCovering, mildNot, Covering, FoundBeyond, KeepAt, LeftAt, Rest, RestAt}
 
 -- ---- beyond
 
@@ -136,12 +136,16 @@ module _ {todo : List Match} {mem : List ℕ} {at end : ℕ} (g : Rest todo mem 
 
 -- ---- fromCovering
 
-module _ (p q : ℕ) where
-  -- at `at`, what is left decides from where on both are covered
-  pub record Covering (all : List Match) (mem : List ℕ) (at end : ℕ) : Type 0 where
-    pub todo : List Match
-    pub rest : Rest todo mem at end
-    pub same : fromCovering p q todo ≡ fromCovering p q all
+pub covering-start : {p q : ℕ} {mem : List ℕ} {at end : ℕ} (w : RestAt mem at end) → Covering p q (w .todo) mem at end
+covering-start w = record { todo = w .todo; rest = w .rest; same = refl }
+
+-- what decides for matches that decide for all
+pub covering-trans : {p q : ℕ} {all : List Match} {mem : List ℕ} {at next end : ℕ} (g : Covering p q all mem at end) → Covering p q (g .todo) mem next end
+    → Covering p q all mem next end
+covering-trans g later = record { todo = later .todo; rest = later .rest; same = later .same ∙ g .same }
+
+abbrev pub covering-rest : {p q : ℕ} {all : List Match} {mem : List ℕ} {at end : ℕ} → Covering p q all mem at end → RestAt mem at end
+covering-rest g = record { todo = g .todo; rest = g .rest }
 
 module _ {p q : ℕ} {all : List Match} {mem : List ℕ} {at end : ℕ} (g : Covering p q all mem at end) where
   module _ (h : at < end) {e : ℕ} {b : Bool} (f : e ≡ at + 1 + 2 * includesIn (getD mem at 0))

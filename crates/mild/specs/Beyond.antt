@@ -44,6 +44,12 @@ pub record RestAt (mem : List ℕ) (at end : ℕ) : Type 0 where
   pub todo : List Match
   pub rest : Rest todo mem at end
 
+-- of the matches all, those from `at` on decide from where on both positions are covered
+pub record Covering (p q : ℕ) (all : List Match) (mem : List ℕ) (at end : ℕ) : Type 0 where
+  pub todo : List Match
+  pub rest : Rest todo mem at end
+  pub same : fromCovering p q todo ≡ fromCovering p q all
+
 -- the match l lies at p, and R in the slot at r
 pub record LeftAt (mem : List ℕ) (p r : ℕ) : Type 0 where
   pub item : Match

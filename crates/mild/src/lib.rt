@@ -16,7 +16,7 @@ ghost use Rattle.store.specs.Outcome.{Outcome};
 ghost use Rattle.store.specs.Places.{Under};
 ghost use Rattle.store.specs.Put.{Put};
 ghost use Rattle.store.specs.Slot.{SlotAt};
-ghost use Rattle.mild.specs.Beyond.{coverBoth, fromCovering, mildNot, FoundBeyond, KeepAt, LeftAt, Rest, RestAt};
+ghost use Rattle.mild.specs.Beyond.{coverBoth, fromCovering, mildNot, Covering, FoundBeyond, KeepAt, LeftAt, Rest, RestAt};
 
 // A position that includes of a left match cover, and those of a right match don't.
 enum Found {
@@ -51,31 +51,46 @@ fn cover_both(strs: &[u32], p: u32, q: u32) -> bool
     covered(strs, Position(q))
 }
 
-// The first match of R, from the one at `from` on, whose includes cover both positions: where it lies, or the end of R. A match that is one include goes its
-// own way, as the place behind it then doesn't wait for its header.
+// Passes the matches of R from the one at `from` on that have this header and whose includes don't cover both positions: the place of the first other match,
+// or the end of R. Matches with one header lie evenly, so that the place of the next doesn't wait for it.
+fn pass_alike(mem: &[u32], from: usize, end: usize, header: u32, p: u32, q: u32) -> usize
+    requires { ⌜ RestAt (now mem) from end ⌝ }
+    ensures { λ r. ⌜ from ≤ r ⌝ }
+    ensures { λ r. ⌜ ((w : RestAt (now (mem .entry)) from end) → Covering p q (w .todo) (now (mem .entry)) r end) ⌝ }
+{
+    let size = 2 * store::includes_in(header);
+    let length = store::match_length(header);
+    let mut at = from;
+    while at < end {
+        if mem[at] != header {
+            return at;
+        }
+        let a = at + 1;
+        let e = a + size;
+        if cover_both(&mem[a..e], p, q) {
+            return at;
+        }
+        at += length;
+    }
+    at
+}
+
+// The first match of R, from the one at `from` on, whose includes cover both positions: where it lies, or the end of R.
 fn next_covering(mem: &[u32], from: usize, end: usize, p: u32, q: u32) -> usize
     requires { ⌜ RestAt (now mem) from end ⌝ }
     ensures { λ r. ⌜ from ≤ r ⌝ }
     ensures { λ r. ⌜ ((w : RestAt (now (mem .entry)) from end) → Rest (fromCovering p q (w .todo)) (now (mem .entry)) r end) ⌝ }
 {
-    let single = store::header(1, 0);
     let mut at = from;
     while at < end {
         let header = mem[at];
         let a = at + 1;
-        if header == single {
-            let b = a + 2;
-            if cover_both(&mem[a..b], p, q) {
-                return at;
-            }
-            at = b;
-            continue;
-        }
         let e = a + 2 * store::includes_in(header);
         if cover_both(&mem[a..e], p, q) {
             return at;
         }
-        at += store::match_length(header);
+        let next = at + store::match_length(header);
+        at = pass_alike(mem, next, end, header, p, q);
     }
     at
 }

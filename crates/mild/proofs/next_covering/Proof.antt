@@ -1,133 +1,102 @@
 -- Invariant: from `at` on the list goes on from its first match that covers both as the whole does. Measure: the numbers left. The part lent is the
--- includes of the match in hand.
-use borrow.Author.Needs.{needs}
-use Prim.Native.Nat.{_-_, _≤_}
+-- includes of the match in hand; those of the same header after it are passed together.
+use Prim.Native.Nat.{_+_, _-_, _≤_}
 use native.Mathlib.Omega.{arith}
-use mathlib.Core.Path.{refl}
 use Rattle.store.specs.Stream.{Header}
-use Rattle.mild.specs.Beyond.{RestAt}
-use Rattle.mild.proofs.Reaching.{Covering, rest-next, covering-here, covering-later, covering-none}
+use Rattle.mild.specs.Beyond.{Covering, RestAt}
+use Rattle.mild.proofs.Reaching.{rest-next, covering-start, covering-here, covering-later, covering-none, covering-trans, covering-rest}
+use borrow.Author.Needs.{needs}
 use Rattle.mild.proofs.next_covering.Statement.{statement}
 use Rattle.mild.proofs.next_covering.Tie as tie
 
 abbrev Inv-loop : tie.InvT-loop
-Inv-loop mem from end p q single at₀ at = (from ≤ at) × ((w : RestAt mem from end) → Covering p q (w .todo) mem at end)
+Inv-loop mem from end p q at₀ at = (from ≤ at) × ((w : RestAt mem from end) → Covering p q (w .todo) mem at end)
 
 abbrev μ-loop : tie.MeasureT-loop
-μ-loop mem from end p q single at₀ at = end - at
+μ-loop mem from end p q at₀ at = end - at
 
 -- the header of the match in hand
-one : (c : tie.In-loop Inv-loop μ-loop) → Header (c .before .before .before .before .args .mem .now) (c .before .loop .at)
-one c = rest-next (c .before .loop .inv .1 (c .before .before .before .before .pre) .rest) (c .loop-test .taken) .held .header
-
-header-requires : tie.Need-header-requires Inv-loop μ-loop
-header-requires c κs = search needs
+one : (c : tie.In-loop Inv-loop μ-loop) → Header (c .before .before .before .args .mem .now) (c .before .loop .at)
+one c = rest-next (c .before .loop .inv .1 (c .before .before .before .pre) .rest) (c .loop-test .taken) .held .header
 
 loop-holds : tie.Need-loop-holds Inv-loop μ-loop
-loop-holds c = (omega arith, λ w. record { todo = w .todo; rest = w .rest; same = refl })
+loop-holds c = (omega arith, λ w. covering-start w)
 
 mul-header : tie.Need-mul-header Inv-loop μ-loop
-mul-header c = omega (arith, one c)
+mul-header c = search needs
 
 shared-slice-read-header : tie.Need-shared-slice-read-header Inv-loop μ-loop
-shared-slice-read-header c = omega (arith, one (c .before))
+shared-slice-read-header c = search needs
 
 add-a : tie.Need-add-a Inv-loop μ-loop
-add-a c = omega (arith, one (c .before))
-
-add-b : tie.Need-add-b Inv-loop μ-loop
-add-b c = omega (arith, one (c .before .before), c .before .before .before .before .header .ensures)
-
-mul-cover-both : tie.Need-mul-cover-both Inv-loop μ-loop
-mul-cover-both c = omega (arith, one (c .before .before), c .before .before .before .before .header .ensures)
-
-sub-cover-both : tie.Need-sub-cover-both Inv-loop μ-loop
-sub-cover-both c = omega (arith, one (c .before .before), c .before .before .before .before .header .ensures)
-
-part-cover-both-start : tie.Need-part-cover-both-start Inv-loop μ-loop
-part-cover-both-start c = omega (arith, one (c .before .before), c .before .before .before .before .header .ensures)
-
-part-cover-both-end : tie.Need-part-cover-both-end Inv-loop μ-loop
-part-cover-both-end c = omega (arith, one (c .before .before), c .before .before .before .before .header .ensures)
-
-cover-both-requires : tie.Need-cover-both-requires Inv-loop μ-loop
-cover-both-requires c κs = search needs
-
-returns : tie.Need-returns Inv-loop μ-loop
-returns c =
-    let b = c .before in
-    let x = b .before .before in
-    let t = x .before .before in
-    let single = t .before .before .header .ensures in
-    (t .before .loop .inv .0, λ w. covering-here (t .before .loop .inv .1 w) (t .loop-test .taken) (omega arith) (b .cover-both .ensures) (c .if2 .taken))
-
-loop-less : tie.Need-loop-less Inv-loop μ-loop
-loop-less c = search needs
-
-loop-again : tie.Need-loop-again Inv-loop μ-loop
-loop-again c =
-    let b = c .before in
-    let x = b .before .before in
-    let t = x .before .before in
-    let single = t .before .before .header .ensures in (
-      omega arith,
-      λ w. covering-later (t .before .loop .inv .1 w) (t .loop-test .taken) (omega arith) (b .cover-both .ensures) (c .if2 .left) (omega arith),
-    )
+add-a c = search needs
 
 includes-in-requires : tie.Need-includes-in-requires Inv-loop μ-loop
 includes-in-requires c κs = search needs
 
 mul-e : tie.Need-mul-e Inv-loop μ-loop
-mul-e c = omega (arith, one (c .before .before .before))
+mul-e c = omega (arith, one (c .before .before))
 
 add-e : tie.Need-add-e Inv-loop μ-loop
-add-e c = omega (arith, one (c .before .before .before))
+add-e c = omega (arith, one (c .before .before))
 
-mul-cover-both-2 : tie.Need-mul-cover-both-2 Inv-loop μ-loop
-mul-cover-both-2 c = omega (arith, one (c .before .before .before))
+mul-cover-both : tie.Need-mul-cover-both Inv-loop μ-loop
+mul-cover-both c = search needs
 
-sub-cover-both-2 : tie.Need-sub-cover-both-2 Inv-loop μ-loop
-sub-cover-both-2 c = omega (arith, one (c .before .before .before))
+sub-cover-both : tie.Need-sub-cover-both Inv-loop μ-loop
+sub-cover-both c = search needs
 
-part-cover-both-start-2 : tie.Need-part-cover-both-start-2 Inv-loop μ-loop
-part-cover-both-start-2 c = omega (arith, one (c .before .before .before))
+part-cover-both-start : tie.Need-part-cover-both-start Inv-loop μ-loop
+part-cover-both-start c = search needs
 
-part-cover-both-end-2 : tie.Need-part-cover-both-end-2 Inv-loop μ-loop
-part-cover-both-end-2 c = omega (arith, one (c .before .before .before))
+part-cover-both-end : tie.Need-part-cover-both-end Inv-loop μ-loop
+part-cover-both-end c = omega (arith, one (c .before .before), c .includes-in .ensures)
 
-cover-both-requires-2 : tie.Need-cover-both-requires-2 Inv-loop μ-loop
-cover-both-requires-2 c κs = search needs
+cover-both-requires : tie.Need-cover-both-requires Inv-loop μ-loop
+cover-both-requires c κs = search needs
 
-returns-2 : tie.Need-returns-2 Inv-loop μ-loop
-returns-2 c =
-    let b = c .before in
+returns : tie.Need-returns Inv-loop μ-loop
+returns c = let b = c .before in
     let x = b .before .before in
-    let t = x .before .before .before in
+    let t = x .before .before in
+    let l = t .before in
     let size = x .includes-in .ensures in
-    (t .before .loop .inv .0, λ w. covering-here (t .before .loop .inv .1 w) (t .loop-test .taken) (omega arith) (b .cover-both2 .ensures) (c .if3 .taken))
+    (l .loop .inv .0, λ w. covering-here (l .loop .inv .1 w) (t .loop-test .taken) (omega (arith, size)) (b .cover-both .ensures) (c .if1 .taken))
 
 match-length-requires : tie.Need-match-length-requires Inv-loop μ-loop
 match-length-requires c κs = search needs
 
-add-at : tie.Need-add-at Inv-loop μ-loop
-add-at c = omega (arith, one (c .before .before .before .before .before .before .before))
+add-next : tie.Need-add-next Inv-loop μ-loop
+add-next c = omega (arith, one (c .before .before .before .before .before .before), c .match-length .ensures)
 
-loop-less-2 : tie.Need-loop-less-2 Inv-loop μ-loop
-loop-less-2 c = search needs
-
-loop-again-2 : tie.Need-loop-again-2 Inv-loop μ-loop
-loop-again-2 c =
-    let i = c .before in
-    let b = i .before in
+pass-alike-requires : tie.Need-pass-alike-requires Inv-loop μ-loop
+pass-alike-requires c κs = let e = c .before in
+    let b = e .before in
     let x = b .before .before in
-    let t = x .before .before .before in
-    let size = x .includes-in .ensures in (
-      omega arith,
-      λ w. covering-later (t .before .loop .inv .1 w) (t .loop-test .taken) (omega arith) (b .cover-both2 .ensures) (i .if3 .left) (omega (arith, c .match-length .ensures)),
+    let t = x .before .before in
+    let l = t .before in
+    let size = x .includes-in .ensures in
+    let long = c .match-length .ensures in
+    covering-rest (covering-later (l .loop .inv .1 (l .before .before .pre)) (t .loop-test .taken) (omega (arith, size)) (b .cover-both .ensures) (e .if1 .left) (omega (arith, long)))
+
+loop-less : tie.Need-loop-less Inv-loop μ-loop
+loop-less c = search needs
+
+loop-again : tie.Need-loop-again Inv-loop μ-loop
+loop-again c = let m = c .before in
+    let e = m .before in
+    let b = e .before in
+    let x = b .before .before in
+    let t = x .before .before in
+    let l = t .before in
+    let size = x .includes-in .ensures in
+    let long = m .match-length .ensures in (
+      omega (arith, c .pass-alike .ensures .0, l .loop .inv .0, long),
+      λ w. let later = covering-later (l .loop .inv .1 w) (t .loop-test .taken) (omega (arith, size)) (b .cover-both .ensures) (e .if1 .left) {next = l .loop .at + m .match-length .result} (omega (arith, long)) in covering-trans later (c .pass-alike .ensures .1 (covering-rest later)),
     )
 
-returns-3 : tie.Need-returns-3 Inv-loop μ-loop
-returns-3 c = (c .before .loop .inv .0, λ w. covering-none (c .before .loop .inv .1 w) (c .loop-test .left))
+returns-2 : tie.Need-returns-2 Inv-loop μ-loop
+returns-2 c = (c .before .loop .inv .0, λ w. covering-none (c .before .loop .inv .1 w) (c .loop-test .left))
 
 pub next-covering-spec : {M : Type 1} → statement M
 next-covering-spec =
@@ -135,31 +104,22 @@ next-covering-spec =
     (tie.spec
     Inv-loop
     μ-loop
-    header-requires
     loop-holds
     mul-header
     shared-slice-read-header
     add-a
-    add-b
+    includes-in-requires
+    mul-e
+    add-e
     mul-cover-both
     sub-cover-both
     part-cover-both-start
     part-cover-both-end
     cover-both-requires
     returns
+    match-length-requires
+    add-next
+    pass-alike-requires
     loop-less
     loop-again
-    includes-in-requires
-    mul-e
-    add-e
-    mul-cover-both-2
-    sub-cover-both-2
-    part-cover-both-start-2
-    part-cover-both-end-2
-    cover-both-requires-2
-    returns-2
-    match-length-requires
-    add-at
-    loop-less-2
-    loop-again-2
-    returns-3)
+    returns-2)

@@ -1,7 +1,7 @@
 -- Invariant: against the matches of R from `at` on, the match of L decides as against all, and its includes cover the last position found. Measure: the numbers
 -- left. The matches passed over don't cover both, and the search decides for the one in hand.
 use borrow.Author.Needs.{needs}
-use Prim.Native.Nat.{_-_, _≤_}
+use Prim.Native.Nat.{_-_}
 use native.Mathlib.Omega.{arith}
 use Rattle.store.specs.Stream.{Header}
 use Rattle.mild.specs.Beyond.{LeftAt}
