@@ -1,1 +1,3 @@
+pub mod Apart
 pub mod Reaching
+pub mod Seeking

@@ -1,42 +1,27 @@
 -- A match of L reaches beyond one of R where some position is covered by its includes and not by the other's. So two positions that it covers decide for
 -- every match of R that doesn't cover both, and the search for a position decides for the others. Mild not makes one match at most of each.
-use Prim.Native.Nat.{ℕ, zero, suc, _+_, _-_, _*_, _/_, _≤_, _<_}
+use Prim.Native.Nat.{ℕ, zero, suc, _+_, _-_, _*_, _≤_, _<_}
 use native.Mathlib.Omega.{arith}
 use mathlib.Core.Path.{_≡_, refl, sym, ap, ap₂, _∙_, subst}
 use mathlib.Core.Bool.{Bool, true, false, not, _&&_, _||_, cond, or-true}
-use mathlib.Core.List.{List, [], _∷_, flatMap}
-use borrow.Author.Tests.{le-leb, leb-true, leb-false, lt-ltb, ne-eqb}
-use lib.Dec.{leb, ltb, eqb}
+use mathlib.Core.List.{List, [], _∷_}
+use borrow.Author.Tests.{le-leb, leb-true, leb-false, lt-ltb}
+use lib.Dec.{leb}
 use lib.ListN.{length, take, drop, getD, length-append}
-use Rattle.model.specs.AllStrings.{AllStrs, Every}
-use Rattle.model.specs.Limits.{radix}
 use Rattle.model.specs.Lists.{allOf, anyOf, fromTo, upFrom}
 use Rattle.model.specs.Matches.{Str, Match, strings}
-use Rattle.model.specs.Rules.{covered, covers, keptIf, mildNotList, positions, reachesBeyond}
-use Rattle.model.proofs.RulesLaws.{AtMostOne}
+use Rattle.model.specs.Rules.{covered, covers, positions, reachesBeyond}
 use Rattle.model.proofs.TestsLaws.{both-true, false-true}
 use Rattle.strings.specs.Covering.{RunEnd}
-use Rattle.strings.specs.Strings.{strsAt, strsOf}
+use Rattle.strings.specs.Strings.{strsAt}
 use Rattle.strings.proofs.StringsLaws.{strAt, strsAt-cons}
 use Rattle.strings.proofs.StringsLaws as Strs
-use Rattle.store.specs.declared.Built.{Built}
-use Rattle.store.specs.Built.{Small}
-use Rattle.store.specs.Fine.{Fine}
-use Rattle.store.specs.Layout.{Holds, includesIn, matchLength, matchNumbers, matchesNumbers, slotLength, slotSize}
-use Rattle.store.specs.Outcome.{Closed, Outcome}
-use Rattle.store.specs.Put.{Put}
-use Rattle.store.specs.Slot.{SlotHolds}
-use Rattle.store.proofs.Back.{includes-held, includes-hold, includes-read, length-held}
-use Rattle.store.proofs.EachLaws.{Counting, item, count-one, count-finish, flatMap-small}
-use Rattle.store.proofs.LayoutLaws.{length-matches, length-slot, matches-cons, matches-none}
-use Rattle.store.proofs.Memory.{getD-head}
-use Rattle.store.proofs.PutLaws.{length-kept}
-use Rattle.store.proofs.Rows.{keep-flatMap}
-use Rattle.store.proofs.Slots.{slot-below, slot-small, slot-stream, closed, length-slot-held, matches-held}
+use Rattle.store.specs.Layout.{includesIn, matchLength, matchNumbers, matchesNumbers}
+use Rattle.store.proofs.Back.{includes-read, length-held}
+use Rattle.store.proofs.LayoutLaws.{length-matches, matches-cons, matches-none}
 use Rattle.store.proofs.Walking.{Next, next, none-left}
-use Rattle.mild.specs.declared.Found.{Found}
 use Rattle.mild.specs.declared.Found.the-variants.{At, Nothing}
-use Rattle.mild.specs.Beyond.{beyond, coverBoth, fromCovering, mildNot, Covering, FoundBeyond, KeepAt, LeftAt, Rest, RestAt}
+use Rattle.mild.specs.Beyond.{beyond, coverBoth, fromCovering, Covering, FoundBeyond, Rest, RestAt}
 
 -- ---- beyond
 
@@ -185,139 +170,3 @@ module _ (l : Match) (p q : ℕ) (e : covered (l .includes) p ≡ true) (f : cov
       at true true c d later = refl
       at true false c d later = rw (beyond-at (l .includes) (m .includes) q f d) later
       at false t c d later = rw (beyond-at (l .includes) (m .includes) p e c) later
-
--- ---- the walk over R
-
--- the matches of R from `at` on decide as all do, and the includes of l cover the last position found
-pub record Seeking (l : Match) (rights : List Match) (mem : List ℕ) (at end last : ℕ) : Type 0 where
-  pub todo : List Match
-  pub rest : Rest todo mem at end
-  pub same : allOf (reachesBeyond l) todo ≡ allOf (reachesBeyond l) rights
-  pub within : covered (l .includes) last ≡ true
-
--- a match without includes reaches beyond none
-none-beyond : (l : Match) → l .includes ≡ [] → (rs : List Match) → eqb (length rs) 0 ≡ allOf (reachesBeyond l) rs
-unfolding allOf anyOf
-none-beyond l e [] = refl
-none-beyond l e (r ∷ rs) =
-    let some : eqb (length (r ∷ rs)) 0 ≡ false = ne-eqb (length (r ∷ rs)) 0 (λ z. absurd (omega arith)) in
-    let within : allOf (reachesBeyond l) (r ∷ rs) ≡ false = rw e in
-    some ∙ sym within
-
-no-strings : {A : Type 0} (xs : List A) → length xs ≡ 0 → xs ≡ []
-no-strings [] e = refl
-no-strings (x ∷ xs) e = absurd (omega arith)
-
--- the start of the first string is covered
-first-covered : {mem : List ℕ} {a : ℕ} (ss : List Str) → AllStrs Fine ss → Holds mem a (strsOf 0 ss) → 0 < length ss → covered ss (getD mem a 0 / radix) ≡ true
-unfolding strsOf Every anyOf
-first-covered [] f h k = absurd (omega arith)
-first-covered {mem} {a} (s ∷ ss) f h k =
-    let e : getD mem a 0 / radix ≡ s .start = omega (arith, getD-head _ h, f .0 .end-up-to) in
-    rw (e, le-leb (s .start) (s .start) (omega arith), le-leb (s .start) (s .end) (f .0 .in-order))
-
-module _ {mem : List ℕ} {p r : ℕ} (w : LeftAt mem p r) where
-  pub without-includes : {m : ℕ} → m ≡ includesIn (getD mem p 0) → m ≡ 0 → eqb (getD mem r 0) 0 ≡ allOf (reachesBeyond (w .item)) (w .rights)
-  without-includes e f =
-      let none = no-strings (w .item .includes) (omega (arith, includes-held (w .held))) in
-      ap (λ n. eqb n 0) (matches-held (w .slot)) ∙ none-beyond (w .item) none (w .rights)
-
-  -- R whole
-  pub rights-rest : {end : ℕ} → end ≡ r + slotLength mem r → Rest (w .rights) mem (r + 2) end
-  rights-rest e =
-      record {
-        left = slot-stream (w .slot) (r + 2) (length (w .rights)) refl (sym (matches-held (w .slot)));
-        up-to = omega (arith, length-slot-held (w .slot), length-slot (w .rights), length-matches (w .rights));
-      }
-
-  -- before its first match that covers the start of the first include
-  pub seek : {m start at end : ℕ} → m ≡ includesIn (getD mem p 0) → (m ≡ 0 → ⊥) → start ≡ getD mem (p + 1) 0 / radix
-      → Rest (fromCovering start start (w .rights)) mem at end → Seeking (w .item) (w .rights) mem at end start
-  seek {m} {start} e f g rest =
-      let here = first-covered (w .item .includes) (w .held .fine .includes) (includes-hold (w .held) (p + 1) refl) (omega (arith, includes-held (w .held))) in
-      let in' : covered (w .item .includes) start ≡ true = ap (covered (w .item .includes)) g ∙ here in
-      record { todo = _; rest = rest; same = fromCovering-all (w .item) start start in' in' (w .rights); within = in' }
-
-  module _ {at end last : ℕ} (g : Seeking (w .item) (w .rights) mem at end last) (h : at < end) where
-    -- the search against the match of R in hand, as its parts are lent
-    module _ {m k : ℕ} (found : Found) (e : m ≡ includesIn (getD mem p 0)) (f : k ≡ includesIn (getD mem at 0))
-        (test : FoundBeyond (strsAt (take (p + 1 + 2 * m - (p + 1)) (drop (p + 1) mem))) (strsAt (take (at + 1 + 2 * k - (at + 1)) (drop (at + 1) mem))) found) where
-      found-beyond : FoundBeyond (w .item .includes) (rest-next (g .rest) h .first .includes) found
-      found-beyond =
-          subst (λ ss. FoundBeyond ss (rest-next (g .rest) h .first .includes) found) (includes-read (w .held) (p + 1) (p + 1 + 2 * m) refl (omega arith))
-          (subst (λ ss. FoundBeyond (strsAt (take (p + 1 + 2 * m - (p + 1)) (drop (p + 1) mem))) ss found)
-          (includes-read (rest-next (g .rest) h .held) (at + 1) (at + 1 + 2 * k) refl (omega arith)) test)
-
-      pub stopped : found ≡ Nothing → false ≡ allOf (reachesBeyond (w .item)) (w .rights)
-      unfolding allOf
-      stopped none =
-          let N = rest-next (g .rest) h in
-          let covered-first : reachesBeyond (w .item) (N .first) ≡ false = subst (FoundBeyond (w .item .includes) (N .first .includes)) none found-beyond in
-          sym (sym (g .same) ∙ ap (allOf (reachesBeyond (w .item))) (N .is) ∙ rw covered-first)
-
-      pub passed : {q at' : ℕ} → found ≡ At q → Rest (fromCovering q last (rest-next (g .rest) h .rest)) mem at' end → Seeking (w .item) (w .rights) mem at' end q
-      unfolding allOf
-      passed {q} some rest =
-          let N = rest-next (g .rest) h in
-          let at-q = subst (FoundBeyond (w .item .includes) (N .first .includes)) some found-beyond in
-          let beyond-first : reachesBeyond (w .item) (N .first) ≡ true = beyond-at (w .item .includes) (N .first .includes) q (at-q .0) (at-q .1) in
-          let one-more : allOf (reachesBeyond (w .item)) (N .first ∷ N .rest) ≡ allOf (reachesBeyond (w .item)) (N .rest) = rw beyond-first in
-          record {
-            todo = _;
-            rest = rest;
-            same = fromCovering-all (w .item) q last (at-q .0) (g .within) (N .rest) ∙ sym one-more ∙ ap (allOf (reachesBeyond (w .item))) (sym (N .is)) ∙ g .same;
-            within = at-q .0;
-          }
-
-  pub sought : {at end last : ℕ} → Seeking (w .item) (w .rights) mem at end last → end ≤ at → true ≡ allOf (reachesBeyond (w .item)) (w .rights)
-  unfolding allOf
-  sought g h = sym (sym (g .same) ∙ ap (allOf (reachesBeyond (w .item))) (rest-none (g .rest) h))
-
--- ---- mildNot
-
-pub one-at-most : (rights : List Match) (l : Match) → AtMostOne l (mildNot rights l)
-unfolding mildNot strings
-one-at-most rights l = at (allOf (reachesBeyond l) rights)
-  where
-    at : (b : Bool) → AtMostOne l (keptIf b l)
-    at true = omega arith
-    at false = omega arith
-
--- mild not goes over L match by match
-pub mildNot-flatMap : (lefts rights : List Match) → mildNotList lefts rights ≡ flatMap (mildNot rights) lefts
-unfolding mildNotList mildNot
-mildNot-flatMap lefts rights = keep-flatMap (λ l. allOf (reachesBeyond l) rights) lefts
-
-pub mildNot-small : {mem : List ℕ} {at : ℕ} {lefts : List Match} (rights : List Match) → SlotHolds mem at lefts → Small (flatMap (mildNot rights) lefts)
-mildNot-small {lefts = lefts} rights s = flatMap-small (mildNot rights) (one-at-most rights) lefts (slot-small s)
-
--- ---- a match of L in hand
-
-module _ {mem : List ℕ} {p r q : ℕ} (w : KeepAt mem p r q) where
-  -- as the test reads it
-  abbrev pub left-at : LeftAt mem p r
-  left-at = record { item = w .item; rights = w .rights; held = w .one .held; slot = w .slot }
-
-  -- where it is kept there is room for it
-  pub room : allOf (reachesBeyond (w .item)) (w .rights) ≡ true → q + matchLength (getD mem p 0) ≤ length mem
-  unfolding mildNot
-  room e = omega (arith, w .one .room, length-kept (w .one .held) e)
-
-module _ {lefts rights : List Match} {mem₀ mem : List ℕ} {n at p q i matches : ℕ} (g : Counting (mildNot rights) lefts mem₀ n at mem p q i matches) where
-  module _ (h : i < n) {r : ℕ} (s : SlotHolds mem₀ r rights) (k : r + slotSize ≤ at) where
-    -- R lies below what is written, so it lies there still
-    pub keep-at : KeepAt mem p r q
-    keep-at =
-        let o = item (g .going) h in
-        record { item = o .item; rights = rights; one = o .one; slot = slot-below (g .going .rows .put) k s }
-
-    pub keep-next : {mem' : List ℕ} {next len matches' : ℕ} → Put mem mem' q (matchesNumbers (mildNot (keep-at .rights) (keep-at .item))) next
-        → len ≡ matchLength (getD mem p 0) → matches' ≡ matches + cond (ltb q next) 1 0 → Counting (mildNot rights) lefts mem₀ n at mem' (p + len) next (i + 1) matches'
-    unfolding keep-at
-    keep-next v e f = count-one g h v e (one-at-most rights _ .matches) f
-
--- all of L gone through, and the slot closed
-pub mildNot-closed : {lefts : List Match} (rights : List Match) {mem₀ mem exit : List ℕ} {l n at p q i matches : ℕ} {built : Built} → SlotHolds mem₀ l lefts
-    → Counting (mildNot rights) lefts mem₀ n (at + 2) mem p q i matches → n ≤ i → Closed mem exit at q matches built
-    → Outcome (mildNotList lefts rights) mem₀ exit at built
-mildNot-closed rights s g h c = rw mildNot-flatMap (closed (mildNot-small rights s) (count-finish g h) c)

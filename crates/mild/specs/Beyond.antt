@@ -6,12 +6,13 @@ use mathlib.Core.Path.{_≡_}
 use lib.ListN.{length}
 use Rattle.model.specs.Lists.{allOf, anyOf}
 use Rattle.model.specs.Matches.{Str, Match}
-use Rattle.model.specs.Rules.{covered, keptIf, positions, reachesBeyond}
-use Rattle.store.specs.Each.{One}
+use Rattle.model.specs.Rules.{covered, covers, keptIf, positions, reachesBeyond}
+use Rattle.strings.specs.Strings.{strOf}
 use Rattle.store.specs.Layout.{matchesNumbers}
 use Rattle.store.specs.Slot.{SlotHolds}
 use Rattle.store.specs.Stream.{Left, MatchHolds}
 use Rattle.mild.specs.declared.Found.{Found}
+use Rattle.mild.specs.declared.Reached.{Reached}
 use Rattle.mild.specs.declared.Found.the-variants.{At, Nothing}
 
 -- reachesBeyond, of the includes alone
@@ -30,6 +31,10 @@ coverBoth p q ss = covered ss p && covered ss q
 unfoldable pub fromCovering : ℕ → ℕ → List Match → List Match
 fromCovering p q [] = []
 fromCovering p q (m ∷ ms) = cond (coverBoth p q (m .includes)) (m ∷ ms) (fromCovering p q ms)
+
+-- does a number, read as a span, cover a position?
+abbrev pub numberCovers : ℕ → ℕ → Bool
+numberCovers p n = covers (strOf n 0) p
 
 -- what mild not makes of one match of L
 unfoldable pub mildNot : List Match → Match → List Match
@@ -50,16 +55,15 @@ pub record Covering (p q : ℕ) (all : List Match) (mem : List ℕ) (at end : �
   pub rest : Rest todo mem at end
   pub same : fromCovering p q todo ≡ fromCovering p q all
 
--- the match l lies at p, and R in the slot at r
-pub record LeftAt (mem : List ℕ) (p r : ℕ) : Type 0 where
+-- the match l lies at p, and R in the slot at r; no match of R covers both x and y
+pub record KnownAt (mem : List ℕ) (p r x y : ℕ) : Type 0 where
   pub item : Match
   pub rights : List Match
   pub held : MatchHolds mem p item
   pub slot : SlotHolds mem r rights
+  pub apart : fromCovering x y rights ≡ []
 
--- .. with room at q, above the match, for what mild not makes of it
-pub record KeepAt (mem : List ℕ) (p r q : ℕ) : Type 0 where
-  pub item : Match
-  pub rights : List Match
-  pub one : One (mildNot rights) item mem p q
-  pub slot : SlotHolds mem r rights
+-- what is said of a match l and of R
+pub record ReachedIs (l : Match) (rights : List Match) (r : Reached) : Type 0 where
+  pub beyond : r .beyond ≡ allOf (reachesBeyond l) rights
+  pub apart : fromCovering (r .p) (r .q) rights ≡ []

@@ -2,21 +2,25 @@
 use model::Position;
 use store::Built;
 use strings::covering::covered;
+use strings::covering::covers;
 use strings::covering::run_end;
 use strings::end_of;
 use strings::start_of;
+ghost use mathlib.Core.Bool.{cond};
 ghost use mathlib.Core.Path.{_≡_};
-ghost use Prim.Native.Nat.{_≤_};
-ghost use lib.ListN.{length};
-ghost use Rattle.model.specs.Lists.{allOf};
-ghost use Rattle.model.specs.Rules.{mildNotList, reachesBeyond};
+ghost use Prim.Native.Nat.{_≤_, _<_};
+ghost use lib.Dec.{eqb};
+ghost use lib.ListN.{getD, length};
+ghost use Rattle.model.specs.Lists.{keep};
+ghost use Rattle.model.specs.Rules.{keptIf, mildNotList};
 ghost use Rattle.strings.specs.Strings.{strsAt};
-ghost use Rattle.store.specs.Layout.{matchesNumbers};
+ghost use Rattle.store.specs.Each.{OneAt};
+ghost use Rattle.store.specs.Layout.{includesIn, matchesNumbers, slotSize};
 ghost use Rattle.store.specs.Outcome.{Outcome};
 ghost use Rattle.store.specs.Places.{Under};
 ghost use Rattle.store.specs.Put.{Put};
 ghost use Rattle.store.specs.Slot.{SlotAt};
-ghost use Rattle.mild.specs.Beyond.{coverBoth, fromCovering, mildNot, Covering, FoundBeyond, KeepAt, LeftAt, Rest, RestAt};
+ghost use Rattle.mild.specs.Beyond.{coverBoth, fromCovering, numberCovers, Covering, FoundBeyond, KnownAt, ReachedIs, Rest, RestAt};
 
 // A position that includes of a left match cover, and those of a right match don't.
 enum Found {
@@ -95,41 +99,124 @@ fn next_covering(mem: &[u32], from: usize, end: usize, p: u32, q: u32) -> usize
     at
 }
 
-// "for every match of R", of the match of L at p. The last two positions found in its includes are held against the matches of R, and only where both are
-// covered is another one looked for.
-fn reaches_beyond_all(mem: &[u32], p: usize, r: usize) -> bool
-    requires { ⌜ LeftAt (now mem) p r ⌝ }
-    ensures { λ b. ⌜ ((w : LeftAt (now (mem .entry)) p r) → b ≡ allOf (reachesBeyond (w .item)) (w .rights)) ⌝ }
+// What comes of a match of L against R.
+struct Reached {
+    // does it reach beyond every match of R?
+    beyond: bool,
+    // no match of R covers both positions, whatever the match of L
+    p: u32,
+    q: u32,
+}
+
+// How many of the numbers, read as spans, cover a position. All the numbers of a list are read, its headers and tags too, and no test ends the loop, so that
+// it compiles to a few instructions for every four numbers.
+fn count_covering(numbers: &[u32], p: u32) -> u32
+    requires { ⌜ length (now numbers) ≤ slotSize ⌝ }
+    ensures { λ r. ⌜ r ≡ length (keep (numberCovers p) (now (numbers .entry))) ⌝ }
 {
-    let includes = store::includes_in(mem[p]);
-    if includes == 0 {
-        return mem[r] == 0;
+    let mut count = 0;
+    let mut i = 0;
+    while i < numbers.len() {
+        if covers(numbers[i], p) {
+            count += 1;
+        }
+        i += 1;
     }
+    count
+}
+
+// The position to hold beside the first: the one that is found after it, and then none, which 0 stands for: no string covers it.
+fn beside(first: u32, held: u32, found: u32) -> u32
+    ensures { λ r. ⌜ r ≡ cond (eqb held first) found 0 ⌝ }
+{
+    if held == first {
+        return found;
+    }
+    0
+}
+
+// "for every match of R", of the match of L at p. The last two positions found in its includes are held against the matches of R, and only where both are
+// covered is another one looked for. No match of R covers both x and y.
+fn search(mem: &[u32], p: usize, r: usize, x: u32, y: u32) -> Reached
+    requires { ⌜ KnownAt (now mem) p r x y ⌝ }
+    requires { ⌜ 0 < includesIn (getD (now mem) p 0) ⌝ }
+    ensures { λ b. ⌜ ((w : KnownAt (now (mem .entry)) p r x y) → ReachedIs (w .item) (w .rights) b) ⌝ }
+{
     let a = p + 1;
-    let e = a + 2 * includes;
+    let e = a + 2 * store::includes_in(mem[p]);
     let end = r + store::slot_length(mem, r);
-    let mut last = start_of(mem[a]);
-    let mut at = next_covering(mem, r + 2, end, last, last);
+    let first = start_of(mem[a]);
+    let mut held = first;
+    let mut last = first;
+    let mut at = next_covering(mem, r + 2, end, first, first);
     while at < end {
         let header = mem[at];
         let from = at + 1;
         let to = from + 2 * store::includes_in(header);
         let found = find_beyond(&mem[a..e], &mem[from..to]);
         let Found::At(q) = found else {
-            return false;
+            return Reached {
+                beyond: false,
+                p: x,
+                q: y,
+            };
         };
         at = next_covering(mem, at + store::match_length(header), end, q, last);
+        held = beside(first, held, q);
         last = q;
     }
-    true
+    Reached {
+        beyond: true,
+        p: held,
+        q: first,
+    }
 }
 
-// Puts the match at p to q if it is one of "L's matches in which .."; gives the place behind it.
-fn put_mild_not(mem: &mut [u32], p: usize, r: usize, q: usize) -> usize
-    requires { ⌜ KeepAt (now mem) p r q ⌝ }
-    ensures { λ next. ⌜ ((w : KeepAt (now (mem .entry)) p r q) → Put (now (mem .entry)) (now (mem .exit)) q (matchesNumbers (mildNot (w .rights) (w .item))) next) ⌝ }
+// "for every match of R", of the match of L at p. Two positions that no match of R covers both are known from the match before it: where it covers them too,
+// as a copy does, nothing is looked for. Where that match was decided by one position, it is likely that no number of R covers one of this match.
+fn reach(mem: &[u32], p: usize, r: usize, x: u32, y: u32) -> Reached
+    requires { ⌜ KnownAt (now mem) p r x y ⌝ }
+    ensures { λ b. ⌜ ((w : KnownAt (now (mem .entry)) p r x y) → ReachedIs (w .item) (w .rights) b) ⌝ }
 {
-    if !reaches_beyond_all(mem, p, r) {
+    let includes = store::includes_in(mem[p]);
+    if includes == 0 {
+        return Reached {
+            beyond: mem[r] == 0,
+            p: x,
+            q: y,
+        };
+    }
+    let a = p + 1;
+    let e = a + 2 * includes;
+    if cover_both(&mem[a..e], x, y) {
+        return Reached {
+            beyond: true,
+            p: x,
+            q: y,
+        };
+    }
+    if x == y {
+        let first = start_of(mem[a]);
+        let end = r + store::slot_length(mem, r);
+        if count_covering(&mem[r + 2..end], first) == 0 {
+            return Reached {
+                beyond: true,
+                p: first,
+                q: first,
+            };
+        }
+    }
+    search(mem, p, r, x, y)
+}
+
+// Puts the match at p to q if it is kept; gives the place behind it.
+fn put_kept(mem: &mut [u32], p: usize, q: usize, kept: bool) -> usize
+    requires { ⌜ OneAt (keptIf «kept») (now mem) p q ⌝ }
+    ensures { λ next.
+        ⌜ ((w : OneAt (keptIf «kept») (now (mem .entry)) p q)
+        → Put (now (mem .entry)) (now (mem .exit)) q (matchesNumbers (keptIf «kept» (w .item))) next) ⌝ }
+{
+    if !kept {
         return q;
     }
     let n = store::match_length(mem[p]);
@@ -151,11 +238,16 @@ pub fn mild_not_list(mem: &mut [u32], l: usize, r: usize, at: usize) -> Built
     let mut p = l + 2;
     let mut q = at + 2;
     let mut matches = 0;
+    let mut x = 0;
+    let mut y = 0;
     let mut i = 0;
     while i < n {
         let length = store::match_length(mem[p]);
-        let next = put_mild_not(mem, p, r, q);
+        let reached = reach(mem, p, r, x, y);
+        let next = put_kept(mem, p, q, reached.beyond);
         matches = store::count_one(matches, q, next);
+        x = reached.p;
+        y = reached.q;
         q = next;
         p += length;
         i += 1;

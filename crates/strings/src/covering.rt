@@ -10,7 +10,7 @@ ghost use Rattle.strings.specs.Strings.{strOf, strsAt};
 ghost use Rattle.strings.specs.Covering.{advanced, chosen, isChosen, passed, RunEnd};
 
 // Does a string of this span cover a position?
-fn covers(span: u32, p: u32) -> bool
+pub fn covers(span: u32, p: u32) -> bool
     ensures { λ r. ⌜ r ≡ covers (strOf span 0) p ⌝ }
 {
     if p < start_of(span) {

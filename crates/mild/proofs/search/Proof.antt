@@ -1,23 +1,27 @@
--- Invariant: against the matches of R from `at` on, the match of L decides as against all, and its includes cover the last position found. Measure: the numbers
--- left. The matches passed over don't cover both, and the search decides for the one in hand.
+-- Invariant: against the matches of R from `at` on, the match of L decides as against all, and its includes cover the last position found; the first position and
+-- the one held beside it are apart over what is passed. Measure: the numbers left.
 use borrow.Author.Needs.{needs}
+use Rattle.mild.proofs.search.Statement.{statement}
+use Rattle.mild.proofs.search.Tie as tie
 use Prim.Native.Nat.{_-_}
 use native.Mathlib.Omega.{arith}
 use Rattle.store.specs.Stream.{Header}
-use Rattle.mild.specs.Beyond.{LeftAt}
-use Rattle.mild.proofs.Reaching.{Seeking, rest-next, rest-after, without-includes, rights-rest, seek, stopped, passed, sought}
-use Rattle.mild.proofs.reaches_beyond_all.Statement.{statement}
-use Rattle.mild.proofs.reaches_beyond_all.Tie as tie
+use Rattle.mild.specs.Beyond.{KnownAt}
+use Rattle.mild.proofs.Reaching.{rest-next, rest-after}
+use Rattle.mild.proofs.Seeking.{Seeking, rights-rest, seek, stopped, passed, sought}
 
 abbrev Inv-loop : tie.InvT-loop
-Inv-loop mem p r includes a e end last₀ at₀ last at = (w : LeftAt mem p r) → Seeking (w .item) (w .rights) mem at end last
+Inv-loop mem p r x y a e end first held₀ last₀ at₀ held last at = (w : KnownAt mem p r x y) → Seeking (w .item) (w .rights) mem at end first held last
 
 abbrev μ-loop : tie.MeasureT-loop
-μ-loop mem p r includes a e end last₀ at₀ last at = end - at
+μ-loop mem p r x y a e end first held₀ last₀ at₀ held last at = end - at
 
 -- the header of the match of R in hand
-one : (c : tie.In-loop Inv-loop μ-loop) → Header (c .before .before .before .before .before .before .before .before .before .before .args .mem .now) (c .before .loop .at)
-one c = rest-next (c .before .loop .inv (c .before .before .before .before .before .before .before .before .before .before .pre) .rest) (c .loop-test .taken) .held .header
+one : (c : tie.In-loop Inv-loop μ-loop) → Header (c .before .before .before .before .before .before .before .before .before .args .mem .now) (c .before .loop .at)
+one c = rest-next (c .before .loop .inv (c .before .before .before .before .before .before .before .before .before .pre .0) .rest) (c .loop-test .taken) .held .header
+
+add-a : tie.Need-add-a Inv-loop μ-loop
+add-a c = search needs
 
 mul-includes-in : tie.Need-mul-includes-in Inv-loop μ-loop
 mul-includes-in c = search needs
@@ -27,18 +31,6 @@ shared-slice-read-includes-in c = search needs
 
 includes-in-requires : tie.Need-includes-in-requires Inv-loop μ-loop
 includes-in-requires c κs = search needs
-
-mul-result : tie.Need-mul-result Inv-loop μ-loop
-mul-result c = search needs
-
-shared-slice-read-result : tie.Need-shared-slice-read-result Inv-loop μ-loop
-shared-slice-read-result c = search needs
-
-returns : tie.Need-returns Inv-loop μ-loop
-returns c w = without-includes w (c .before .before .includes-in .ensures) (c .before .if1 .taken)
-
-add-a : tie.Need-add-a Inv-loop μ-loop
-add-a c = search needs
 
 mul-e : tie.Need-mul-e Inv-loop μ-loop
 mul-e c = search needs
@@ -67,16 +59,14 @@ add-next-covering c = search needs
 next-covering-requires : tie.Need-next-covering-requires Inv-loop μ-loop
 next-covering-requires c κs =
     let k = c .before .before in
-    let w = k .before .before .before .before .before .pre in
+    let w = k .before .before .before .before .pre .0 in
     record { todo = w .rights; rest = rights-rest w (omega (arith, k .slot-length .ensures)) }
 
 loop-holds : tie.Need-loop-holds Inv-loop μ-loop
 loop-holds c = λ w.
     let s = c .before in
     let k = s .before .before in
-    let i = k .before .before in
-    seek w (i .includes-in .ensures) (k .before .if1 .left) (s .start-of .ensures)
-    (c .next-covering .ensures .1 (record { todo = w .rights; rest = rights-rest w (omega (arith, k .slot-length .ensures)) }))
+    seek w (k .before .before .before .before .pre .1) (s .start-of .ensures) (c .next-covering .ensures .1 (record { todo = w .rights; rest = rights-rest w (omega (arith, k .slot-length .ensures)) }))
 
 mul-header : tie.Need-mul-header Inv-loop μ-loop
 mul-header c = omega (arith, one c)
@@ -129,14 +119,14 @@ enum-known-found c = search needs
 enum-told : tie.Need-enum-told Inv-loop μ-loop
 enum-told c = search needs
 
-returns-2 : tie.Need-returns-2 Inv-loop μ-loop
-returns-2 c w =
+returns : tie.Need-returns Inv-loop μ-loop
+returns c w =
     let k = c .before .before in
     let x = k .before .before .before in
     let t = x .before .before in
-    let i = t .before .before .before .before .before .before .before in
-    stopped w (t .before .loop .inv w) (t .loop-test .taken) (k .find-beyond .result) (i .includes-in .ensures) (x .includes-in2 .ensures) (k .find-beyond .ensures)
-    (c .enum-told .given .1)
+    let i = t .before .before .before .before .before .before in
+    stopped w (i .before .before .before .pre .1) (t .before .before .before .start-of .ensures) (t .before .loop .inv w) (t .loop-test .taken) (k .find-beyond .result) (i .includes-in .ensures)
+    (x .includes-in2 .ensures) (k .find-beyond .ensures) (c .enum-told .given .1)
 
 match-length-requires : tie.Need-match-length-requires Inv-loop μ-loop
 match-length-requires c κs = search needs
@@ -147,42 +137,44 @@ add-next-covering-2 c = omega (arith, one (c .before .before .before .before .be
 next-covering-requires-2 : tie.Need-next-covering-requires-2 Inv-loop μ-loop
 next-covering-requires-2 c κs =
     let t = c .before .before .before .before .before .before .before .before .before in
-    let g = t .before .loop .inv (t .before .before .before .before .before .before .before .before .before .before .pre) in
+    let g = t .before .loop .inv (t .before .before .before .before .before .before .before .before .before .pre .0) in
     record { todo = _; rest = rest-after (g .rest) (t .loop-test .taken) (c .match-length .ensures) }
+
+beside-requires : tie.Need-beside-requires Inv-loop μ-loop
+beside-requires c κs = search needs
 
 loop-less : tie.Need-loop-less Inv-loop μ-loop
 loop-less c =
-    let m = c .before in
-    omega (arith, c .next-covering2 .ensures .0, m .match-length .ensures, m .before .before .before .before .before .before .before .before .before .loop-test .taken)
+    let n = c .before in
+    let m = n .before in
+    omega (arith, n .next-covering2 .ensures .0, m .match-length .ensures, m .before .before .before .before .before .before .before .before .before .loop-test .taken)
 
 loop-again : tie.Need-loop-again Inv-loop μ-loop
 loop-again c = λ w.
-    let m = c .before in
+    let n = c .before in
+    let m = n .before in
     let k = m .before .before .before .before in
     let x = k .before .before .before in
     let t = x .before .before in
-    let i = t .before .before .before .before .before .before .before in
+    let i = t .before .before .before .before .before .before in
     let g = t .before .loop .inv w in
-    passed w g (t .loop-test .taken) (k .find-beyond .result) (i .includes-in .ensures) (x .includes-in2 .ensures) (k .find-beyond .ensures)
-    (m .before .before .found .given .1)
-    (c .next-covering2 .ensures .1 (record { todo = _; rest = rest-after (g .rest) (t .loop-test .taken) (m .match-length .ensures) }))
+    passed w (i .before .before .before .pre .1) (t .before .before .before .start-of .ensures) g (t .loop-test .taken) (k .find-beyond .result) (i .includes-in .ensures) (x .includes-in2 .ensures)
+    (k .find-beyond .ensures) (m .before .before .found .given .1) (c .beside .ensures)
+    (n .next-covering2 .ensures .1 (record { todo = _; rest = rest-after (g .rest) (t .loop-test .taken) (m .match-length .ensures) }))
 
-returns-3 : tie.Need-returns-3 Inv-loop μ-loop
-returns-3 c w = sought w (c .before .loop .inv w) (c .loop-test .left)
+returns-2 : tie.Need-returns-2 Inv-loop μ-loop
+returns-2 c w = let s = c .before .before .before in sought w (s .before .before .before .before .before .before .pre .1) (s .start-of .ensures) (c .before .loop .inv w) (c .loop-test .left)
 
-pub reaches-beyond-all-spec : {M : Type 1} → statement M
-reaches-beyond-all-spec =
+pub search-spec : {M : Type 1} → statement M
+search-spec =
     tie.close
     (tie.spec
     Inv-loop
     μ-loop
+    add-a
     mul-includes-in
     shared-slice-read-includes-in
     includes-in-requires
-    mul-result
-    shared-slice-read-result
-    returns
-    add-a
     mul-e
     add-e
     slot-length-requires
@@ -210,10 +202,11 @@ reaches-beyond-all-spec =
     find-beyond-requires
     enum-known-found
     enum-told
-    returns-2
+    returns
     match-length-requires
     add-next-covering-2
     next-covering-requires-2
+    beside-requires
     loop-less
     loop-again
-    returns-3)
+    returns-2)
