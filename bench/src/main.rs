@@ -1,5 +1,6 @@
 //! `bench` prints the table of times; `bench once` runs each case once for `bench/count`; `bench search SECONDS SEED [KIND]...`
-//! looks for the accepted inputs that cost most, some kinds left out.
+//! looks for the accepted inputs that cost most, some kinds left out, and `bench slower` for those that cost most beside the
+//! second engine.
 
 mod cases;
 mod least;
@@ -11,6 +12,7 @@ mod timing;
 
 use cases::Case;
 use proved::Proved;
+use search::Aim;
 use second_engine::{Engine, Listing, Quick, SecondEngine, BUFFER, WORK};
 use std::hint::black_box;
 
@@ -62,11 +64,12 @@ fn main() {
     match arguments[..] {
         [] => timing::table(),
         ["once"] => once(),
-        ["search", seconds, seed, ref without @ ..] => {
+        [aim @ ("search" | "slower"), seconds, seed, ref without @ ..] => {
+            let aim = if aim == "search" { Aim::Time } else { Aim::Ratio };
             let number = |text: &str| text.parse::<u64>().expect("a number");
             let without: Vec<u32> = without.iter().map(|kind| number(kind) as u32).collect();
-            search::search(number(seconds), number(seed), &without);
+            search::search(aim, number(seconds), number(seed), &without);
         }
-        _ => panic!("bench, bench once, or bench search SECONDS SEED [KIND LEFT OUT]..."),
+        _ => panic!("bench, bench once, or bench search|slower SECONDS SEED [KIND LEFT OUT]..."),
     }
 }

@@ -1,4 +1,5 @@
-//! A search for the accepted inputs that cost most: hill climbing from random and from hand-made inputs, by time.
+//! A search for the accepted inputs that cost most, or most beside the second engine: hill climbing from random and from
+//! hand-made inputs, by time.
 
 use crate::cases::Case;
 use crate::notation;
@@ -6,8 +7,18 @@ use crate::proved::Proved;
 use crate::{listing, quick, Lent};
 use second_engine::gen::Rng;
 use second_engine::selection::{self, Code};
+use second_engine::{Engine, SecondEngine};
 use std::hint::black_box;
 use std::time::{Duration, Instant};
+
+/// What is looked for.
+#[derive(Clone, Copy)]
+pub enum Aim {
+    /// the inputs that take longest
+    Time,
+    /// the inputs that take longest beside the second engine
+    Ratio,
+}
 
 #[derive(Clone)]
 struct Input {
@@ -22,6 +33,10 @@ fn beginnings() -> Vec<Input> {
     let mut beginnings = vec![];
     let mut add = |section: &str, selection: String| beginnings.push(Input::read(section, &selection));
     add("1*256 2*256", format!("1 {}", "2 mild ".repeat(20)));
+    add("1*256", format!("1-1 {}", "1 mild ".repeat(19)));
+    add("1*16 2*16 3*8 4*8", format!("1 2 and {}", "1 3 and 2 4 and or mild ".repeat(4)));
+    add("1*256 2 3 4 5 6 7 8 9*64", format!("1 {}", "2 3 and 4 and 5 and 6 and 7 and 8 and 9 and mild ".repeat(2)));
+    add("5*128 1*2", format!("1-1 window:256 {}", "5 1 and mild ".repeat(10)));
     add("1 2*256", format!("1 2 and {}", "1 window:256 mild ".repeat(14)));
     add("1 2*256 3*256", format!("1 2 and {}", "1 3 and mild ".repeat(9)));
     add("1 2 3*170 4*256", format!("1-2 4 and {}", "2 1 and 3 and mild ".repeat(6)));
@@ -172,17 +187,27 @@ fn changed(rng: &mut Rng, input: &Input, other: &Input) -> Input {
 }
 
 /// The least time of so many calls.
-fn cost(call: usize, input: &Input, times: usize, lent: &mut Lent) -> Duration {
-    let case = input.case();
+fn least_time(engine: &dyn Engine, call: usize, case: &Case, times: usize, lent: &mut Lent) -> Duration {
     let once = |lent: &mut Lent| {
         let begun = Instant::now();
         match call {
-            0 => _ = black_box(listing(&Proved, &case, lent)),
-            _ => _ = black_box(quick(&Proved, &case, lent)),
+            0 => _ = black_box(listing(engine, case, lent)),
+            _ => _ = black_box(quick(engine, case, lent)),
         }
         begun.elapsed()
     };
     (0..times).map(|_| once(lent)).min().expect("at least one call")
+}
+
+/// What an input costs: microseconds, or how often the second engine's time.
+fn cost(aim: Aim, call: usize, input: &Input, times: usize, lent: &mut Lent) -> f64 {
+    let case = input.case();
+    let micros = |time: Duration| time.as_nanos() as f64 / 1_000.0;
+    let proved = micros(least_time(&Proved, call, &case, times, lent));
+    match aim {
+        Aim::Time => proved,
+        Aim::Ratio => proved / micros(least_time(&SecondEngine::new(), call, &case, times, lent)),
+    }
 }
 
 fn random(rng: &mut Rng) -> Option<Input> {
@@ -194,7 +219,7 @@ fn random(rng: &mut Rng) -> Option<Input> {
 
 /// Climbs for one call after the other, each from several beginnings, and prints what it found. Some kinds may be left out,
 /// to see what costs most besides them.
-pub fn search(seconds: u64, seed: u64, without: &[u32]) {
+pub fn search(aim: Aim, seconds: u64, seed: u64, without: &[u32]) {
     let mut rng = Rng::new(seed, 0);
     let mut lent = Lent::new();
     let fits = |input: &Input| input.is_accepted() && !input.codes.iter().any(|code| without.contains(&code.kind));
@@ -204,8 +229,8 @@ pub fn search(seconds: u64, seed: u64, without: &[u32]) {
         while pool.len() < 24 {
             pool.extend(random(&mut rng).filter(fits));
         }
-        let mut pool: Vec<(Duration, Input)> =
-            pool.into_iter().map(|input| (cost(call, &input, 5, &mut lent), input)).collect();
+        let mut pool: Vec<(f64, Input)> =
+            pool.into_iter().map(|input| (cost(aim, call, &input, 5, &mut lent), input)).collect();
         let mut tries = 0;
         while begun.elapsed().as_secs() < seconds {
             let (one, other) = (rng.below(pool.len()), rng.below(pool.len()));
@@ -215,25 +240,29 @@ pub fn search(seconds: u64, seed: u64, without: &[u32]) {
             }
             tries += 1;
             // what seems to cost more is measured again, and what it is held against, too
-            let dearer = |one: Duration, other: Duration| one.as_nanos() * 50 > other.as_nanos() * 51;
-            if dearer(cost(call, &next, 2, &mut lent), pool[one].0) {
-                let time = cost(call, &next, 9, &mut lent);
-                pool[one].0 = pool[one].0.min(cost(call, &pool[one].1, 9, &mut lent));
-                if dearer(time, pool[one].0) {
-                    pool[one] = (time, next);
+            let dearer = |one: f64, other: f64| one > 1.02 * other;
+            if dearer(cost(aim, call, &next, 2, &mut lent), pool[one].0) {
+                let again = cost(aim, call, &next, 9, &mut lent);
+                pool[one].0 = pool[one].0.min(cost(aim, call, &pool[one].1, 9, &mut lent));
+                if dearer(again, pool[one].0) {
+                    pool[one] = (again, next);
                 }
             }
             // now and then the cheapest gives way to a copy of the dearest
             if tries % 5_000 == 0 {
-                pool.sort_by_key(|(time, _)| std::cmp::Reverse(*time));
+                dearest_first(&mut pool);
                 let best = pool[0].clone();
                 *pool.last_mut().expect("some") = best;
             }
         }
-        pool.sort_by_key(|(time, _)| std::cmp::Reverse(*time));
+        dearest_first(&mut pool);
         println!("{name}: {tries} inputs tried");
-        let mut lines: Vec<String> = pool.iter().map(|(time, input)| format!("{time:?} | {}", input.text())).collect();
+        let mut lines: Vec<String> = pool.iter().map(|(cost, input)| format!("{cost:.2} | {}", input.text())).collect();
         lines.dedup();
-        println!("{}", lines[..5].join("\n"));
+        println!("{}", lines[..lines.len().min(5)].join("\n"));
     }
+}
+
+fn dearest_first(pool: &mut [(f64, Input)]) {
+    pool.sort_by(|one, other| other.0.total_cmp(&one.0));
 }

@@ -3,6 +3,7 @@ use Prim.Native.Nat.{ℕ, _+_}
 use mathlib.Core.Bool.{Bool, true, false, not, _&&_, cond}
 use mathlib.Core.List.{List, [], _∷_}
 use mathlib.Core.Path.{_≡_}
+use lib.Dec.{eqb, ltb}
 use lib.ListN.{length}
 use Rattle.model.specs.Lists.{allOf, anyOf}
 use Rattle.model.specs.Matches.{Str, Match}
@@ -67,3 +68,7 @@ pub record KnownAt (mem : List ℕ) (p r x y : ℕ) : Type 0 where
 pub record ReachedIs (l : Match) (rights : List Match) (r : Reached) : Type 0 where
   pub beyond : r .beyond ≡ allOf (reachesBeyond l) rights
   pub apart : fromCovering (r .p) (r .q) rights ≡ []
+
+-- how many matches of L in a row one position has decided, up to four
+abbrev pub inARow : ℕ → Reached → ℕ
+inARow row r = cond (r .beyond && eqb (r .p) (r .q)) (cond (ltb row 4) (row + 1) row) 0

@@ -20,7 +20,7 @@ ghost use Rattle.store.specs.Outcome.{Outcome};
 ghost use Rattle.store.specs.Places.{Under};
 ghost use Rattle.store.specs.Put.{Put};
 ghost use Rattle.store.specs.Slot.{SlotAt};
-ghost use Rattle.mild.specs.Beyond.{coverBoth, fromCovering, numberCovers, Covering, FoundBeyond, KnownAt, ReachedIs, Rest, RestAt};
+ghost use Rattle.mild.specs.Beyond.{coverBoth, fromCovering, inARow, numberCovers, Covering, FoundBeyond, KnownAt, ReachedIs, Rest, RestAt};
 
 // A position that includes of a left match cover, and those of a right match don't.
 enum Found {
@@ -99,6 +99,9 @@ fn next_covering(mem: &[u32], from: usize, end: usize, p: u32, q: u32) -> usize
     at
 }
 
+// After so many matches of L that were decided by one position, the numbers of R are read first.
+const ENOUGH: u32 = 4;
+
 // What comes of a match of L against R.
 struct Reached {
     // does it reach beyond every match of R?
@@ -172,16 +175,33 @@ fn search(mem: &[u32], p: usize, r: usize, x: u32, y: u32) -> Reached
     }
 }
 
+// How many matches of L in a row have been decided by one position that no match of R covers, up to ENOUGH.
+fn in_a_row(row: u32, reached: Reached) -> u32
+    ensures { λ r. ⌜ r ≡ inARow row reached ⌝ }
+{
+    if !reached.beyond {
+        return 0;
+    }
+    if reached.p != reached.q {
+        return 0;
+    }
+    if row < ENOUGH {
+        return row + 1;
+    }
+    row
+}
+
 // "for every match of R", of the match of L at p. Two positions that no match of R covers both are known from the match before it: where it covers them too,
-// as a copy does, nothing is looked for. Where that match was decided by one position, it is likely that no number of R covers one of this match.
-fn reach(mem: &[u32], p: usize, r: usize, x: u32, y: u32) -> Reached
+// as a copy does, nothing is looked for. After enough matches in a row that one position decided, the numbers of R are likely to say the same of this one.
+fn reach(mem: &[u32], p: usize, r: usize, x: u32, y: u32, row: u32) -> Reached
     requires { ⌜ KnownAt (now mem) p r x y ⌝ }
     ensures { λ b. ⌜ ((w : KnownAt (now (mem .entry)) p r x y) → ReachedIs (w .item) (w .rights) b) ⌝ }
 {
     let includes = store::includes_in(mem[p]);
     if includes == 0 {
+        let alone = mem[r] == 0;
         return Reached {
-            beyond: mem[r] == 0,
+            beyond: alone,
             p: x,
             q: y,
         };
@@ -195,7 +215,7 @@ fn reach(mem: &[u32], p: usize, r: usize, x: u32, y: u32) -> Reached
             q: y,
         };
     }
-    if x == y {
+    if ENOUGH <= row {
         let first = start_of(mem[a]);
         let end = r + store::slot_length(mem, r);
         if count_covering(&mem[r + 2..end], first) == 0 {
@@ -240,14 +260,16 @@ pub fn mild_not_list(mem: &mut [u32], l: usize, r: usize, at: usize) -> Built
     let mut matches = 0;
     let mut x = 0;
     let mut y = 0;
+    let mut row = 0;
     let mut i = 0;
     while i < n {
         let length = store::match_length(mem[p]);
-        let reached = reach(mem, p, r, x, y);
+        let reached = reach(mem, p, r, x, y, row);
         let next = put_kept(mem, p, q, reached.beyond);
         matches = store::count_one(matches, q, next);
         x = reached.p;
         y = reached.q;
+        row = in_a_row(row, reached);
         q = next;
         p += length;
         i += 1;

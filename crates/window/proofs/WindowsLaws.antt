@@ -5,7 +5,7 @@ use native.Mathlib.Omega.{arith}
 use mathlib.Core.Path.{_≡_, refl, sym, ap, ap₂, _∙_, subst}
 use mathlib.Core.List.{List, [], _∷_, _++_, map, flatMap}
 use mathlib.Core.Logic.{inl, inr}
-use lib.ListN.{length, take, drop, getD, set, length-append}
+use lib.ListN.{length, take, drop, getD, set, length-append, length-map}
 use lib.Seq.{sets}
 use Rattle.model.specs.AllMatches.{filterList}
 use Rattle.model.specs.AllStrings.{AllStrs}
@@ -17,7 +17,7 @@ use Rattle.model.specs.Matches.{Match, Str, strings, stringsIn}
 use Rattle.model.specs.Rules.{greatestEnd, insideWindow, join, leastStart, window, windowEnds, windowTo}
 use Rattle.model.specs.Section.{Section}
 use Rattle.model.proofs.EveryLaws.{every-weaker}
-use Rattle.model.proofs.ListsLaws.{length-keep, range-cons, range-empty}
+use Rattle.model.proofs.ListsLaws.{length-keep, length-range, range-cons, range-empty}
 use Rattle.model.proofs.RulesLaws.{greatestEnd-bound, window-none}
 use Rattle.strings.specs.Strings.{strsAt, strsOf}
 use Rattle.strings.proofs.JoiningLaws.{strsOf-join}
@@ -116,6 +116,14 @@ pub record WindowStrings (n last : ℕ) (m : Match) (count : ℕ) : Type 0 where
   pub strings-are : stringsIn (windowTo n m last) ≡ 1 + count
   pub few : count ≤ maxStrings
 
+-- more windows than the limit leaves
+windows-over : (n span : ℕ) (m : Match) (from : Written) → windowEnds n (m .includes) ≡ fromTo (span % radix) (span / radix + n - 1) → from .matches ≤ maxMatches
+    → maxMatches + span % radix < from .matches + (span / radix + n) → Over (window n m) from
+unfolding window
+windows-over n span m from ends few h =
+    let count = length-map (windowEnds n (m .includes)) (windowTo n m) ∙ ap length ends ∙ length-range (span % radix) (span / radix + n - 1) in
+    inl (omega (arith, count))
+
 module _ {n : ℕ} {mem₀ : List ℕ} {p span tag : ℕ} {from : Written} (w : WindowsAt n mem₀ p span tag from) where
   pub each-start : {last end : ℕ} → last ≡ span % radix → end ≡ span / radix + n → EachSoFar n (w .item) mem₀ end from mem₀ last from
   unfolding window
@@ -145,10 +153,7 @@ module _ {n : ℕ} {mem₀ : List ℕ} {p span tag : ℕ} {from : Written} (w : 
       windows-cons : windowsFrom n (w .item) last end ≡ (windowTo n (w .item) last ∷ []) ++ windowsFrom n (w .item) (last + 1) end
       windows-cons = ap (map (windowTo n (w .item))) (range-cons last (end - 1) (omega arith))
 
-      -- one match more is too many, or its strings are ..
-      pub over-matches : maxMatches < to .matches + 1 → Over (window n (w .item)) from
-      over-matches k = sofar-over (g .sofar) (windowTo n (w .item) last ∷ []) (windowsFrom n (w .item) (last + 1) end) windows-cons (inl k)
-
+      -- one match more has too many strings ..
       pub over-strings : {more : ℕ} → stringsIn (windowTo n (w .item) last) ≡ more → maxStrings < to .strings + more → Over (window n (w .item)) from
       unfolding strings
       over-strings e k = sofar-over (g .sofar) (windowTo n (w .item) last ∷ []) (windowsFrom n (w .item) (last + 1) end) windows-cons (inr (omega arith))
@@ -201,23 +206,32 @@ module _ {n : ℕ} {mem : List ℕ} {p : ℕ} {from : Written} (w : ItemAt n mem
   module _ (some : i ≡ 0 → ⊥) {span tag : ℕ}
       (spans : Gives spanOf (strsAt (take (p + 1 + 2 * i - (p + 1)) (drop (p + 1) mem))) span)
       (tags : Gives (tagOf 0) (strsAt (take (p + 1 + 2 * i - (p + 1)) (drop (p + 1) mem))) tag) where
-    pub windows-at : WindowsAt n mem p span tag from
-    windows-at =
+    join-is : Joined n (w .item .includes) span tag
+    join-is =
         let read : strsAt (take (p + 1 + 2 * i - (p + 1)) (drop (p + 1) mem)) ≡ w .item .includes = includes-read (w .held) (p + 1) (p + 1 + 2 * i) refl (omega arith) in
-        let j =
         joined-some n (w .item .includes) (λ z. some (e ∙ includes-held (w .held) ∙ z)) (w .held .fine .includes)
-        (λ s ss d. spans s ss (read ∙ d)) (λ s ss d. tags s ss (read ∙ d)) in
-        record {
-          item = w .item;
-          source = record { size = w .size; held = w .held; below = w .below; joins = j .joins };
-          ends = j .ends;
-          within = w .within;
-        }
+        (λ s ss d. spans s ss (read ∙ d)) (λ s ss d. tags s ss (read ∙ d))
 
-    pub windows-listed : (exit : List ℕ) (listed : Listed) → ListedAs (window n (windows-at .item)) mem exit from listed
-        → ListedAs (window n (w .item)) mem exit from listed
-    unfolding windows-at
-    windows-listed exit listed l = l
+    -- its windows are too many ..
+    pub windows-refused : maxMatches + span % radix < from .matches + (span / radix + n) → Over (window n (w .item)) from
+    windows-refused = windows-over n span (w .item) from (join-is .ends) (w .within .few)
+
+    -- .. or not
+    module _ (fits : from .matches + (span / radix + n) ≤ maxMatches + span % radix) where
+      pub windows-at : WindowsAt n mem p span tag from
+      windows-at =
+          record {
+            item = w .item;
+            source = record { size = w .size; held = w .held; below = w .below; joins = join-is .joins };
+            ends = join-is .ends;
+            fits = fits;
+            within = w .within;
+          }
+
+      pub windows-listed : (exit : List ℕ) (listed : Listed) → ListedAs (window n (windows-at .item)) mem exit from listed
+          → ListedAs (window n (w .item)) mem exit from listed
+      unfolding windows-at
+      windows-listed exit listed l = l
 
 -- ---- the list
 

@@ -1,5 +1,5 @@
--- What listing windows requires and leaves. Windows are listed one by one behind what is written, with counts of all that is written; the listing ends as
--- soon as one more window would be over the limits.
+-- What listing windows requires and leaves. A match's windows are counted first; then they are listed one by one behind what is written, with counts of all
+-- that is written, and the listing ends as soon as the strings of one more would be over the limit.
 use Prim.Native.Nat.{ℕ, _+_, _-_, _*_, _/_, _%_, _≤_, _<_}
 use mathlib.Core.List.{List, [], _∷_}
 use mathlib.Core.Logic.{_⊎_}
@@ -43,11 +43,12 @@ pub record Within (size : ℕ) (w : Written) : Type 0 where
   pub strs : w .strings ≤ maxStrings
   pub room : w .next + (maxMatches + 2 * maxStrings) ≤ size + (w .matches + 2 * w .strings)
 
--- the match at p, with includes, and what is written above it
+-- the match at p, with includes, and what is written above it; its windows are not too many
 pub record WindowsAt (n : ℕ) (mem : List ℕ) (p span tag : ℕ) (from : Written) : Type 0 where
   pub item : Match
   pub source : Source n item mem p (from .next) span tag
   pub ends : windowEnds n (item .includes) ≡ fromTo (span % radix) (span / radix + n - 1)
+  pub fits : from .matches + (span / radix + n) ≤ maxMatches + span % radix
   pub within : Within (length mem) from
 
 -- .. with or without includes

@@ -12,7 +12,11 @@ use store::Built;
 use strings::joining::join_span;
 use strings::joining::join_tag;
 ghost use mathlib.Core.List.{flatMap};
+ghost use mathlib.Core.Path.{_≡_};
+ghost use Prim.Native.Nat.{_+_, _/_, _%_, _≤_};
+ghost use lib.Dec.{ltb};
 ghost use lib.ListN.{length};
+ghost use Rattle.model.specs.Limits.{maxMatches, radix};
 ghost use Rattle.model.specs.Rules.{window, windowTo};
 ghost use Rattle.store.specs.Layout.{matchNumbers};
 ghost use Rattle.store.specs.Outcome.{Outcome};
@@ -33,7 +37,7 @@ struct Written {
 enum Listed {
     // all are written, behind what was
     All(Written),
-    // one of them would have been the list's 257th match, or had its 513th string
+    // they are more matches than the list has room for, or one of them had its 513th string
     TooLong,
 }
 
@@ -79,9 +83,6 @@ fn put_each(mem: &mut [u32], n: u32, p: usize, span: u32, tag: u32, from: Writte
     let mut matches = from.matches;
     let mut strings = from.strings;
     while last < end {
-        if MAX_MATCHES < matches + 1 {
-            return Listed::TooLong;
-        }
         let more = 1 + count_inside(n, Position(last), &mem[a..e]) as u32;
         if MAX_STRINGS < strings + more {
             return Listed::TooLong;
@@ -96,6 +97,16 @@ fn put_each(mem: &mut [u32], n: u32, p: usize, span: u32, tag: u32, from: Writte
         matches,
         strings,
     })
+}
+
+// Are the windows around a join of this span too many, behind so many matches? They are counted before any is written.
+fn too_many(n: u32, span: u32, matches: u32) -> bool
+    requires { ⌜ WindowSize n ⌝ }
+    requires { ⌜ matches ≤ maxMatches ⌝ }
+    ensures { λ r. ⌜ r ≡ ltb (maxMatches + span % radix) (matches + (span / radix + n)) ⌝ }
+{
+    let end = strings::start_of(span) + n;
+    MAX_MATCHES + strings::end_of(span) < matches + end
 }
 
 // "for each match with includes .. A match without includes is dropped."
@@ -113,6 +124,9 @@ fn put_windows(mem: &mut [u32], n: u32, p: usize, from: Written) -> Listed
     let e = a + 2 * includes;
     let span = join_span(&mem[a..e]);
     let tag = join_tag(&mem[a..e]);
+    if too_many(n, span, from.matches) {
+        return Listed::TooLong;
+    }
     put_each(mem, n, p, span, tag, from)
 }
 

@@ -16,12 +16,12 @@ use Rattle.mild.proofs.Apart.{zero-apart}
 use Rattle.mild.proofs.Seeking.{mildNot-small, known-at, kept-at, keep-next, mildNot-closed}
 
 abbrev Inv-loop : tie.InvT-loop
-Inv-loop mem₀ l r at n p₀ q₀ matches₀ x₀ y₀ i₀ mem p q matches x y i =
+Inv-loop mem₀ l r at n p₀ q₀ matches₀ x₀ y₀ row₀ i₀ mem p q matches x y row i =
     (i ≤ n) × (length mem ≡ length mem₀)
     × ((u : SlotAt mem₀ l) → (w : SlotAt mem₀ r) → Counting (mildNot (w .list)) (u .list) mem₀ n (at + 2) mem p q i matches × (fromCovering x y (w .list) ≡ []))
 
 abbrev μ-loop : tie.MeasureT-loop
-μ-loop mem₀ l r at n p₀ q₀ matches₀ x₀ y₀ i₀ mem p q matches x y i = n - i
+μ-loop mem₀ l r at n p₀ q₀ matches₀ x₀ y₀ row₀ i₀ mem p q matches x y row i = n - i
 
 -- the match of L in hand, with what is known of R
 abbrev one : (c : tie.In-loop Inv-loop μ-loop)
@@ -78,9 +78,12 @@ count-one-requires c κs =
     let r = l .before .before .before .pre in
     omega (arith, count-most (l .loop .inv .2 (r .0) (r .1 .0) .0), mildNot-small (r .1 .0 .list) (r .0 .slot))
 
+in-a-row-requires : tie.Need-in-a-row-requires Inv-loop μ-loop
+in-a-row-requires c κs = search needs
+
 add-p-2 : tie.Need-add-p-2 Inv-loop μ-loop
 add-p-2 c =
-    let k = c .before .before .before .before .before .before .before in
+    let k = c .before .before .before .before .before .before .before .before in
     omega (arith, one (k .before .before) .held .header, k .match-length .ensures)
 
 add-i : tie.Need-add-i Inv-loop μ-loop
@@ -91,7 +94,7 @@ loop-less c = search needs
 
 loop-again : tie.Need-loop-again Inv-loop μ-loop
 loop-again c =
-    let v = c .before .before .before in
+    let v = c .before .before .before .before in
     let h = v .before .before in
     let k = h .before .before in
     let t = k .before .before in
@@ -102,7 +105,7 @@ loop-again c =
           let g = t .before .loop .inv .2 u w in
           let reached = h .reach .ensures (known-at (w .list) (g .0) (t .loop-test .taken) _ _ (w .slot) (omega arith) (g .1)) in (
             keep-next (w .list) (g .0) (t .loop-test .taken) (reached .beyond) (v .put-kept .ensures (kept-at (w .list) (g .0) (t .loop-test .taken) (reached .beyond)))
-                (k .match-length .ensures) (c .count-one .ensures),
+                (k .match-length .ensures) (c .before .count-one .ensures),
             reached .apart,
           ),
     )
@@ -139,6 +142,7 @@ mild-not-list-spec =
     reach-requires
     put-kept-requires
     count-one-requires
+    in-a-row-requires
     add-p-2
     add-i
     loop-less

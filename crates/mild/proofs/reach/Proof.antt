@@ -15,11 +15,11 @@ shared-slice-read-includes-in c = search needs
 includes-in-requires : tie.Need-includes-in-requires
 includes-in-requires c κs = search needs
 
-mul-t15 : tie.Need-mul-t15
-mul-t15 c = search needs
+mul-alone : tie.Need-mul-alone
+mul-alone c = search needs
 
-shared-slice-read-t17 : tie.Need-shared-slice-read-t17
-shared-slice-read-t17 c = search needs
+shared-slice-read-alone : tie.Need-shared-slice-read-alone
+shared-slice-read-alone c = search needs
 
 returns : tie.Need-returns
 returns c w = without-includes w (c .before .before .includes-in .ensures) (c .before .if1 .taken) refl
@@ -111,8 +111,8 @@ reach-spec =
     mul-includes-in
     shared-slice-read-includes-in
     includes-in-requires
-    mul-t15
-    shared-slice-read-t17
+    mul-alone
+    shared-slice-read-alone
     returns
     add-a
     mul-e

@@ -1,5 +1,5 @@
--- Invariant: the windows before the one in hand are written and counted, within the limits. Measure: the windows left. A window's strings are counted before
--- it is written, so what is written has room, and what is refused would be over the limits.
+-- Invariant: the windows before the one in hand are written and counted, and with those left they are not too many. Measure: the windows left. A window's strings are
+-- counted before it is written, so what is written has room, and what is refused would be over the limits.
 use Prim.Native.Nat.{_+_, _-_, _≤_}
 use native.Mathlib.Omega.{arith}
 use mathlib.Core.Path.{_≡_, refl, ap}
@@ -7,13 +7,13 @@ use borrow.Author.Needs.{needs}
 use lib.ListN.{length}
 use Rattle.model.specs.Limits.{maxMatches, maxStrings}
 use Rattle.window.specs.Windows.{WindowsAt, written}
-use Rattle.window.proofs.WindowsLaws.{WindowStrings, EachSoFar, each-start, each-counted, over-matches, over-strings, each-window, each-next, each-end}
+use Rattle.window.proofs.WindowsLaws.{WindowStrings, EachSoFar, each-start, each-counted, over-strings, each-window, each-next, each-end}
 use Rattle.window.proofs.put_each.Statement.{statement}
 use Rattle.window.proofs.put_each.Tie as tie
 
 abbrev Inv-loop : tie.InvT-loop
 Inv-loop mem₀ n p span tag header a e end last₀ next₀ matches₀ strings₀ mem last next matches strings =
-    (length mem ≡ length mem₀) × (matches ≤ maxMatches) × (strings ≤ maxStrings)
+    (length mem ≡ length mem₀) × (matches + end ≤ maxMatches + last) × (strings ≤ maxStrings)
     × ((w : WindowsAt n mem₀ p span tag (written next₀ matches₀ strings₀))
     → EachSoFar n (w .item) mem₀ end (written next₀ matches₀ strings₀) mem last (written next matches strings))
 
@@ -60,16 +60,8 @@ loop-holds : tie.Need-loop-holds Inv-loop μ-loop
 loop-holds c =
     let s = c .before in
     let n = s .before .before .before .before .before .args .n in
-    (refl, search needs, search needs, λ w. each-start w (c .end-of .ensures) (ap (λ k. k + n) (s .start-of .ensures)))
-
-add-if1 : tie.Need-add-if1 Inv-loop μ-loop
-add-if1 c = search needs
-
-same-length : tie.Need-same-length Inv-loop μ-loop
-same-length c = search needs
-
-returns : tie.Need-returns Inv-loop μ-loop
-returns c w = let t = c .before in over-matches w (t .before .loop .inv .3 w) (t .loop-test .taken) (c .if1 .taken)
+    let w = s .before .before .before .before .before .pre in
+    (refl, omega (arith, w .fits, c .end-of .ensures, s .start-of .ensures), search needs, λ w. each-start w (c .end-of .ensures) (ap (λ k. k + n) (s .start-of .ensures)))
 
 mul-count-inside : tie.Need-mul-count-inside Inv-loop μ-loop
 mul-count-inside c = search needs
@@ -89,21 +81,21 @@ count-inside-requires c κs = search needs
 -- what the contract speaks of, at the count of the strings inside ..
 abbrev Given : tie.After-count-inside Inv-loop μ-loop → Type 0
 Given c =
-    let s = c .before .before .before .before .before .before .before .before .before .before .before .before in
+    let s = c .before .before .before .before .before .before .before .before .before .before .before in
     WindowsAt (s .args .n) (s .args .mem .now) (s .args .p) (s .args .span) (s .args .tag) (s .args .from)
 
 given : (c : tie.After-count-inside Inv-loop μ-loop) → Given c
-given c = c .before .before .before .before .before .before .before .before .before .before .before .before .pre
+given c = c .before .before .before .before .before .before .before .before .before .before .before .pre
 
 -- .. and what that count says
 abbrev Said : (c : tie.After-count-inside Inv-loop μ-loop) → Given c → Type 0
 Said c w =
-    let l = c .before .before .before .before .before in
+    let l = c .before .before .before .before in
     WindowStrings (l .before .before .before .before .before .before .before .args .n) (l .loop .last) (w .item) (c .count-inside .result)
 
 counted : (c : tie.After-count-inside Inv-loop μ-loop) (w : Given c) → Said c w
 counted c w =
-    let l = c .before .before .before .before .before in
+    let l = c .before .before .before .before in
     let x = l .before .before .before in
     each-counted w (l .loop .inv .3 w) (x .before .includes-in .ensures) (x .excludes-in .ensures) (c .count-inside .ensures)
 
@@ -113,25 +105,24 @@ cast-more c = omega (arith, counted c (given c) .few)
 add-more : tie.Need-add-more Inv-loop μ-loop
 add-more c = omega (arith, counted c (given c) .few)
 
-add-if2 : tie.Need-add-if2 Inv-loop μ-loop
-add-if2 c = omega (arith, counted c (given c) .few)
+add-if1 : tie.Need-add-if1 Inv-loop μ-loop
+add-if1 c = omega (arith, counted c (given c) .few)
 
-same-length-2 : tie.Need-same-length-2 Inv-loop μ-loop
-same-length-2 c = search needs
+same-length : tie.Need-same-length Inv-loop μ-loop
+same-length c = search needs
 
-returns-2 : tie.Need-returns-2 Inv-loop μ-loop
-returns-2 c w =
+returns : tie.Need-returns Inv-loop μ-loop
+returns c w =
     let k = c .before in
-    let t = k .before .before .before .before in
-    over-strings w (t .before .loop .inv .3 w) (t .loop-test .taken) (counted k w .strings-are) (c .if2 .taken)
+    let t = k .before .before .before in
+    over-strings w (t .before .loop .inv .3 w) (t .loop-test .taken) (counted k w .strings-are) (c .if1 .taken)
 
 put-window-requires : tie.Need-put-window-requires Inv-loop μ-loop
 put-window-requires c κs =
     let k = c .before .before in
-    let e = k .before .before .before in
-    let t = e .before in
+    let t = k .before .before .before in
     let w = given k in
-    each-window w (t .before .loop .inv .3 w) (t .loop-test .taken) (counted k w .strings-are) (e .if1 .left) (c .before .if2 .left)
+    each-window w (t .before .loop .inv .3 w) (t .loop-test .taken) (counted k w .strings-are) (omega (arith, t .before .loop .inv .1)) (c .before .if1 .left)
 
 add-matches : tie.Need-add-matches Inv-loop μ-loop
 add-matches c = search needs
@@ -149,22 +140,22 @@ loop-again : tie.Need-loop-again Inv-loop μ-loop
 loop-again c =
     let f = c .before .before .before .before in
     let k = f .before in
-    let e = k .before .before .before in
-    let t = e .before in (
+    let t = k .before .before .before in
+    let few : t .before .loop .matches + 1 ≤ maxMatches = omega (arith, t .before .loop .inv .1, t .loop-test .taken) in (
       search needs,
-      e .if1 .left,
-      f .if2 .left,
+      omega (arith, t .before .loop .inv .1),
+      f .if1 .left,
       λ w.
           let g = t .before .loop .inv .3 w in
-          let at = each-window w g (t .loop-test .taken) (counted k w .strings-are) (e .if1 .left) (f .if2 .left) in
-          each-next w g (t .loop-test .taken) (counted k w .strings-are) (e .if1 .left) (f .if2 .left) (c .before .before .put-window .ensures at),
+          let at = each-window w g (t .loop-test .taken) (counted k w .strings-are) few (f .if1 .left) in
+          each-next w g (t .loop-test .taken) (counted k w .strings-are) few (f .if1 .left) (c .before .before .put-window .ensures at),
     )
 
-same-length-3 : tie.Need-same-length-3 Inv-loop μ-loop
-same-length-3 c = search needs
+same-length-2 : tie.Need-same-length-2 Inv-loop μ-loop
+same-length-2 c = search needs
 
-returns-3 : tie.Need-returns-3 Inv-loop μ-loop
-returns-3 c w = each-end w (c .before .loop .inv .3 w) (omega arith) (c .loop-test .left)
+returns-2 : tie.Need-returns-2 Inv-loop μ-loop
+returns-2 c w = each-end w (c .before .loop .inv .3 w) (omega arith) (c .loop-test .left)
 
 pub put-each-spec : {M : Type 1} → statement M
 put-each-spec =
@@ -185,9 +176,6 @@ put-each-spec =
     add-end
     end-of-requires
     loop-holds
-    add-if1
-    same-length
-    returns
     mul-count-inside
     sub-count-inside
     part-count-inside-start
@@ -195,14 +183,14 @@ put-each-spec =
     count-inside-requires
     cast-more
     add-more
-    add-if2
-    same-length-2
-    returns-2
+    add-if1
+    same-length
+    returns
     put-window-requires
     add-matches
     add-strings
     add-last
     loop-less
     loop-again
-    same-length-3
-    returns-3)
+    same-length-2
+    returns-2)

@@ -1,6 +1,8 @@
 -- A match without includes has no window. Of any other the join's span is least start and greatest end, so it says where the windows' last positions run.
+use mathlib.Core.Path.{sym, _∙_}
 use borrow.Author.Needs.{needs}
-use Rattle.window.proofs.WindowsLaws.{dropped, windows-at, windows-listed}
+use borrow.Author.Tests.{ltb-true, ltb-false}
+use Rattle.window.proofs.WindowsLaws.{dropped, windows-at, windows-listed, windows-refused}
 use Rattle.window.proofs.put_windows.Statement.{statement}
 use Rattle.window.proofs.put_windows.Tie as tie
 
@@ -55,26 +57,45 @@ part-join-tag-end c = search needs
 join-tag-requires : tie.Need-join-tag-requires
 join-tag-requires c κs = search needs
 
-put-each-requires : tie.Need-put-each-requires
-put-each-requires c κs =
-    let t = c .before in
-    let s = t .before .before .before in
-    let e = s .before .before .before in
-    let i = e .before in
-    windows-at (i .before .before .before .pre) (i .includes-in .ensures) (e .if1 .left) (s .join-span .ensures) (t .join-tag .ensures)
+too-many-requires : tie.Need-too-many-requires
+too-many-requires c κs = search needs
 
 same-length : tie.Need-same-length
 same-length c = search needs
 
 returns-2 : tie.Need-returns-2
 returns-2 c w =
-    let r = c .before .before in
-    let t = r .before .before in
+    let k = c .before in
+    let t = k .before in
     let s = t .before .before .before in
     let e = s .before .before .before in
     let i = e .before in
-    windows-listed w (i .includes-in .ensures) (e .if1 .left) (s .join-span .ensures) (t .join-tag .ensures) (r .put-each .last .0) (r .put-each .result)
-    (r .put-each .ensures (windows-at w (i .includes-in .ensures) (e .if1 .left) (s .join-span .ensures) (t .join-tag .ensures)))
+    windows-refused w (i .includes-in .ensures) (e .if1 .left) (s .join-span .ensures) (t .join-tag .ensures) (ltb-true _ _ (sym (k .too-many .ensures) ∙ c .if2 .taken))
+
+put-each-requires : tie.Need-put-each-requires
+put-each-requires c κs =
+    let f = c .before in
+    let t = f .before .before in
+    let s = t .before .before .before in
+    let e = s .before .before .before in
+    let i = e .before in
+    windows-at (i .before .before .before .pre) (i .includes-in .ensures) (e .if1 .left) (s .join-span .ensures) (t .join-tag .ensures)
+    (ltb-false _ _ (sym (f .before .too-many .ensures) ∙ f .if2 .left))
+
+same-length-2 : tie.Need-same-length-2
+same-length-2 c = search needs
+
+returns-3 : tie.Need-returns-3
+returns-3 c w =
+    let r = c .before .before in
+    let f = r .before .before in
+    let t = f .before .before in
+    let s = t .before .before .before in
+    let e = s .before .before .before in
+    let i = e .before in
+    let fits = ltb-false _ _ (sym (f .before .too-many .ensures) ∙ f .if2 .left) in
+    windows-listed w (i .includes-in .ensures) (e .if1 .left) (s .join-span .ensures) (t .join-tag .ensures) fits (r .put-each .last .0) (r .put-each .result)
+    (r .put-each .ensures (windows-at w (i .includes-in .ensures) (e .if1 .left) (s .join-span .ensures) (t .join-tag .ensures) fits))
 
 pub put-windows-spec : {M : Type 1} → statement M
 put-windows-spec =
@@ -97,6 +118,9 @@ put-windows-spec =
     part-join-tag-start
     part-join-tag-end
     join-tag-requires
-    put-each-requires
+    too-many-requires
     same-length
-    returns-2)
+    returns-2
+    put-each-requires
+    same-length-2
+    returns-3)
