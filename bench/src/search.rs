@@ -7,7 +7,7 @@ use crate::proved::Proved;
 use crate::{listing, quick, Lent};
 use second_engine::gen::Rng;
 use second_engine::selection::{self, Code};
-use second_engine::{Engine, SecondEngine};
+use second_engine::{Engine, Listing, Quick, SecondEngine};
 use std::hint::black_box;
 use std::time::{Duration, Instant};
 
@@ -16,9 +16,12 @@ use std::time::{Duration, Instant};
 pub enum Aim {
     /// the inputs that take longest
     Time,
-    /// the inputs that take longest beside the second engine
+    /// the inputs that are answered and take longest beside the second engine
     Ratio,
 }
+
+/// How many calls the least time is taken of.
+const CALLS: usize = 15;
 
 #[derive(Clone)]
 struct Input {
@@ -199,13 +202,22 @@ fn least_time(engine: &dyn Engine, call: usize, case: &Case, times: usize, lent:
     (0..times).map(|_| once(lent)).min().expect("at least one call")
 }
 
-/// What an input costs: microseconds, or how often the second engine's time.
+/// Is it answered, and not refused for size?
+fn is_answered(call: usize, case: &Case, lent: &mut Lent) -> bool {
+    match call {
+        0 => matches!(listing(&Proved, case, lent), Listing::Listed { .. }),
+        _ => matches!(quick(&Proved, case, lent), Quick::Answered { .. }),
+    }
+}
+
+/// What an input costs: microseconds, or, where it is answered, how often the second engine's time.
 fn cost(aim: Aim, call: usize, input: &Input, times: usize, lent: &mut Lent) -> f64 {
     let case = input.case();
     let micros = |time: Duration| time.as_nanos() as f64 / 1_000.0;
     let proved = micros(least_time(&Proved, call, &case, times, lent));
     match aim {
         Aim::Time => proved,
+        Aim::Ratio if !is_answered(call, &case, lent) => 0.0,
         Aim::Ratio => proved / micros(least_time(&SecondEngine::new(), call, &case, times, lent)),
     }
 }
@@ -242,8 +254,8 @@ pub fn search(aim: Aim, seconds: u64, seed: u64, without: &[u32]) {
             // what seems to cost more is measured again, and what it is held against, too
             let dearer = |one: f64, other: f64| one > 1.02 * other;
             if dearer(cost(aim, call, &next, 2, &mut lent), pool[one].0) {
-                let again = cost(aim, call, &next, 9, &mut lent);
-                pool[one].0 = pool[one].0.min(cost(aim, call, &pool[one].1, 9, &mut lent));
+                let again = cost(aim, call, &next, CALLS, &mut lent);
+                pool[one].0 = pool[one].0.min(cost(aim, call, &pool[one].1, CALLS, &mut lent));
                 if dearer(again, pool[one].0) {
                     pool[one] = (again, next);
                 }
@@ -254,6 +266,10 @@ pub fn search(aim: Aim, seconds: u64, seed: u64, without: &[u32]) {
                 let best = pool[0].clone();
                 *pool.last_mut().expect("some") = best;
             }
+        }
+        // what came out dearest by chance is measured once more
+        for (dear, input) in &mut pool {
+            *dear = cost(aim, call, input, 10 * CALLS, &mut lent);
         }
         dearest_first(&mut pool);
         println!("{name}: {tries} inputs tried");
