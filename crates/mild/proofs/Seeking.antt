@@ -32,7 +32,7 @@ use Rattle.store.proofs.Rows.{keep-flatMap}
 use Rattle.store.proofs.Slots.{slot-below, slot-small, slot-stream, closed, length-slot-held, matches-held}
 use Rattle.mild.specs.declared.Found.{Found}
 use Rattle.mild.specs.declared.Found.the-variants.{At, Nothing}
-use Rattle.mild.specs.Beyond.{coverBoth, fromCovering, mildNot, numberCovers, FoundBeyond, KnownAt, ReachedIs, Rest}
+use Rattle.mild.specs.Beyond.{coverBoth, fromCovering, mildNot, coversAsSpan, FoundBeyond, KnownAt, ReachedIs, Rest}
 use Rattle.mild.proofs.Apart.{again-same, again-second, none-counted, zero-apart, zero-uncovered, untouched-apart}
 use Rattle.mild.proofs.Reaching.{beyond-at, fromCovering-all, rest-next, rest-none}
 
@@ -106,7 +106,7 @@ module _ {mem : List ℕ} {p r x y : ℕ} (w : KnownAt mem p r x y) where
         ∙ first-covered (w .item .includes) (w .held .fine .includes) (includes-hold (w .held) (p + 1) refl) (omega (arith, includes-held (w .held)))
 
     -- no number of R covers the start of the first include
-    pub untouched-beyond : {end : ℕ} → end ≡ r + slotLength mem r → length (keep (numberCovers start) (take (end - (r + 2)) (drop (r + 2) mem))) ≡ 0
+    pub untouched-beyond : {end : ℕ} → end ≡ r + slotLength mem r → length (keep (coversAsSpan start) (take (end - (r + 2)) (drop (r + 2) mem))) ≡ 0
         → ReachedIs (w .item) (w .rights) (record { beyond = true; p = start; q = start })
     untouched-beyond {end} e none =
         let all = none-counted start mem (r + 2) end (omega (arith, w .slot .heads .within)) none in

@@ -1,10 +1,11 @@
 -- Mild not as a rule that goes over L match by match, and what its steps require: a match of L and the list R, both in memory.
-use Prim.Native.Nat.{ℕ, _+_}
+use Prim.Native.Nat.{ℕ, _+_, _/_}
 use mathlib.Core.Bool.{Bool, true, false, not, _&&_, cond}
 use mathlib.Core.List.{List, [], _∷_}
 use mathlib.Core.Path.{_≡_}
 use lib.Dec.{eqb, ltb}
 use lib.ListN.{length}
+use Rattle.model.specs.Limits.{radix}
 use Rattle.model.specs.Lists.{allOf, anyOf}
 use Rattle.model.specs.Matches.{Str, Match}
 use Rattle.model.specs.Rules.{covered, covers, keptIf, positions, reachesBeyond}
@@ -33,9 +34,9 @@ unfoldable pub fromCovering : ℕ → ℕ → List Match → List Match
 fromCovering p q [] = []
 fromCovering p q (m ∷ ms) = cond (coverBoth p q (m .includes)) (m ∷ ms) (fromCovering p q ms)
 
--- does a number, read as a span, cover a position?
-abbrev pub numberCovers : ℕ → ℕ → Bool
-numberCovers p n = covers (strOf n 0) p
+-- does a number, read as a span, cover a position? No span starts at position 0
+abbrev pub coversAsSpan : ℕ → ℕ → Bool
+coversAsSpan p n = not (eqb (n / radix) 0) && covers (strOf n 0) p
 
 -- what mild not makes of one match of L
 unfoldable pub mildNot : List Match → Match → List Match

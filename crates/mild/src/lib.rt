@@ -20,7 +20,7 @@ ghost use Rattle.store.specs.Outcome.{Outcome};
 ghost use Rattle.store.specs.Places.{Under};
 ghost use Rattle.store.specs.Put.{Put};
 ghost use Rattle.store.specs.Slot.{SlotAt};
-ghost use Rattle.mild.specs.Beyond.{coverBoth, fromCovering, inARow, numberCovers, Covering, FoundBeyond, KnownAt, ReachedIs, Rest, RestAt};
+ghost use Rattle.mild.specs.Beyond.{coverBoth, coversAsSpan, fromCovering, inARow, Covering, FoundBeyond, KnownAt, ReachedIs, Rest, RestAt};
 
 // A position that includes of a left match cover, and those of a right match don't.
 enum Found {
@@ -111,16 +111,26 @@ struct Reached {
     q: u32,
 }
 
+// Does a number, read as a span, cover a position? No span starts at position 0; a tag, read as one, does.
+fn covers_as_span(number: u32, p: u32) -> bool
+    ensures { λ r. ⌜ r ≡ coversAsSpan p number ⌝ }
+{
+    if start_of(number) == 0 {
+        return false;
+    }
+    covers(number, p)
+}
+
 // How many of the numbers, read as spans, cover a position. All the numbers of a list are read, its headers and tags too, and no test ends the loop, so that
 // it compiles to a few instructions for every four numbers.
 fn count_covering(numbers: &[u32], p: u32) -> u32
     requires { ⌜ length (now numbers) ≤ slotSize ⌝ }
-    ensures { λ r. ⌜ r ≡ length (keep (numberCovers p) (now (numbers .entry))) ⌝ }
+    ensures { λ r. ⌜ r ≡ length (keep (coversAsSpan p) (now (numbers .entry))) ⌝ }
 {
     let mut count = 0;
     let mut i = 0;
     while i < numbers.len() {
-        if covers(numbers[i], p) {
+        if covers_as_span(numbers[i], p) {
             count += 1;
         }
         i += 1;

@@ -1,21 +1,19 @@
 -- Invariant: the numbers passed that cover the position are counted, the others are left. Measure: the numbers left.
+use Prim.Native.Nat.{_+_, _-_, _≤_}
+use native.Mathlib.Omega.{arith}
+use mathlib.Core.Path.{_≡_, sym, _∙_}
+use mathlib.Core.Bool.{cond}
+use mathlib.Core.Logic.{⊎-elim}
 use borrow.Author.Needs.{needs}
+use lib.ListN.{length, drop, getD}
+use Rattle.model.specs.Lists.{keep}
+use Rattle.mild.specs.Beyond.{coversAsSpan}
+use Rattle.mild.proofs.Apart.{counted, counted-out}
 use Rattle.mild.proofs.count_covering.Statement.{statement}
 use Rattle.mild.proofs.count_covering.Tie as tie
-use Prim.Native.Nat.{_+_, _-_, _≤_}
-use mathlib.Core.Path.{_≡_}
-use lib.ListN.{length, drop}
-use Rattle.model.specs.Lists.{keep}
-use Rattle.mild.specs.Beyond.{numberCovers}
-use native.Mathlib.Omega.{arith}
-use mathlib.Core.Bool.{cond}
-use mathlib.Core.Path.{sym, _∙_}
-use mathlib.Core.Logic.{⊎-elim}
-use lib.ListN.{getD}
-use Rattle.mild.proofs.Apart.{counted, counted-out}
 
 abbrev Inv-loop : tie.InvT-loop
-Inv-loop numbers p count₀ i₀ count i = (count ≤ i) × (i ≤ length numbers) × (count + length (keep (numberCovers p) (drop i numbers)) ≡ length (keep (numberCovers p) numbers))
+Inv-loop numbers p count₀ i₀ count i = (count ≤ i) × (i ≤ length numbers) × (count + length (keep (coversAsSpan p) (drop i numbers)) ≡ length (keep (coversAsSpan p) numbers))
 
 abbrev μ-loop : tie.MeasureT-loop
 μ-loop numbers p count₀ i₀ count i = length numbers - i
@@ -23,14 +21,14 @@ abbrev μ-loop : tie.MeasureT-loop
 loop-holds : tie.Need-loop-holds Inv-loop μ-loop
 loop-holds c = search needs
 
-mul-covers : tie.Need-mul-covers Inv-loop μ-loop
-mul-covers c = search needs
+mul-covers-as-span : tie.Need-mul-covers-as-span Inv-loop μ-loop
+mul-covers-as-span c = search needs
 
-shared-slice-read-covers : tie.Need-shared-slice-read-covers Inv-loop μ-loop
-shared-slice-read-covers c = search needs
+shared-slice-read-covers-as-span : tie.Need-shared-slice-read-covers-as-span Inv-loop μ-loop
+shared-slice-read-covers-as-span c = search needs
 
-covers-requires : tie.Need-covers-requires Inv-loop μ-loop
-covers-requires c κs = search needs
+covers-as-span-requires : tie.Need-covers-as-span-requires Inv-loop μ-loop
+covers-as-span-requires c κs = search needs
 
 add-count : tie.Need-add-count Inv-loop μ-loop
 add-count c = search needs
@@ -48,8 +46,8 @@ loop-again c =
     let l = t .before .loop in
     let p = t .before .before .before .args .p in
     let xs = t .before .before .before .args .numbers .now in
-    let one : cond (numberCovers p (getD xs (l .i) 0)) 1 0 + l .count ≡ c .if1 .count =
-    ⊎-elim (λ w. rw (sym (k .covers .ensures) ∙ w .0 .taken) (omega (arith, w .1))) (λ w. rw (sym (k .covers .ensures) ∙ w .0 .left) (omega (arith, w .1))) (c .if1 .came) in
+    let one : cond (coversAsSpan p (getD xs (l .i) 0)) 1 0 + l .count ≡ c .if1 .count =
+    ⊎-elim (λ w. rw (sym (k .covers-as-span .ensures) ∙ w .0 .taken) (omega (arith, w .1))) (λ w. rw (sym (k .covers-as-span .ensures) ∙ w .0 .left) (omega (arith, w .1))) (c .if1 .came) in
     let few : c .if1 .count ≤ l .i + 1 = ⊎-elim (λ w. omega arith) (λ w. omega arith) (c .if1 .came) in
     (few, search needs, omega (arith, one, counted p xs (l .i) (t .loop-test .taken), l .inv .2))
 
@@ -63,9 +61,9 @@ count-covering-spec =
     Inv-loop
     μ-loop
     loop-holds
-    mul-covers
-    shared-slice-read-covers
-    covers-requires
+    mul-covers-as-span
+    shared-slice-read-covers-as-span
+    covers-as-span-requires
     add-count
     add-i
     loop-less
