@@ -1,5 +1,5 @@
 -- A match of L reaches beyond one of R where some position is covered by its includes and not by the other's. So two positions that it covers decide for
--- every match of R that doesn't cover both, and the search for a position decides for the others. Mild not makes one match at most of each.
+-- every match of R that doesn't cover both, and the search for a position decides for the others.
 use Prim.Native.Nat.{ℕ, zero, suc, _+_, _-_, _*_, _≤_, _<_}
 use native.Mathlib.Omega.{arith}
 use mathlib.Core.Path.{_≡_, refl, sym, ap, ap₂, _∙_, subst}
@@ -20,7 +20,7 @@ use Rattle.store.specs.Layout.{includesIn, matchLength, matchNumbers, matchesNu
 use Rattle.store.proofs.Back.{includes-read, length-held}
 use Rattle.store.proofs.LayoutLaws.{length-matches, matches-cons, matches-none}
 use Rattle.store.proofs.Walking.{Next, next, none-left}
-use Rattle.mild.specs.declared.Found.the-variants.{At, Nothing}
+use Rattle.mild.specs.declared.beyond.Found.the-variants.{At, Nothing}
 use Rattle.mild.specs.Beyond.{beyond, coverBoth, fromCovering, Covering, FoundBeyond, Rest, RestAt}
 
 -- ---- beyond

@@ -30,8 +30,8 @@ use Rattle.store.proofs.LayoutLaws.{length-matches, length-slot}
 use Rattle.store.proofs.Memory.{getD-head}
 use Rattle.store.proofs.Rows.{keep-flatMap}
 use Rattle.store.proofs.Slots.{slot-below, slot-small, slot-stream, closed, length-slot-held, matches-held}
-use Rattle.mild.specs.declared.Found.{Found}
-use Rattle.mild.specs.declared.Found.the-variants.{At, Nothing}
+use Rattle.mild.specs.declared.beyond.Found.{Found}
+use Rattle.mild.specs.declared.beyond.Found.the-variants.{At, Nothing}
 use Rattle.mild.specs.Beyond.{coverBoth, fromCovering, mildNot, coversAsSpan, FoundBeyond, KnownAt, ReachedIs, Rest}
 use Rattle.mild.proofs.Apart.{again-same, again-second, none-counted, zero-apart, zero-uncovered, untouched-apart}
 use Rattle.mild.proofs.Reaching.{beyond-at, fromCovering-all, rest-next, rest-none}

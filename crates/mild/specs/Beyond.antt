@@ -13,9 +13,9 @@ use Rattle.strings.specs.Strings.{strOf}
 use Rattle.store.specs.Layout.{matchesNumbers}
 use Rattle.store.specs.Slot.{SlotHolds}
 use Rattle.store.specs.Stream.{Left, MatchHolds}
-use Rattle.mild.specs.declared.Found.{Found}
-use Rattle.mild.specs.declared.Reached.{Reached}
-use Rattle.mild.specs.declared.Found.the-variants.{At, Nothing}
+use Rattle.mild.specs.declared.beyond.Found.{Found}
+use Rattle.mild.specs.declared.against.Reached.{Reached}
+use Rattle.mild.specs.declared.beyond.Found.the-variants.{At, Nothing}
 
 -- reachesBeyond, of the includes alone
 abbrev pub beyond : List Str → List Str → Bool

@@ -1,7 +1,7 @@
 -- Each test that fails ends the row.
 use borrow.Author.Needs.{needs}
-use Rattle.mild.proofs.in_a_row.Statement.{statement}
-use Rattle.mild.proofs.in_a_row.Tie as tie
+use Rattle.mild.proofs.against.in_a_row.Statement.{statement}
+use Rattle.mild.proofs.against.in_a_row.Tie as tie
 use borrow.Author.Tests.{not-true, not-false, eq-eqb, ne-eqb, lt-ltb, le-ltb}
 
 returns : tie.Need-returns

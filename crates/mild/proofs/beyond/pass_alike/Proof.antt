@@ -5,8 +5,8 @@ use Rattle.store.specs.Stream.{Header}
 use Rattle.mild.specs.Beyond.{Covering, RestAt}
 use Rattle.mild.proofs.Reaching.{rest-next, covering-start, covering-later}
 use borrow.Author.Needs.{needs}
-use Rattle.mild.proofs.pass_alike.Statement.{statement}
-use Rattle.mild.proofs.pass_alike.Tie as tie
+use Rattle.mild.proofs.beyond.pass_alike.Statement.{statement}
+use Rattle.mild.proofs.beyond.pass_alike.Tie as tie
 
 abbrev Inv-loop : tie.InvT-loop
 Inv-loop mem from end header p q size length at₀ at = (from ≤ at) × ((w : RestAt mem from end) → Covering p q (w .todo) mem at end)

@@ -5,8 +5,8 @@ use Prim.Native.Nat.{_-_}
 use lib.ListN.{length}
 use Rattle.strings.specs.Strings.{strsAt}
 use Rattle.mild.proofs.Reaching.{Searching, search-start, search-found, search-on, search-none}
-use Rattle.mild.proofs.find_beyond.Statement.{statement}
-use Rattle.mild.proofs.find_beyond.Tie as tie
+use Rattle.mild.proofs.beyond.find_beyond.Statement.{statement}
+use Rattle.mild.proofs.beyond.find_beyond.Tie as tie
 
 abbrev Inv-loop : tie.InvT-loop
 Inv-loop lefts rights i₀ i = Searching lefts (strsAt rights) i

@@ -1,6 +1,6 @@
 -- The position found is held just where none is yet.
-use Rattle.mild.proofs.beside.Statement.{statement}
-use Rattle.mild.proofs.beside.Tie as tie
+use Rattle.mild.proofs.against.beside.Statement.{statement}
+use Rattle.mild.proofs.against.beside.Tie as tie
 use borrow.Author.Tests.{eq-eqb, ne-eqb}
 
 returns : tie.Need-returns

@@ -9,8 +9,8 @@ use lib.ListN.{length, drop, getD}
 use Rattle.model.specs.Lists.{keep}
 use Rattle.mild.specs.Beyond.{coversAsSpan}
 use Rattle.mild.proofs.Apart.{counted, counted-out}
-use Rattle.mild.proofs.count_covering.Statement.{statement}
-use Rattle.mild.proofs.count_covering.Tie as tie
+use Rattle.mild.proofs.against.count_covering.Statement.{statement}
+use Rattle.mild.proofs.against.count_covering.Tie as tie
 
 abbrev Inv-loop : tie.InvT-loop
 Inv-loop numbers p count₀ i₀ count i = (count ≤ i) × (i ≤ length numbers) × (count + length (keep (coversAsSpan p) (drop i numbers)) ≡ length (keep (coversAsSpan p) numbers))

@@ -1,8 +1,8 @@
 -- Invariant: against the matches of R from `at` on, the match of L decides as against all, and its includes cover the last position found; the first position and
 -- the one held beside it are apart over what is passed. Measure: the numbers left.
 use borrow.Author.Needs.{needs}
-use Rattle.mild.proofs.search.Statement.{statement}
-use Rattle.mild.proofs.search.Tie as tie
+use Rattle.mild.proofs.against.search.Statement.{statement}
+use Rattle.mild.proofs.against.search.Tie as tie
 use Prim.Native.Nat.{_-_}
 use native.Mathlib.Omega.{arith}
 use Rattle.store.specs.Stream.{Header}

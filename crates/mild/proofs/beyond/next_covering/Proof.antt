@@ -6,8 +6,8 @@ use Rattle.store.specs.Stream.{Header}
 use Rattle.mild.specs.Beyond.{Covering, RestAt}
 use Rattle.mild.proofs.Reaching.{rest-next, covering-start, covering-here, covering-later, covering-none, covering-trans, covering-rest}
 use borrow.Author.Needs.{needs}
-use Rattle.mild.proofs.next_covering.Statement.{statement}
-use Rattle.mild.proofs.next_covering.Tie as tie
+use Rattle.mild.proofs.beyond.next_covering.Statement.{statement}
+use Rattle.mild.proofs.beyond.next_covering.Tie as tie
 
 abbrev Inv-loop : tie.InvT-loop
 Inv-loop mem from end p q at₀ at = (from ≤ at) × ((w : RestAt mem from end) → Covering p q (w .todo) mem at end)

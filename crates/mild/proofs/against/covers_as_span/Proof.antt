@@ -1,7 +1,7 @@
 -- A number that starts at position 0 is no span; any other is tested as one.
 use borrow.Author.Needs.{needs}
-use Rattle.mild.proofs.covers_as_span.Statement.{statement}
-use Rattle.mild.proofs.covers_as_span.Tie as tie
+use Rattle.mild.proofs.against.covers_as_span.Statement.{statement}
+use Rattle.mild.proofs.against.covers_as_span.Tie as tie
 use mathlib.Core.Path.{sym, _∙_}
 use borrow.Author.Tests.{eq-eqb, ne-eqb}
 

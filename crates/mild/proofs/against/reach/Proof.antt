@@ -1,7 +1,7 @@
 -- What the match before it left decides, or one pass over the numbers of R, or the search.
 use borrow.Author.Needs.{needs}
-use Rattle.mild.proofs.reach.Statement.{statement}
-use Rattle.mild.proofs.reach.Tie as tie
+use Rattle.mild.proofs.against.reach.Statement.{statement}
+use Rattle.mild.proofs.against.reach.Tie as tie
 use native.Mathlib.Omega.{arith}
 use mathlib.Core.Path.{refl, sym, _∙_}
 use Rattle.mild.proofs.Seeking.{without-includes, known-beyond, untouched-beyond}

@@ -1,0 +1,87 @@
+// Positions that includes of L cover and those of R don't: one is looked for, and two that are found are held against the matches of R.
+use model::Position;
+use strings::covering::covered;
+use strings::covering::run_end;
+use strings::end_of;
+use strings::start_of;
+ghost use mathlib.Core.Path.{_≡_};
+ghost use Prim.Native.Nat.{_≤_};
+ghost use Rattle.strings.specs.Strings.{strsAt};
+ghost use Rattle.mild.specs.Beyond.{coverBoth, fromCovering, Covering, FoundBeyond, Rest, RestAt};
+
+// A position that includes of a left match cover, and those of a right match don't.
+pub enum Found {
+    At(u32),
+    Nothing,
+}
+
+// "some position covered by an include isn't covered by R's includes": one of a left match and a right match, if there is any
+pub fn find_beyond(lefts: &[u32], rights: &[u32]) -> Found
+    ensures { λ r. ⌜ FoundBeyond (strsAt (now (lefts .entry))) (strsAt (now (rights .entry))) r ⌝ }
+{
+    let mut i = 0;
+    while i + 1 < lefts.len() {
+        let span = lefts[i];
+        let end = end_of(span);
+        let p = run_end(rights, start_of(span), end, false);
+        if p <= end {
+            return Found::At(p);
+        }
+        i += 2;
+    }
+    Found::Nothing
+}
+
+// Do the strings cover both positions?
+pub fn cover_both(strs: &[u32], p: u32, q: u32) -> bool
+    ensures { λ r. ⌜ r ≡ coverBoth p q (strsAt (now (strs .entry))) ⌝ }
+{
+    if !covered(strs, Position(p)) {
+        return false;
+    }
+    covered(strs, Position(q))
+}
+
+// Passes the matches of R from the one at `from` on that have this header and whose includes don't cover both positions: the place of the first other match,
+// or the end of R. Matches with one header lie evenly, so that the place of the next doesn't wait for it.
+fn pass_alike(mem: &[u32], from: usize, end: usize, header: u32, p: u32, q: u32) -> usize
+    requires { ⌜ RestAt (now mem) from end ⌝ }
+    ensures { λ r. ⌜ from ≤ r ⌝ }
+    ensures { λ r. ⌜ ((w : RestAt (now (mem .entry)) from end) → Covering p q (w .todo) (now (mem .entry)) r end) ⌝ }
+{
+    let size = 2 * store::includes_in(header);
+    let length = store::match_length(header);
+    let mut at = from;
+    while at < end {
+        if mem[at] != header {
+            return at;
+        }
+        let a = at + 1;
+        let e = a + size;
+        if cover_both(&mem[a..e], p, q) {
+            return at;
+        }
+        at += length;
+    }
+    at
+}
+
+// The first match of R, from the one at `from` on, whose includes cover both positions: where it lies, or the end of R.
+pub fn next_covering(mem: &[u32], from: usize, end: usize, p: u32, q: u32) -> usize
+    requires { ⌜ RestAt (now mem) from end ⌝ }
+    ensures { λ r. ⌜ from ≤ r ⌝ }
+    ensures { λ r. ⌜ ((w : RestAt (now (mem .entry)) from end) → Rest (fromCovering p q (w .todo)) (now (mem .entry)) r end) ⌝ }
+{
+    let mut at = from;
+    while at < end {
+        let header = mem[at];
+        let a = at + 1;
+        let e = a + 2 * store::includes_in(header);
+        if cover_both(&mem[a..e], p, q) {
+            return at;
+        }
+        let next = at + store::match_length(header);
+        at = pass_alike(mem, next, end, header, p, q);
+    }
+    at
+}
