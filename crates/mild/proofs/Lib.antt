@@ -1,3 +1,4 @@
-pub mod Apart
-pub mod Reaching
+pub mod BeyondLaws
+pub mod NearLaws
+pub mod RestLaws
 pub mod Seeking

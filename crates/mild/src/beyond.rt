@@ -1,13 +1,16 @@
 // Positions that includes of L cover and those of R don't: one is looked for, and two that are found are held against the matches of R.
-use model::Position;
-use strings::covering::covered;
 use strings::covering::run_end;
 use strings::end_of;
 use strings::start_of;
 ghost use mathlib.Core.Path.{_≡_};
-ghost use Prim.Native.Nat.{_≤_};
-ghost use Rattle.strings.specs.Strings.{strsAt};
-ghost use Rattle.mild.specs.Beyond.{coverBoth, fromCovering, Covering, FoundBeyond, Rest, RestAt};
+ghost use Prim.Native.Nat.{_≤_, _/_, _%_};
+ghost use Rattle.model.specs.AllStrings.{AllStrs};
+ghost use Rattle.model.specs.Limits.{radix};
+ghost use Rattle.model.specs.Rules.{covered, covers};
+ghost use Rattle.store.specs.Fine.{Fine};
+ghost use Rattle.strings.specs.Strings.{strOf, strsAt};
+ghost use Rattle.mild.specs.Beyond.{coverBoth, FoundBeyond};
+ghost use Rattle.mild.specs.Rest.{fromFirst, Passing, Rest, RestAt};
 
 // A position that includes of a left match cover, and those of a right match don't.
 pub enum Found {
@@ -32,22 +35,49 @@ pub fn find_beyond(lefts: &[u32], rights: &[u32]) -> Found
     Found::Nothing
 }
 
+// Does a string of this span cover a position? Its start isn't behind its end, so one comparison tells, of the position's distance from the start, which
+// wraps before it.
+fn covers(span: u32, p: u32) -> bool
+    requires { ⌜ span / radix ≤ span % radix ⌝ }
+    ensures { λ r. ⌜ r ≡ covers (strOf span 0) p ⌝ }
+{
+    let start = start_of(span);
+    let most = end_of(span) - start;
+    std::num::wrapping_sub_u32(p, start) <= most
+}
+
+// Do the strings cover a position?
+fn is_covered(strs: &[u32], p: u32) -> bool
+    requires { ⌜ AllStrs Fine (strsAt (now strs)) ⌝ }
+    ensures { λ r. ⌜ r ≡ covered (strsAt (now (strs .entry))) p ⌝ }
+{
+    let mut i = 0;
+    while i + 1 < strs.len() {
+        if covers(strs[i], p) {
+            return true;
+        }
+        i += 2;
+    }
+    false
+}
+
 // Do the strings cover both positions?
-pub fn cover_both(strs: &[u32], p: u32, q: u32) -> bool
+fn cover_both(strs: &[u32], p: u32, q: u32) -> bool
+    requires { ⌜ AllStrs Fine (strsAt (now strs)) ⌝ }
     ensures { λ r. ⌜ r ≡ coverBoth p q (strsAt (now (strs .entry))) ⌝ }
 {
-    if !covered(strs, Position(p)) {
+    if !is_covered(strs, p) {
         return false;
     }
-    covered(strs, Position(q))
+    is_covered(strs, q)
 }
 
 // Passes the matches of R from the one at `from` on that have this header and whose includes don't cover both positions: the place of the first other match,
-// or the end of R. Matches with one header lie evenly, so that the place of the next doesn't wait for it.
+// or the end. Matches with one header lie evenly, so that the place of the next doesn't wait for it.
 fn pass_alike(mem: &[u32], from: usize, end: usize, header: u32, p: u32, q: u32) -> usize
     requires { ⌜ RestAt (now mem) from end ⌝ }
     ensures { λ r. ⌜ from ≤ r ⌝ }
-    ensures { λ r. ⌜ ((w : RestAt (now (mem .entry)) from end) → Covering p q (w .todo) (now (mem .entry)) r end) ⌝ }
+    ensures { λ r. ⌜ ((w : RestAt (now (mem .entry)) from end) → Passing (coverBoth p q) (w .todo) (now (mem .entry)) r end) ⌝ }
 {
     let size = 2 * store::includes_in(header);
     let length = store::match_length(header);
@@ -66,11 +96,11 @@ fn pass_alike(mem: &[u32], from: usize, end: usize, header: u32, p: u32, q: u32)
     at
 }
 
-// The first match of R, from the one at `from` on, whose includes cover both positions: where it lies, or the end of R.
+// The first match of R, from the one at `from` on, whose includes cover both positions: where it lies, or the end.
 pub fn next_covering(mem: &[u32], from: usize, end: usize, p: u32, q: u32) -> usize
     requires { ⌜ RestAt (now mem) from end ⌝ }
     ensures { λ r. ⌜ from ≤ r ⌝ }
-    ensures { λ r. ⌜ ((w : RestAt (now (mem .entry)) from end) → Rest (fromCovering p q (w .todo)) (now (mem .entry)) r end) ⌝ }
+    ensures { λ r. ⌜ ((w : RestAt (now (mem .entry)) from end) → Rest (fromFirst (coverBoth p q) (w .todo)) (now (mem .entry)) r end) ⌝ }
 {
     let mut at = from;
     while at < end {

@@ -1,9 +1,10 @@
 // Mild not: "L's matches in which, for every match of R, some position covered by an include isn't covered by R's includes."
 mod against;
 mod beyond;
+mod near;
 
-use against::in_a_row;
 use against::reach;
+use near::all_of;
 use store::Built;
 ghost use lib.ListN.{length};
 ghost use Rattle.model.specs.Rules.{keptIf, mildNotList};
@@ -43,19 +44,14 @@ pub fn mild_not_list(mem: &mut [u32], l: usize, r: usize, at: usize) -> Built
     let mut p = l + 2;
     let mut q = at + 2;
     let mut matches = 0;
-    // no match of R covers both x and y: so far because no string covers position 0
-    let mut x = 0;
-    let mut y = 0;
-    let mut row = 0;
+    let mut near = all_of(mem, r);
     let mut i = 0;
     while i < n {
         let length = store::match_length(mem[p]);
-        let reached = reach(mem, p, r, x, y, row);
+        let reached = reach(mem, p, n - i, r, near);
         let next = put_kept(mem, p, q, reached.beyond);
         matches = store::count_one(matches, q, next);
-        x = reached.p;
-        y = reached.q;
-        row = in_a_row(row, reached);
+        near = reached.near;
         q = next;
         p += length;
         i += 1;

@@ -1,35 +1,37 @@
--- Invariant: what mild not makes of the matches passed is written and counted, the others of L lie where they were, and no match of R covers both x and y.
+-- Invariant: what mild not makes of the matches passed is written and counted, the others of L lie where they were, and a part of R decides as all of R does.
 -- Measure: the matches left. R lies below what is written, so each turn finds it as it was; no list comes out longer than L.
-use borrow.Author.Needs.{needs}
-use Rattle.mild.proofs.mild_not_list.Statement.{statement}
-use Rattle.mild.proofs.mild_not_list.Tie as tie
 use Prim.Native.Nat.{_+_, _-_, _≤_}
-use native.Mathlib.Omega.{arith}
-use mathlib.Core.List.{[]}
-use mathlib.Core.Path.{_≡_, refl}
-use lib.ListN.{length}
-use Rattle.store.specs.Slot.{SlotAt}
+use Rattle.mild.proofs.BeyondLaws.{mildNot-small}
+use Rattle.mild.proofs.NearLaws.{near-below}
+use Rattle.mild.proofs.Seeking.{reach-at, kept-at, keep-next, mildNot-closed}
+use Rattle.mild.specs.Beyond.{mildNot}
+use Rattle.mild.specs.Near.{NearIs, ReachAt}
 use Rattle.store.proofs.EachLaws.{Counting, slot-each, count-start, count-most, count-finish}
 use Rattle.store.proofs.Slots.{closing}
-use Rattle.mild.specs.Beyond.{fromCovering, mildNot, KnownAt}
-use Rattle.mild.proofs.Apart.{zero-apart}
-use Rattle.mild.proofs.Seeking.{mildNot-small, known-at, kept-at, keep-next, mildNot-closed}
+use Rattle.store.specs.Slot.{SlotAt}
+use borrow.Author.Needs.{needs}
+use lib.ListN.{getD, length}
+use mathlib.Core.Path.{_≡_, refl}
+use native.Mathlib.Omega.{arith}
+use Rattle.mild.proofs.mild_not_list.Statement.{statement}
+use Rattle.mild.proofs.mild_not_list.Tie as tie
 
 abbrev Inv-loop : tie.InvT-loop
-Inv-loop mem₀ l r at n p₀ q₀ matches₀ x₀ y₀ row₀ i₀ mem p q matches x y row i =
+Inv-loop mem₀ l r at n p₀ q₀ matches₀ near₀ i₀ mem p q matches near i =
     (i ≤ n) × (length mem ≡ length mem₀)
-    × ((u : SlotAt mem₀ l) → (w : SlotAt mem₀ r) → Counting (mildNot (w .list)) (u .list) mem₀ n (at + 2) mem p q i matches × (fromCovering x y (w .list) ≡ []))
+    × ((u : SlotAt mem₀ l) → (w : SlotAt mem₀ r) → Counting (mildNot (w .list)) (u .list) mem₀ n (at + 2) mem p q i matches × NearIs (w .list) mem r near)
 
 abbrev μ-loop : tie.MeasureT-loop
-μ-loop mem₀ l r at n p₀ q₀ matches₀ x₀ y₀ row₀ i₀ mem p q matches x y row i = n - i
+μ-loop mem₀ l r at n p₀ q₀ matches₀ near₀ i₀ mem p q matches near i = n - i
 
 -- the match of L in hand, with what is known of R
 abbrev one : (c : tie.In-loop Inv-loop μ-loop)
-    → KnownAt (c .before .loop .mem) (c .before .loop .p) (c .before .before .before .before .args .r) (c .before .loop .x) (c .before .loop .y)
+    → ReachAt (c .before .loop .mem) (c .before .loop .p) (getD (c .before .before .before .before .before .before .args .mem .now) (c .before .before .before .before .before .before .args .l) 0 - c .before .loop .i)
+    (c .before .before .before .before .before .before .args .r) (c .before .loop .near)
 one c =
-    let r = c .before .before .before .before .pre in
+    let r = c .before .before .before .before .before .before .pre in
     let g = c .before .loop .inv .2 (r .0) (r .1 .0) in
-    known-at (r .1 .0 .list) (g .0) (c .loop-test .taken) _ _ (r .1 .0 .slot) (omega (arith, r .1 .1 .1 .below)) (g .1)
+    reach-at (r .1 .0 .list) (g .0) (c .loop-test .taken) (r .1 .0 .slot) (omega (arith, r .1 .1 .1 .below)) (g .1) refl
 
 mul-n : tie.Need-mul-n Inv-loop μ-loop
 mul-n c = search needs
@@ -46,12 +48,15 @@ add-p c = search needs
 add-q : tie.Need-add-q Inv-loop μ-loop
 add-q c = search needs
 
+all-of-requires : tie.Need-all-of-requires Inv-loop μ-loop
+all-of-requires c κs = c .before .before .before .pre .1 .0
+
 loop-holds : tie.Need-loop-holds Inv-loop μ-loop
 loop-holds c =
-    let r = c .before .before .pre in (
+    let r = c .before .before .before .before .pre in (
       search needs,
       refl,
-      λ u w. (count-start (slot-each (u .slot) (r .1 .1 .0) (mildNot-small (w .list) (u .slot)) _ refl), zero-apart 0 (w .list) (w .slot .fine)),
+      λ u w. (count-start (slot-each (u .slot) (r .1 .1 .0) (mildNot-small (w .list) (u .slot)) _ refl), c .all-of .ensures w),
     )
 
 mul-match-length : tie.Need-mul-match-length Inv-loop μ-loop
@@ -63,23 +68,23 @@ slice-read-match-length c = omega (arith, one (c .before) .held .header)
 match-length-requires : tie.Need-match-length-requires Inv-loop μ-loop
 match-length-requires c κs = search needs
 
+sub-reach : tie.Need-sub-reach Inv-loop μ-loop
+sub-reach c = search needs
+
 reach-requires : tie.Need-reach-requires Inv-loop μ-loop
 reach-requires c κs = one (c .before .before .before)
 
 put-kept-requires : tie.Need-put-kept-requires Inv-loop μ-loop
 put-kept-requires c κs =
     let t = c .before .before .before .before .before in
-    let r = t .before .before .before .before .pre in
+    let r = t .before .before .before .before .before .before .pre in
     kept-at (r .1 .0 .list) (t .before .loop .inv .2 (r .0) (r .1 .0) .0) (t .loop-test .taken) (c .before .reach .ensures (one t) .beyond)
 
 count-one-requires : tie.Need-count-one-requires Inv-loop μ-loop
 count-one-requires c κs =
     let l = c .before .before .before .before .before .before .before .before .before in
-    let r = l .before .before .before .pre in
+    let r = l .before .before .before .before .before .pre in
     omega (arith, count-most (l .loop .inv .2 (r .0) (r .1 .0) .0), mildNot-small (r .1 .0 .list) (r .0 .slot))
-
-in-a-row-requires : tie.Need-in-a-row-requires Inv-loop μ-loop
-in-a-row-requires c κs = search needs
 
 add-p-2 : tie.Need-add-p-2 Inv-loop μ-loop
 add-p-2 c =
@@ -87,33 +92,36 @@ add-p-2 c =
     omega (arith, one (k .before .before) .held .header, k .match-length .ensures)
 
 add-i : tie.Need-add-i Inv-loop μ-loop
-add-i c = search needs
+add-i c =
+    let t = c .before .before .before .before .before .before .before .before .before .before in
+    omega (arith, t .loop-test .taken, t .before .before .before .before .before .before .pre .0 .slot .heads)
 
 loop-less : tie.Need-loop-less Inv-loop μ-loop
 loop-less c = search needs
 
 loop-again : tie.Need-loop-again Inv-loop μ-loop
 loop-again c =
-    let v = c .before .before .before .before in
+    let n = c .before in
+    let v = n .before .before .before in
     let h = v .before .before in
     let k = h .before .before in
     let t = k .before .before in
-    let low = t .before .before .before .before .pre .1 .1 .1 .below in (
+    let low = t .before .before .before .before .before .before .pre .1 .1 .1 .below in (
       search needs,
       search needs,
       λ u w.
           let g = t .before .loop .inv .2 u w in
-          let reached = h .reach .ensures (known-at (w .list) (g .0) (t .loop-test .taken) _ _ (w .slot) (omega arith) (g .1)) in (
-            keep-next (w .list) (g .0) (t .loop-test .taken) (reached .beyond) (v .put-kept .ensures (kept-at (w .list) (g .0) (t .loop-test .taken) (reached .beyond)))
-                (k .match-length .ensures) (c .before .count-one .ensures),
-            reached .apart,
+          let reached = h .reach .ensures (reach-at (w .list) (g .0) (t .loop-test .taken) (w .slot) (omega arith) (g .1) refl) in
+          let put = v .put-kept .ensures (kept-at (w .list) (g .0) (t .loop-test .taken) (reached .beyond)) in (
+            keep-next (w .list) (g .0) (t .loop-test .taken) (reached .beyond) put (k .match-length .ensures) (n .count-one .ensures),
+            near-below put (omega (arith, low, g .0 .going .rows .put .next-is)) (reached .near),
           ),
     )
 
 close-slot-requires : tie.Need-close-slot-requires Inv-loop μ-loop
 close-slot-requires c κs =
     let l = c .before .before in
-    let r = l .before .before .before .pre in
+    let r = l .before .before .before .before .before .pre in
     closing (mildNot-small (r .1 .0 .list) (r .0 .slot)) (count-finish (l .loop .inv .2 (r .0) (r .1 .0) .0) (c .before .loop-test .left)) (r .1 .1 .0 .room)
 
 same-length : tie.Need-same-length Inv-loop μ-loop
@@ -135,14 +143,15 @@ mild-not-list-spec =
     cast-n
     add-p
     add-q
+    all-of-requires
     loop-holds
     mul-match-length
     slice-read-match-length
     match-length-requires
+    sub-reach
     reach-requires
     put-kept-requires
     count-one-requires
-    in-a-row-requires
     add-p-2
     add-i
     loop-less

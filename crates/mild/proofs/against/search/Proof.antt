@@ -1,24 +1,24 @@
--- Invariant: against the matches of R from `at` on, the match of L decides as against all, and its includes cover the last position found; the first position and
--- the one held beside it are apart over what is passed. Measure: the numbers left.
+-- Invariant: against the matches from `at` on the match of L decides as against all, and its includes cover the last position found. Measure: the numbers left.
+use Prim.Native.Nat.{_-_}
+use Rattle.mild.proofs.RestLaws.{rest-next, rest-after}
+use Rattle.mild.proofs.Seeking.{Seeking, seek, stopped, passed, sought}
+use Rattle.mild.specs.Near.{SearchAt}
+use Rattle.store.specs.Stream.{Header}
 use borrow.Author.Needs.{needs}
+use mathlib.Core.Path.{_≡_, refl}
+use native.Mathlib.Omega.{arith}
 use Rattle.mild.proofs.against.search.Statement.{statement}
 use Rattle.mild.proofs.against.search.Tie as tie
-use Prim.Native.Nat.{_-_}
-use native.Mathlib.Omega.{arith}
-use Rattle.store.specs.Stream.{Header}
-use Rattle.mild.specs.Beyond.{KnownAt}
-use Rattle.mild.proofs.Reaching.{rest-next, rest-after}
-use Rattle.mild.proofs.Seeking.{Seeking, rights-rest, seek, stopped, passed, sought}
 
 abbrev Inv-loop : tie.InvT-loop
-Inv-loop mem p r x y a e end first held₀ last₀ at₀ held last at = (w : KnownAt mem p r x y) → Seeking (w .item) (w .rights) mem at end first held last
+Inv-loop mem p from end a e last₀ at₀ last at = (w : SearchAt mem p from end) → Seeking (w .item) (w .todo) mem at end last
 
 abbrev μ-loop : tie.MeasureT-loop
-μ-loop mem p r x y a e end first held₀ last₀ at₀ held last at = end - at
+μ-loop mem p from end a e last₀ at₀ last at = end - at
 
 -- the header of the match of R in hand
-one : (c : tie.In-loop Inv-loop μ-loop) → Header (c .before .before .before .before .before .before .before .before .before .args .mem .now) (c .before .loop .at)
-one c = rest-next (c .before .loop .inv (c .before .before .before .before .before .before .before .before .before .pre .0) .rest) (c .loop-test .taken) .held .header
+one : (c : tie.In-loop Inv-loop μ-loop) → Header (c .before .before .before .before .before .before .before .args .mem .now) (c .before .loop .at)
+one c = rest-next (c .before .loop .inv (c .before .before .before .before .before .before .before .pre) .rest) (c .loop-test .taken) .held .header
 
 add-a : tie.Need-add-a Inv-loop μ-loop
 add-a c = search needs
@@ -38,35 +38,18 @@ mul-e c = search needs
 add-e : tie.Need-add-e Inv-loop μ-loop
 add-e c = search needs
 
-slot-length-requires : tie.Need-slot-length-requires Inv-loop μ-loop
-slot-length-requires c κs = search needs
-
-add-end : tie.Need-add-end Inv-loop μ-loop
-add-end c = search needs
-
-mul-start-of : tie.Need-mul-start-of Inv-loop μ-loop
-mul-start-of c = search needs
-
-shared-slice-read-start-of : tie.Need-shared-slice-read-start-of Inv-loop μ-loop
-shared-slice-read-start-of c = search needs
-
-start-of-requires : tie.Need-start-of-requires Inv-loop μ-loop
-start-of-requires c κs = search needs
-
-add-next-covering : tie.Need-add-next-covering Inv-loop μ-loop
-add-next-covering c = search needs
+edges-of-requires : tie.Need-edges-of-requires Inv-loop μ-loop
+edges-of-requires c κs =
+    let w = c .before .before .before .pre in
+    record { header = w .held .header; some = w .some }
 
 next-covering-requires : tie.Need-next-covering-requires Inv-loop μ-loop
 next-covering-requires c κs =
-    let k = c .before .before in
-    let w = k .before .before .before .before .pre .0 in
-    record { todo = w .rights; rest = rights-rest w (omega (arith, k .slot-length .ensures)) }
+    let w = c .before .before .before .before .pre in
+    record { todo = w .todo; rest = w .rest }
 
 loop-holds : tie.Need-loop-holds Inv-loop μ-loop
-loop-holds c = λ w.
-    let s = c .before in
-    let k = s .before .before in
-    seek w (k .before .before .before .before .pre .1) (s .start-of .ensures) (c .next-covering .ensures .1 (record { todo = w .rights; rest = rights-rest w (omega (arith, k .slot-length .ensures)) }))
+loop-holds c = λ w. seek w (c .before .edges-of .ensures) (c .next-covering .ensures .1 (record { todo = w .todo; rest = w .rest }))
 
 mul-header : tie.Need-mul-header Inv-loop μ-loop
 mul-header c = omega (arith, one c)
@@ -74,8 +57,8 @@ mul-header c = omega (arith, one c)
 shared-slice-read-header : tie.Need-shared-slice-read-header Inv-loop μ-loop
 shared-slice-read-header c = omega (arith, one (c .before))
 
-add-from : tie.Need-add-from Inv-loop μ-loop
-add-from c = omega (arith, one (c .before))
+add-b : tie.Need-add-b Inv-loop μ-loop
+add-b c = omega (arith, one (c .before))
 
 includes-in-requires-2 : tie.Need-includes-in-requires-2 Inv-loop μ-loop
 includes-in-requires-2 c κs = search needs
@@ -124,46 +107,38 @@ returns c w =
     let k = c .before .before in
     let x = k .before .before .before in
     let t = x .before .before in
-    let i = t .before .before .before .before .before .before in
-    stopped w (i .before .before .before .pre .1) (t .before .before .before .start-of .ensures) (t .before .loop .inv w) (t .loop-test .taken) (k .find-beyond .result) (i .includes-in .ensures)
-    (x .includes-in2 .ensures) (k .find-beyond .ensures) (c .enum-told .given .1)
+    stopped w (t .before .loop .inv w) (t .loop-test .taken) (k .find-beyond .result) (t .before .before .before .before .includes-in .ensures) (x .includes-in2 .ensures)
+    (k .find-beyond .ensures) (c .enum-told .given .1)
 
 match-length-requires : tie.Need-match-length-requires Inv-loop μ-loop
 match-length-requires c κs = search needs
 
-add-next-covering-2 : tie.Need-add-next-covering-2 Inv-loop μ-loop
-add-next-covering-2 c = omega (arith, one (c .before .before .before .before .before .before .before .before .before))
+add-next-covering : tie.Need-add-next-covering Inv-loop μ-loop
+add-next-covering c = omega (arith, one (c .before .before .before .before .before .before .before .before .before))
 
 next-covering-requires-2 : tie.Need-next-covering-requires-2 Inv-loop μ-loop
 next-covering-requires-2 c κs =
     let t = c .before .before .before .before .before .before .before .before .before in
-    let g = t .before .loop .inv (t .before .before .before .before .before .before .before .before .before .pre .0) in
+    let g = t .before .loop .inv (t .before .before .before .before .before .before .before .pre) in
     record { todo = _; rest = rest-after (g .rest) (t .loop-test .taken) (c .match-length .ensures) }
-
-beside-requires : tie.Need-beside-requires Inv-loop μ-loop
-beside-requires c κs = search needs
 
 loop-less : tie.Need-loop-less Inv-loop μ-loop
 loop-less c =
-    let n = c .before in
-    let m = n .before in
-    omega (arith, n .next-covering2 .ensures .0, m .match-length .ensures, m .before .before .before .before .before .before .before .before .before .loop-test .taken)
+    let m = c .before in
+    omega (arith, c .next-covering2 .ensures .0, m .match-length .ensures, m .before .before .before .before .before .before .before .before .before .loop-test .taken)
 
 loop-again : tie.Need-loop-again Inv-loop μ-loop
 loop-again c = λ w.
-    let n = c .before in
-    let m = n .before in
+    let m = c .before in
     let k = m .before .before .before .before in
     let x = k .before .before .before in
     let t = x .before .before in
-    let i = t .before .before .before .before .before .before in
     let g = t .before .loop .inv w in
-    passed w (i .before .before .before .pre .1) (t .before .before .before .start-of .ensures) g (t .loop-test .taken) (k .find-beyond .result) (i .includes-in .ensures) (x .includes-in2 .ensures)
-    (k .find-beyond .ensures) (m .before .before .found .given .1) (c .beside .ensures)
-    (n .next-covering2 .ensures .1 (record { todo = _; rest = rest-after (g .rest) (t .loop-test .taken) (m .match-length .ensures) }))
+    passed w g (t .loop-test .taken) (k .find-beyond .result) (t .before .before .before .before .includes-in .ensures) (x .includes-in2 .ensures) (k .find-beyond .ensures)
+    (m .before .before .found .given .1) (c .next-covering2 .ensures .1 (record { todo = _; rest = rest-after (g .rest) (t .loop-test .taken) (m .match-length .ensures) }))
 
 returns-2 : tie.Need-returns-2 Inv-loop μ-loop
-returns-2 c w = let s = c .before .before .before in sought w (s .before .before .before .before .before .before .pre .1) (s .start-of .ensures) (c .before .loop .inv w) (c .loop-test .left)
+returns-2 c w = sought w (c .before .loop .inv w) (c .loop-test .left)
 
 pub search-spec : {M : Type 1} → statement M
 search-spec =
@@ -177,17 +152,12 @@ search-spec =
     includes-in-requires
     mul-e
     add-e
-    slot-length-requires
-    add-end
-    mul-start-of
-    shared-slice-read-start-of
-    start-of-requires
-    add-next-covering
+    edges-of-requires
     next-covering-requires
     loop-holds
     mul-header
     shared-slice-read-header
-    add-from
+    add-b
     includes-in-requires-2
     mul-to
     add-to
@@ -204,9 +174,8 @@ search-spec =
     enum-told
     returns
     match-length-requires
-    add-next-covering-2
+    add-next-covering
     next-covering-requires-2
-    beside-requires
     loop-less
     loop-again
     returns-2)

@@ -4,7 +4,7 @@ use borrow.Author.Needs.{needs}
 use Prim.Native.Nat.{_-_}
 use lib.ListN.{length}
 use Rattle.strings.specs.Strings.{strsAt}
-use Rattle.mild.proofs.Reaching.{Searching, search-start, search-found, search-on, search-none}
+use Rattle.mild.proofs.BeyondLaws.{Searching, search-start, search-found, search-on, search-none}
 use Rattle.mild.proofs.beyond.find_beyond.Statement.{statement}
 use Rattle.mild.proofs.beyond.find_beyond.Tie as tie
 

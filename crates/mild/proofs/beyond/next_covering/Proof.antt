@@ -3,14 +3,15 @@
 use Prim.Native.Nat.{_+_, _-_, _≤_}
 use native.Mathlib.Omega.{arith}
 use Rattle.store.specs.Stream.{Header}
-use Rattle.mild.specs.Beyond.{Covering, RestAt}
-use Rattle.mild.proofs.Reaching.{rest-next, covering-start, covering-here, covering-later, covering-none, covering-trans, covering-rest}
+use Rattle.mild.specs.Beyond.{coverBoth}
+use Rattle.mild.specs.Rest.{Passing, RestAt}
+use Rattle.mild.proofs.RestLaws.{rest-next, rest-fine, passing-start, passing-here, passing-later, passing-none, passing-trans, passing-rest}
 use borrow.Author.Needs.{needs}
 use Rattle.mild.proofs.beyond.next_covering.Statement.{statement}
 use Rattle.mild.proofs.beyond.next_covering.Tie as tie
 
 abbrev Inv-loop : tie.InvT-loop
-Inv-loop mem from end p q at₀ at = (from ≤ at) × ((w : RestAt mem from end) → Covering p q (w .todo) mem at end)
+Inv-loop mem from end p q at₀ at = (from ≤ at) × ((w : RestAt mem from end) → Passing (coverBoth p q) (w .todo) mem at end)
 
 abbrev μ-loop : tie.MeasureT-loop
 μ-loop mem from end p q at₀ at = end - at
@@ -20,7 +21,7 @@ one : (c : tie.In-loop Inv-loop μ-loop) → Header (c .before .before .before .
 one c = rest-next (c .before .loop .inv .1 (c .before .before .before .pre) .rest) (c .loop-test .taken) .held .header
 
 loop-holds : tie.Need-loop-holds Inv-loop μ-loop
-loop-holds c = (omega arith, λ w. covering-start w)
+loop-holds c = (omega arith, λ w. passing-start w)
 
 mul-header : tie.Need-mul-header Inv-loop μ-loop
 mul-header c = search needs
@@ -53,7 +54,11 @@ part-cover-both-end : tie.Need-part-cover-both-end Inv-loop μ-loop
 part-cover-both-end c = omega (arith, one (c .before .before), c .includes-in .ensures)
 
 cover-both-requires : tie.Need-cover-both-requires Inv-loop μ-loop
-cover-both-requires c κs = search needs
+cover-both-requires c κs =
+    let x = c .before in
+    let t = x .before .before in
+    let l = t .before in
+    rest-fine (l .loop .inv .1 (l .before .before .pre) .rest) (t .loop-test .taken) (omega (arith, x .includes-in .ensures))
 
 returns : tie.Need-returns Inv-loop μ-loop
 returns c = let b = c .before in
@@ -61,7 +66,7 @@ returns c = let b = c .before in
     let t = x .before .before in
     let l = t .before in
     let size = x .includes-in .ensures in
-    (l .loop .inv .0, λ w. covering-here (l .loop .inv .1 w) (t .loop-test .taken) (omega (arith, size)) (b .cover-both .ensures) (c .if1 .taken))
+    (l .loop .inv .0, λ w. passing-here (l .loop .inv .1 w) (t .loop-test .taken) (omega (arith, size)) (b .cover-both .ensures) (c .if1 .taken))
 
 match-length-requires : tie.Need-match-length-requires Inv-loop μ-loop
 match-length-requires c κs = search needs
@@ -77,7 +82,7 @@ pass-alike-requires c κs = let e = c .before in
     let l = t .before in
     let size = x .includes-in .ensures in
     let long = c .match-length .ensures in
-    covering-rest (covering-later (l .loop .inv .1 (l .before .before .pre)) (t .loop-test .taken) (omega (arith, size)) (b .cover-both .ensures) (e .if1 .left) (omega (arith, long)))
+    passing-rest (passing-later (l .loop .inv .1 (l .before .before .pre)) (t .loop-test .taken) (omega (arith, size)) (b .cover-both .ensures) (e .if1 .left) (omega (arith, long)))
 
 loop-less : tie.Need-loop-less Inv-loop μ-loop
 loop-less c = search needs
@@ -92,11 +97,11 @@ loop-again c = let m = c .before in
     let size = x .includes-in .ensures in
     let long = m .match-length .ensures in (
       omega (arith, c .pass-alike .ensures .0, l .loop .inv .0, long),
-      λ w. let later = covering-later (l .loop .inv .1 w) (t .loop-test .taken) (omega (arith, size)) (b .cover-both .ensures) (e .if1 .left) {next = l .loop .at + m .match-length .result} (omega (arith, long)) in covering-trans later (c .pass-alike .ensures .1 (covering-rest later)),
+      λ w. let later = passing-later (l .loop .inv .1 w) (t .loop-test .taken) (omega (arith, size)) (b .cover-both .ensures) (e .if1 .left) {next = l .loop .at + m .match-length .result} (omega (arith, long)) in passing-trans later (c .pass-alike .ensures .1 (passing-rest later)),
     )
 
 returns-2 : tie.Need-returns-2 Inv-loop μ-loop
-returns-2 c = (c .before .loop .inv .0, λ w. covering-none (c .before .loop .inv .1 w) (c .loop-test .left))
+returns-2 c = (c .before .loop .inv .0, λ w. passing-none (c .before .loop .inv .1 w) (c .loop-test .left))
 
 pub next-covering-spec : {M : Type 1} → statement M
 next-covering-spec =

@@ -2,14 +2,15 @@
 use Prim.Native.Nat.{_-_, _≤_}
 use native.Mathlib.Omega.{arith}
 use Rattle.store.specs.Stream.{Header}
-use Rattle.mild.specs.Beyond.{Covering, RestAt}
-use Rattle.mild.proofs.Reaching.{rest-next, covering-start, covering-later}
+use Rattle.mild.specs.Beyond.{coverBoth}
+use Rattle.mild.specs.Rest.{Passing, RestAt}
+use Rattle.mild.proofs.RestLaws.{rest-next, rest-fine, passing-start, passing-later}
 use borrow.Author.Needs.{needs}
 use Rattle.mild.proofs.beyond.pass_alike.Statement.{statement}
 use Rattle.mild.proofs.beyond.pass_alike.Tie as tie
 
 abbrev Inv-loop : tie.InvT-loop
-Inv-loop mem from end header p q size length at₀ at = (from ≤ at) × ((w : RestAt mem from end) → Covering p q (w .todo) mem at end)
+Inv-loop mem from end header p q size length at₀ at = (from ≤ at) × ((w : RestAt mem from end) → Passing (coverBoth p q) (w .todo) mem at end)
 
 abbrev μ-loop : tie.MeasureT-loop
 μ-loop mem from end header p q size length at₀ at = end - at
@@ -28,7 +29,7 @@ match-length-requires : tie.Need-match-length-requires Inv-loop μ-loop
 match-length-requires c κs = search needs
 
 loop-holds : tie.Need-loop-holds Inv-loop μ-loop
-loop-holds c = (omega arith, λ w. covering-start w)
+loop-holds c = (omega arith, λ w. passing-start w)
 
 mul-if1 : tie.Need-mul-if1 Inv-loop μ-loop
 mul-if1 c = search needs
@@ -59,7 +60,11 @@ part-cover-both-end c = let t = c .before .before in
     omega (arith, one t, c .if1 .left, t .before .before .before .includes-in .ensures)
 
 cover-both-requires : tie.Need-cover-both-requires Inv-loop μ-loop
-cover-both-requires c κs = search needs
+cover-both-requires c κs =
+    let x = c .before in
+    let t = x .before .before in
+    let l = t .before in
+    rest-fine (l .loop .inv .1 (l .before .before .before .before .pre) .rest) (t .loop-test .taken) (omega (arith, x .if1 .left, l .before .before .includes-in .ensures))
 
 returns-2 : tie.Need-returns-2 Inv-loop μ-loop
 returns-2 c = search needs
@@ -78,7 +83,7 @@ loop-again c = let b = c .before in
     let size = l .before .before .includes-in .ensures in
     let long = l .before .match-length .ensures in (
       omega arith,
-      λ w. covering-later (l .loop .inv .1 w) (t .loop-test .taken) (omega (arith, x .if1 .left, size)) (b .cover-both .ensures) (c .if2 .left) (omega (arith, x .if1 .left, long)),
+      λ w. passing-later (l .loop .inv .1 w) (t .loop-test .taken) (omega (arith, x .if1 .left, size)) (b .cover-both .ensures) (c .if2 .left) (omega (arith, x .if1 .left, long)),
     )
 
 returns-3 : tie.Need-returns-3 Inv-loop μ-loop

@@ -1,0 +1,117 @@
+-- A match of L reaches beyond one of R where some position is covered by its includes and not by the other's; mild not keeps it where it reaches beyond each.
+use Prim.Native.Nat.{ℕ, zero, suc, _+_, _-_, _≤_, _<_}
+use native.Mathlib.Omega.{arith}
+use mathlib.Core.Path.{_≡_, refl, sym, ap, ap₂, _∙_}
+use mathlib.Core.Bool.{Bool, true, false, not, _&&_, _||_, or-true}
+use mathlib.Core.List.{List, [], _∷_, flatMap}
+use borrow.Author.Tests.{le-leb, leb-true, leb-false, lt-ltb}
+use lib.Dec.{leb}
+use lib.ListN.{length, drop}
+use Rattle.model.specs.Lists.{allOf, anyOf, fromTo, upFrom}
+use Rattle.model.specs.Matches.{Str, Match, strings}
+use Rattle.model.specs.Rules.{covered, covers, keptIf, mildNotList, positions, reachesBeyond}
+use Rattle.model.proofs.RulesLaws.{AtMostOne}
+use Rattle.model.proofs.TestsLaws.{both-true, false-true}
+use Rattle.strings.specs.Covering.{RunEnd}
+use Rattle.strings.specs.Strings.{strsAt}
+use Rattle.strings.proofs.StringsLaws.{strAt, strsAt-cons}
+use Rattle.strings.proofs.StringsLaws as Strs
+use Rattle.store.specs.Built.{Small}
+use Rattle.store.specs.Slot.{SlotHolds}
+use Rattle.store.proofs.EachLaws.{flatMap-small}
+use Rattle.store.proofs.Rows.{keep-flatMap}
+use Rattle.store.proofs.Slots.{slot-small}
+use Rattle.mild.specs.declared.beyond.Found.the-variants.{At, Nothing}
+use Rattle.mild.specs.Beyond.{beyond, mildNot, FoundBeyond}
+
+-- ---- mildNot
+
+pub one-at-most : (rights : List Match) (l : Match) → AtMostOne l (mildNot rights l)
+unfolding mildNot strings
+one-at-most rights l = at (allOf (reachesBeyond l) rights)
+  where
+    at : (b : Bool) → AtMostOne l (keptIf b l)
+    at true = omega arith
+    at false = omega arith
+
+-- mild not goes over L match by match
+pub mildNot-flatMap : (lefts rights : List Match) → mildNotList lefts rights ≡ flatMap (mildNot rights) lefts
+unfolding mildNotList mildNot
+mildNot-flatMap lefts rights = keep-flatMap (λ l. allOf (reachesBeyond l) rights) lefts
+
+pub mildNot-small : {mem : List ℕ} {at : ℕ} {lefts : List Match} (rights : List Match) → SlotHolds mem at lefts → Small (flatMap (mildNot rights) lefts)
+mildNot-small {lefts = lefts} rights s = flatMap-small (mildNot rights) (one-at-most rights) lefts (slot-small s)
+
+-- ---- beyond
+
+any-not : {A : Type 0} (p : A → Bool) (xs : List A) → anyOf (λ x. not (p x)) xs ≡ not (allOf p xs)
+unfolding anyOf allOf
+any-not p [] = refl
+any-not p (x ∷ xs) = at (p x) (any-not p xs)
+  where
+    at : (b : Bool) → anyOf (λ x. not (p x)) xs ≡ not (allOf p xs) → (not b || anyOf (λ x. not (p x)) xs) ≡ not (b && allOf p xs)
+    at true e = e
+    at false e = refl
+
+-- any, over a range with a number that passes
+any-range : (c : ℕ → Bool) (a b p : ℕ) → a ≤ p → p ≤ b → c p ≡ true → anyOf c (fromTo a b) ≡ true
+unfolding anyOf fromTo upFrom
+any-range c a b p h k e = go (b + 1 - a) a h (omega arith)
+  where
+    at : (x : ℕ) (rest t : Bool) → leb p x ≡ t → x ≤ p → (x < p → rest ≡ true) → (c x || rest) ≡ true
+    at x rest true l h' later = let same : c x ≡ true = sym (ap c (omega (arith, leb-true p x l))) ∙ e in rw same
+    at x rest false l h' later = rw (later (leb-false p x l)) (or-true (c x))
+
+    go : (n x : ℕ) → x ≤ p → p < x + n → anyOf c (upFrom x n) ≡ true
+    go zero x h' k' = absurd (omega arith)
+    go (suc n) x h' k' = at x (anyOf c (upFrom (x + 1) n)) (leb p x) refl h' (λ m. go n (x + 1) (omega arith) (omega arith))
+
+-- a position that is covered by the left strings and not by the right ones
+pub beyond-at : (lefts rights : List Str) (p : ℕ) → covered lefts p ≡ true → covered rights p ≡ false → beyond lefts rights ≡ true
+unfolding anyOf
+beyond-at [] rights p e f = false-true e
+beyond-at (s ∷ ss) rights p e f = at (covers s p) refl e (beyond-at ss rights p)
+  where
+    at : (t : Bool) → covers s p ≡ t → (t || covered ss p) ≡ true → (covered ss p ≡ true → covered rights p ≡ false → beyond ss rights ≡ true)
+        → (anyOf (λ x. not (covered rights x)) (positions s) || beyond ss rights) ≡ true
+    at true c e' later =
+        let both = both-true (leb (s .start) p) (leb p (s .end)) c in
+        let here = any-range (λ x. not (covered rights x)) (s .start) (s .end) p (leb-true (s .start) p (both .0)) (leb-true p (s .end) (both .1)) (rw f) in
+        rw here
+    at false c e' later = rw (later e' f) (or-true (anyOf (λ x. not (covered rights x)) (positions s)))
+
+-- ---- the search for a position
+
+-- at index i: the strings left reach beyond just where all do, and what they cover is covered by all
+pub record Searching (lefts : List ℕ) (rights : List Str) (i : ℕ) : Type 0 where
+  pub left : Strs.Left (beyond (strsAt lefts) rights) (λ ss. beyond ss rights) lefts i
+  pub among : (p : ℕ) → covered (strsAt (drop i lefts)) p ≡ true → covered (strsAt lefts) p ≡ true
+
+pub search-start : (lefts : List ℕ) (rights : List Str) → Searching lefts rights 0
+search-start lefts rights = record { left = Strs.left-start _ lefts; among = λ p e. e }
+
+module _ {lefts : List ℕ} {rights : List Str} {i : ℕ} (g : Searching lefts rights i) where
+  module _ (more : i + 1 < length lefts) {start end p : ℕ} (e : start ≡ strAt lefts i .start) (f : end ≡ strAt lefts i .end) (r : RunEnd rights start end p) where
+    -- the run of the string in hand stops being covered within it
+    pub search-found : p ≤ end → FoundBeyond (strsAt lefts) rights (At p)
+    unfolding anyOf
+    search-found h =
+        let s = strAt lefts i in
+        let here : covered (s ∷ strsAt (drop (i + 2) lefts)) p ≡ true = rw (le-leb (s .start) p (omega (arith, r .not-before)), le-leb p (s .end) (omega arith)) in
+        (g .among p (ap (λ ss. covered ss p) (strsAt-cons lefts i more) ∙ here), r .uncovered h)
+
+    -- it is covered all through
+    pub search-on : end < p → Searching lefts rights (i + 2)
+    unfolding anyOf
+    search-on h =
+        let s = strAt lefts i in
+        let all : allOf (covered rights) (positions s) ≡ true = ap₂ (λ x y. allOf (covered rights) (fromTo x y)) (sym e) (sym f) ∙ r .same ∙ lt-ltb end p h in
+        let none : anyOf (λ x. not (covered rights x)) (positions s) ≡ false = any-not (covered rights) (positions s) ∙ ap not all in
+        record {
+          left = Strs.left-next (g .left) more (λ ss. beyond ss rights) (rw none);
+          among = λ q c. g .among q (ap (λ ss. covered ss q) (strsAt-cons lefts i more) ∙ rw c (or-true (covers s q)));
+        }
+
+  pub search-none : length lefts ≤ i + 1 → FoundBeyond (strsAt lefts) rights Nothing
+  unfolding anyOf
+  search-none h = sym (Strs.left-none (g .left) h)
