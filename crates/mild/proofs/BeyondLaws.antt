@@ -1,17 +1,15 @@
 -- A match of L reaches beyond one of R where some position is covered by its includes and not by the other's; mild not keeps it where it reaches beyond each.
-use Prim.Native.Nat.{ℕ, zero, suc, _+_, _-_, _≤_, _<_}
+use Prim.Native.Nat.{ℕ, _+_, _-_, _≤_, _<_}
 use native.Mathlib.Omega.{arith}
 use mathlib.Core.Path.{_≡_, refl, sym, ap, ap₂, _∙_}
 use mathlib.Core.Bool.{Bool, true, false, not, _&&_, _||_, or-true}
 use mathlib.Core.List.{List, [], _∷_, flatMap}
-use borrow.Author.Tests.{le-leb, leb-true, leb-false, lt-ltb}
-use lib.Dec.{leb}
+use borrow.Author.Tests.{le-leb, lt-ltb}
 use lib.ListN.{length, drop}
-use Rattle.model.specs.Lists.{allOf, anyOf, fromTo, upFrom}
+use Rattle.model.specs.Lists.{allOf, anyOf, fromTo}
 use Rattle.model.specs.Matches.{Str, Match, strings}
 use Rattle.model.specs.Rules.{covered, covers, keptIf, mildNotList, positions, reachesBeyond}
 use Rattle.model.proofs.RulesLaws.{AtMostOne}
-use Rattle.model.proofs.TestsLaws.{both-true, false-true}
 use Rattle.strings.specs.Covering.{RunEnd}
 use Rattle.strings.specs.Strings.{strsAt}
 use Rattle.strings.proofs.StringsLaws.{strAt, strsAt-cons}
@@ -22,7 +20,8 @@ use Rattle.store.proofs.EachLaws.{flatMap-small}
 use Rattle.store.proofs.Rows.{keep-flatMap}
 use Rattle.store.proofs.Slots.{slot-small}
 use Rattle.mild.specs.declared.beyond.Found.the-variants.{At, Nothing}
-use Rattle.mild.specs.Beyond.{beyond, mildNot, FoundBeyond}
+use Rattle.near.specs.Reaching.{beyond}
+use Rattle.mild.specs.Beyond.{mildNot, FoundBeyond}
 
 -- ---- mildNot
 
@@ -52,33 +51,6 @@ any-not p (x ∷ xs) = at (p x) (any-not p xs)
     at : (b : Bool) → anyOf (λ x. not (p x)) xs ≡ not (allOf p xs) → (not b || anyOf (λ x. not (p x)) xs) ≡ not (b && allOf p xs)
     at true e = e
     at false e = refl
-
--- any, over a range with a number that passes
-any-range : (c : ℕ → Bool) (a b p : ℕ) → a ≤ p → p ≤ b → c p ≡ true → anyOf c (fromTo a b) ≡ true
-unfolding anyOf fromTo upFrom
-any-range c a b p h k e = go (b + 1 - a) a h (omega arith)
-  where
-    at : (x : ℕ) (rest t : Bool) → leb p x ≡ t → x ≤ p → (x < p → rest ≡ true) → (c x || rest) ≡ true
-    at x rest true l h' later = let same : c x ≡ true = sym (ap c (omega (arith, leb-true p x l))) ∙ e in rw same
-    at x rest false l h' later = rw (later (leb-false p x l)) (or-true (c x))
-
-    go : (n x : ℕ) → x ≤ p → p < x + n → anyOf c (upFrom x n) ≡ true
-    go zero x h' k' = absurd (omega arith)
-    go (suc n) x h' k' = at x (anyOf c (upFrom (x + 1) n)) (leb p x) refl h' (λ m. go n (x + 1) (omega arith) (omega arith))
-
--- a position that is covered by the left strings and not by the right ones
-pub beyond-at : (lefts rights : List Str) (p : ℕ) → covered lefts p ≡ true → covered rights p ≡ false → beyond lefts rights ≡ true
-unfolding anyOf
-beyond-at [] rights p e f = false-true e
-beyond-at (s ∷ ss) rights p e f = at (covers s p) refl e (beyond-at ss rights p)
-  where
-    at : (t : Bool) → covers s p ≡ t → (t || covered ss p) ≡ true → (covered ss p ≡ true → covered rights p ≡ false → beyond ss rights ≡ true)
-        → (anyOf (λ x. not (covered rights x)) (positions s) || beyond ss rights) ≡ true
-    at true c e' later =
-        let both = both-true (leb (s .start) p) (leb p (s .end)) c in
-        let here = any-range (λ x. not (covered rights x)) (s .start) (s .end) p (leb-true (s .start) p (both .0)) (leb-true p (s .end) (both .1)) (rw f) in
-        rw here
-    at false c e' later = rw (later e' f) (or-true (anyOf (λ x. not (covered rights x)) (positions s)))
 
 -- ---- the search for a position
 

@@ -1,4 +1,2 @@
 pub mod BeyondLaws
-pub mod NearLaws
-pub mod RestLaws
 pub mod Seeking

@@ -9,29 +9,30 @@ use borrow.Author.Tests.{ne-eqb}
 use lib.Dec.{eqb, ltb}
 use lib.ListN.{length, take, drop, getD}
 use Rattle.model.specs.Lists.{allOf, anyOf}
-use Rattle.model.specs.Matches.{Str, Match}
+use Rattle.model.specs.Matches.{Match}
 use Rattle.model.specs.Rules.{covered, keptIf, mildNotList, reachesBeyond}
 use Rattle.strings.specs.Strings.{strsAt}
 use Rattle.store.specs.declared.Built.{Built}
 use Rattle.store.specs.Each.{OneAt}
-use Rattle.store.specs.Layout.{includesIn, matchLength, matchesNumbers, slotLength, slotSize}
+use Rattle.store.specs.Layout.{includesIn, matchLength, matchesNumbers, slotSize}
 use Rattle.store.specs.Outcome.{Closed, Outcome}
 use Rattle.store.specs.Put.{Put}
 use Rattle.store.specs.Slot.{SlotHolds}
-use Rattle.store.specs.Stream.{StreamAt}
 use Rattle.store.proofs.Back.{includes-held, includes-read}
 use Rattle.store.proofs.EachLaws.{Counting, item, count-one, count-finish}
 use Rattle.store.proofs.Slots.{slot-below, closed, matches-held}
 use Rattle.mild.specs.declared.beyond.Found.{Found}
 use Rattle.mild.specs.declared.beyond.Found.the-variants.{At, Nothing}
-use Rattle.mild.specs.declared.near.Edges.{Edges}
-use Rattle.mild.specs.declared.near.Near.{Near}
+use Rattle.near.specs.declared.Edges.{Edges}
+use Rattle.near.specs.declared.Near.{Near}
 use Rattle.mild.specs.Beyond.{coverBoth, mildNot, FoundBeyond}
-use Rattle.mild.specs.Near.{edgesOf, Has, NearAt, NearIs, ReachAt, ReachedIs, SearchAt}
-use Rattle.mild.specs.Rest.{fromFirst, Rest}
-use Rattle.mild.proofs.BeyondLaws.{beyond-at, mildNot-flatMap, mildNot-small, one-at-most}
-use Rattle.mild.proofs.NearLaws.{end-covered, near-below, start-covered, uncovered-beyond}
-use Rattle.mild.proofs.RestLaws.{all-fromFirst, rest-next, rest-none}
+use Rattle.near.specs.Near.{edgesOf, Has, NearAt, NearIs}
+use Rattle.mild.specs.Reach.{ReachAt, ReachedIs, SearchAt}
+use Rattle.near.specs.Rest.{fromFirst, Rest}
+use Rattle.near.proofs.ReachingLaws.{beyond-at}
+use Rattle.mild.proofs.BeyondLaws.{mildNot-flatMap, mildNot-small, one-at-most}
+use Rattle.near.proofs.NearLaws.{end-covered, start-covered, uncovered-beyond}
+use Rattle.near.proofs.RestLaws.{all-fromFirst, rest-next, rest-none}
 
 -- ---- the walk over a part of R
 

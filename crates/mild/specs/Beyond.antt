@@ -1,21 +1,18 @@
 -- Mild not as a rule that goes over L match by match, and a match of L beside one of R.
 use Prim.Native.Nat.{ℕ}
-use mathlib.Core.Bool.{Bool, true, false, not, _&&_}
+use mathlib.Core.Bool.{Bool, true, false, _&&_}
 use mathlib.Core.List.{List}
 use mathlib.Core.Path.{_≡_}
-use Rattle.model.specs.Lists.{allOf, anyOf}
+use Rattle.model.specs.Lists.{allOf}
 use Rattle.model.specs.Matches.{Str, Match}
-use Rattle.model.specs.Rules.{covered, keptIf, positions, reachesBeyond}
+use Rattle.model.specs.Rules.{covered, keptIf, reachesBeyond}
+use Rattle.near.specs.Reaching.{beyond}
 use Rattle.mild.specs.declared.beyond.Found.{Found}
 use Rattle.mild.specs.declared.beyond.Found.the-variants.{At, Nothing}
 
 -- what mild not makes of one match of L
 unfoldable pub mildNot : List Match → Match → List Match
 mildNot rights l = keptIf (allOf (reachesBeyond l) rights) l
-
--- reachesBeyond, of the includes alone
-abbrev pub beyond : List Str → List Str → Bool
-beyond lefts rights = anyOf (λ s. anyOf (λ p. not (covered rights p)) (positions s)) lefts
 
 -- a position found that lefts cover and rights don't, or that there is none
 abbrev pub FoundBeyond : List Str → List Str → Found → Type 0

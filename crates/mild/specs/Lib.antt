@@ -1,3 +1,2 @@
 pub mod Beyond
-pub mod Near
-pub mod Rest
+pub mod Reach

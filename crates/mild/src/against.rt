@@ -2,13 +2,13 @@
 use super::beyond::Found;
 use super::beyond::find_beyond;
 use super::beyond::next_covering;
-use super::near::Near;
-use super::near::edges_of;
-use super::near::near_to;
+use near::Near;
+use near::edges_of;
+use near::near_to;
 ghost use mathlib.Core.Path.{_≡_};
 ghost use Rattle.model.specs.Lists.{allOf};
 ghost use Rattle.model.specs.Rules.{reachesBeyond};
-ghost use Rattle.mild.specs.Near.{ReachAt, ReachedIs, SearchAt};
+ghost use Rattle.mild.specs.Reach.{ReachAt, ReachedIs, SearchAt};
 
 // What comes of a match of L against R.
 pub struct Reached {

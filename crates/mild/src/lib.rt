@@ -1,7 +1,6 @@
 // Mild not: "L's matches in which, for every match of R, some position covered by an include isn't covered by R's includes."
 mod against;
 mod beyond;
-mod near;
 
 use against::reach;
 use near::all_of;

@@ -2,10 +2,11 @@
 -- Measure: the matches left. R lies below what is written, so each turn finds it as it was; no list comes out longer than L.
 use Prim.Native.Nat.{_+_, _-_, _≤_}
 use Rattle.mild.proofs.BeyondLaws.{mildNot-small}
-use Rattle.mild.proofs.NearLaws.{near-below}
+use Rattle.near.proofs.NearLaws.{near-below}
 use Rattle.mild.proofs.Seeking.{reach-at, kept-at, keep-next, mildNot-closed}
 use Rattle.mild.specs.Beyond.{mildNot}
-use Rattle.mild.specs.Near.{NearIs, ReachAt}
+use Rattle.near.specs.Near.{NearIs}
+use Rattle.mild.specs.Reach.{ReachAt}
 use Rattle.store.proofs.EachLaws.{Counting, slot-each, count-start, count-most, count-finish}
 use Rattle.store.proofs.Slots.{closing}
 use Rattle.store.specs.Slot.{SlotAt}

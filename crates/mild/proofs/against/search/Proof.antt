@@ -1,11 +1,10 @@
 -- Invariant: against the matches from `at` on the match of L decides as against all, and its includes cover the last position found. Measure: the numbers left.
 use Prim.Native.Nat.{_-_}
-use Rattle.mild.proofs.RestLaws.{rest-next, rest-after}
+use Rattle.near.proofs.RestLaws.{rest-next, rest-after}
 use Rattle.mild.proofs.Seeking.{Seeking, seek, stopped, passed, sought}
-use Rattle.mild.specs.Near.{SearchAt}
+use Rattle.mild.specs.Reach.{SearchAt}
 use Rattle.store.specs.Stream.{Header}
 use borrow.Author.Needs.{needs}
-use mathlib.Core.Path.{_≡_, refl}
 use native.Mathlib.Omega.{arith}
 use Rattle.mild.proofs.against.search.Statement.{statement}
 use Rattle.mild.proofs.against.search.Tie as tie

@@ -1,0 +1,3 @@
+pub mod NearLaws
+pub mod ReachingLaws
+pub mod RestLaws

@@ -1,0 +1,3 @@
+pub mod Near
+pub mod Reaching
+pub mod Rest
