@@ -1,5 +1,4 @@
--- The strings inside a window: tested by their two numbers, counted one by one, and copied one behind the other, which comes to the numbers of those that
--- are kept.
+-- The strings inside a window: tested by their two numbers, and copied one behind the other, which comes to the numbers of those that are kept.
 use Prim.Native.Nat.{ℕ, _+_, _*_, _/_, _%_, _≤_, _<_}
 use native.Mathlib.Omega.{arith}
 use native.Mathlib.Numerals.{add-one}
@@ -10,16 +9,13 @@ use borrow.Author.Tests.{le-ltb, lt-ltb}
 use lib.Dec.{leb}
 use lib.ListN.{length, getD, set}
 use lib.Seq.{sets}
-use mir.Val.{boolByte}
 use Rattle.model.specs.AllStrings.{AllStrs, Every}
 use Rattle.model.specs.Answers.{spanOf, tagOf}
 use Rattle.model.specs.Limits.{radix}
 use Rattle.model.specs.Lists.{keep}
 use Rattle.model.specs.Matches.{Str}
 use Rattle.model.specs.Rules.{insideWindow}
-use Rattle.model.proofs.ListsLaws.{length-keep}
-use Rattle.strings.specs.Strings.{strOf, strsAt, strsOf}
-use Rattle.strings.proofs.StringsLaws.{Left, left-next, left-none, length-strsAt}
+use Rattle.strings.specs.Strings.{strOf, strsOf}
 use Rattle.store.specs.Fine.{Fine}
 use Rattle.store.specs.Layout.{Holds}
 use Rattle.store.specs.Put.{Put}
@@ -38,35 +34,6 @@ module _ (n last span : ℕ) {start : ℕ} (e : start ≡ span / radix) where
 
   pub inside-from : last < start + n → {end : ℕ} → end ≡ span % radix → leb end last ≡ insideWindow n last (strOf span 0)
   inside-from h f = rw (f, lt-ltb last (span / radix + n) (omega arith))
-
--- ---- counting
-
-pub boolByte-one : (b : Bool) → boolByte b ≤ 1
-boolByte-one true = omega arith
-boolByte-one false = omega arith
-
--- at index i of the loop: those inside so far and those still to come are all that are inside
-pub record Counted (n last : ℕ) (strs : List ℕ) (count i : ℕ) : Type 0 where
-  pub left : Left (length (keep (insideWindow n last) (strsAt strs))) (λ ss. count + length (keep (insideWindow n last) ss)) strs i
-
-pub count-start : (n last : ℕ) (strs : List ℕ) → Counted n last strs 0 0
-count-start n last strs = record { left = record { bounded = omega arith; same = omega arith } }
-
-module _ {n last count i : ℕ} {strs : List ℕ} (g : Counted n last strs count i) where
-  pub count-most : count ≤ length strs
-  count-most = omega (arith, g .left .same, length-keep (insideWindow n last) (strsAt strs), length-strsAt strs)
-
-  pub count-next : i + 1 < length strs → {test : Bool} → test ≡ insideWindow n last (strOf (getD strs i 0) 0) → Counted n last strs (count + boolByte test) (i + 2)
-  unfolding keep
-  count-next h {test} e = record { left = left-next (g .left) h _ (rw (← e) (counted test _ _)) }
-    where
-      counted : (t : Bool) (s : Str) (ss : List Str) → count + length (cond t (s ∷ ss) ss) ≡ count + boolByte t + length ss
-      counted true s ss = omega arith
-      counted false s ss = omega arith
-
-  pub count-end : length strs ≤ i + 1 → count ≡ length (keep (insideWindow n last) (strsAt strs))
-  unfolding keep
-  count-end h = omega (arith, left-none (g .left) h)
 
 -- ---- insideNumbers
 

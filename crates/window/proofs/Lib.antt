@@ -1,3 +1,4 @@
 pub mod InsideLaws
-pub mod AddedLaws
+pub mod JoinedLaws
+pub mod SizesLaws
 pub mod WindowsLaws

@@ -1,11 +1,11 @@
 // "the excludes inside W to W + N − 1": a window is named by its last position, W + N − 1.
 use model::Position;
 ghost use mathlib.Core.Path.{_≡_};
-ghost use lib.ListN.{getD, length};
+ghost use lib.ListN.{getD};
 ghost use Prim.Native.Nat.{_+_};
 ghost use Rattle.model.specs.Lists.{keep};
 ghost use Rattle.model.specs.Rules.{insideWindow};
-ghost use Rattle.strings.specs.Strings.{strOf, strsAt, strsOf};
+ghost use Rattle.strings.specs.Strings.{strOf, strsOf};
 ghost use Rattle.store.specs.Put.{Put};
 ghost use Rattle.window.specs.Inside.{ExcludesAt, insideNumbers, StringAt, WindowSize};
 
@@ -18,20 +18,6 @@ fn is_inside(n: u32, last: Position, span: u32) -> bool
         return false;
     }
     strings::end_of(span) <= last.0
-}
-
-// How many strings of a part lie inside the window.
-pub fn count_inside(n: u32, last: Position, strs: &[u32]) -> usize
-    requires { ⌜ WindowSize n ⌝ }
-    ensures { λ r. ⌜ r ≡ length (keep (insideWindow n (last .0)) (strsAt (now (strs .entry)))) ⌝ }
-{
-    let mut count = 0;
-    let mut i = 0;
-    while i + 1 < strs.len() {
-        count += is_inside(n, last, strs[i]) as usize;
-        i += 2;
-    }
-    count
 }
 
 // Puts the string at i to q if it lies inside the window; gives the place behind it.

@@ -1,58 +1,22 @@
 -- The excludes inside are put first, three places on; how many they are shows by the place behind them. Then the header and the join's two numbers go in
 -- front of them.
 use native.Mathlib.Omega.{arith}
-use borrow.Author.Needs.{needs}
 use lib.ListN.{length, length-set}
 use Rattle.window.proofs.WindowsLaws.{Behind, excludes-at, behind, window-put}
+use borrow.Author.Needs.{needs}
 use Rattle.window.proofs.put_window.Statement.{statement}
 use Rattle.window.proofs.put_window.Tie as tie
-
-mul-header : tie.Need-mul-header
-mul-header c = search needs
-
-slice-read-header : tie.Need-slice-read-header
-slice-read-header c = search needs
-
-add-a : tie.Need-add-a
-add-a c = search needs
-
-includes-in-requires : tie.Need-includes-in-requires
-includes-in-requires c κs = search needs
-
-mul-a : tie.Need-mul-a
-mul-a c = search needs
-
-add-a-2 : tie.Need-add-a-2
-add-a-2 c = search needs
-
-excludes-in-requires : tie.Need-excludes-in-requires
-excludes-in-requires c κs = search needs
-
-mul-e : tie.Need-mul-e
-mul-e c = search needs
-
-add-e : tie.Need-add-e
-add-e c = search needs
 
 add-from : tie.Need-add-from
 add-from c = search needs
 
 put-inside-requires : tie.Need-put-inside-requires
-put-inside-requires c κs =
-    let x = c .before in
-    excludes-at (x .before .before .before .before .pre) (x .before .includes-in .ensures) (x .excludes-in .ensures)
+put-inside-requires c κs = excludes-at (c .before .before .pre)
 
 -- what is written behind the join
-behind-at : (c : tie.After-slice-known3)
-    → Behind (length (c .before .before .put-inside .last .0)) (c .before .before .before .before .before .before .before .before .args .q)
-    (c .before .before .put-inside .result)
-behind-at c =
-    let i = c .before .before in
-    let x = i .before .before in
-    let y = x .before in
-    let w = y .before .before .before .pre in
-    let at = excludes-at w (y .includes-in .ensures) (x .excludes-in .ensures) in
-    behind w (y .includes-in .ensures) (x .excludes-in .ensures) (i .put-inside .ensures at)
+behind-at : (c : tie.After-slice-known2)
+    → Behind (length (c .before .before .put-inside .last .0)) (c .before .before .before .before .before .args .q) (c .before .before .put-inside .result)
+behind-at c = let i = c .before .before in let w = i .before .before .before .pre in behind w (i .put-inside .ensures (excludes-at w))
 
 sub-header : tie.Need-sub-header
 sub-header c = behind-at c .from
@@ -88,26 +52,12 @@ same-length : tie.Need-same-length
 same-length c = search needs
 
 returns : tie.Need-returns
-returns c w =
-    let i = c .before .before .before in
-    let x = i .before .before in
-    let y = x .before in
-    let at = excludes-at w (y .includes-in .ensures) (x .excludes-in .ensures) in
-    window-put w (y .includes-in .ensures) (x .excludes-in .ensures) (i .put-inside .ensures at) (c .header .ensures)
+returns c w = window-put w (c .before .before .before .put-inside .ensures (excludes-at w)) (c .header .ensures)
 
 pub put-window-spec : {M : Type 1} → statement M
 put-window-spec =
     tie.close
     (tie.spec
-    mul-header
-    slice-read-header
-    add-a
-    includes-in-requires
-    mul-a
-    add-a-2
-    excludes-in-requires
-    mul-e
-    add-e
     add-from
     put-inside-requires
     sub-header

@@ -1,31 +1,30 @@
--- A match without includes has no window. Of any other the join's span is least start and greatest end, so it says where the windows' last positions run.
-use mathlib.Core.Path.{sym, _∙_}
+-- A match without includes has no window, and one whose join is too wide has none. Of any other the join's span says where the windows end (JoinedLaws),
+-- so putting each is putting all.
+use Rattle.window.proofs.WindowsLaws.{dropped, too-wide, windows-at, windows-put}
 use borrow.Author.Needs.{needs}
-use borrow.Author.Tests.{ltb-true, ltb-false}
-use Rattle.window.proofs.WindowsLaws.{dropped, windows-at, windows-listed, windows-refused}
 use Rattle.window.proofs.put_windows.Statement.{statement}
 use Rattle.window.proofs.put_windows.Tie as tie
 
-mul-includes-in : tie.Need-mul-includes-in
-mul-includes-in c = search needs
+mul-header : tie.Need-mul-header
+mul-header c = search needs
 
-slice-read-includes-in : tie.Need-slice-read-includes-in
-slice-read-includes-in c = search needs
+slice-read-header : tie.Need-slice-read-header
+slice-read-header c = search needs
 
 includes-in-requires : tie.Need-includes-in-requires
 includes-in-requires c κs = search needs
 
 returns : tie.Need-returns
-returns c w = dropped w (c .before .includes-in .ensures) (c .if1 .taken)
+returns c w = dropped _ w (c .before .includes-in .ensures) (c .if1 .taken)
 
 add-a : tie.Need-add-a
 add-a c = search needs
 
-mul-e : tie.Need-mul-e
-mul-e c = search needs
+mul-x : tie.Need-mul-x
+mul-x c = search needs
 
-add-e : tie.Need-add-e
-add-e c = search needs
+add-x : tie.Need-add-x
+add-x c = search needs
 
 mul-join-span : tie.Need-mul-join-span
 mul-join-span c = search needs
@@ -42,6 +41,21 @@ part-join-span-end c = search needs
 join-span-requires : tie.Need-join-span-requires
 join-span-requires c κs = search needs
 
+count-around-requires : tie.Need-count-around-requires
+count-around-requires c κs = search needs
+
+same-length : tie.Need-same-length
+same-length c = search needs
+
+returns-2 : tie.Need-returns-2
+returns-2 c w =
+    let k = c .before in
+    let s = k .before in
+    let x = s .before .before .before in
+    let i = x .before in
+    let r = i .before .before .before .pre in
+    too-wide _ w (i .includes-in .ensures) (r .0) (x .if1 .left) (s .join-span .ensures) (k .count-around .ensures) (c .if2 .taken)
+
 mul-join-tag : tie.Need-mul-join-tag
 mul-join-tag c = search needs
 
@@ -57,70 +71,68 @@ part-join-tag-end c = search needs
 join-tag-requires : tie.Need-join-tag-requires
 join-tag-requires c κs = search needs
 
-too-many-requires : tie.Need-too-many-requires
-too-many-requires c κs = search needs
+excludes-in-requires : tie.Need-excludes-in-requires
+excludes-in-requires c κs = search needs
 
-same-length : tie.Need-same-length
-same-length c = search needs
+mul-e : tie.Need-mul-e
+mul-e c = search needs
 
-returns-2 : tie.Need-returns-2
-returns-2 c w =
-    let k = c .before in
-    let t = k .before in
-    let s = t .before .before .before in
-    let e = s .before .before .before in
-    let i = e .before in
-    windows-refused w (i .includes-in .ensures) (e .if1 .left) (s .join-span .ensures) (t .join-tag .ensures) (ltb-true _ _ (sym (k .too-many .ensures) ∙ c .if2 .taken))
+add-e : tie.Need-add-e
+add-e c = search needs
 
 put-each-requires : tie.Need-put-each-requires
 put-each-requires c κs =
-    let f = c .before in
-    let t = f .before .before in
-    let s = t .before .before .before in
-    let e = s .before .before .before in
-    let i = e .before in
-    windows-at (i .before .before .before .pre) (i .includes-in .ensures) (e .if1 .left) (s .join-span .ensures) (t .join-tag .ensures)
-    (ltb-false _ _ (sym (f .before .too-many .ensures) ∙ f .if2 .left))
+    let y = c .before in
+    let t = y .before in
+    let s = t .before .before .before .before .before in
+    let x = s .before .before .before in
+    let i = x .before in
+    let r = i .before .before .before .pre in
+    windows-at _ (r .1) (i .includes-in .ensures) (r .0) (x .if1 .left) (s .join-span .ensures) (t .join-tag .ensures) (y .excludes-in .ensures)
 
 same-length-2 : tie.Need-same-length-2
 same-length-2 c = search needs
 
 returns-3 : tie.Need-returns-3
 returns-3 c w =
-    let r = c .before .before in
-    let f = r .before .before in
-    let t = f .before .before in
-    let s = t .before .before .before in
-    let e = s .before .before .before in
-    let i = e .before in
-    let fits = ltb-false _ _ (sym (f .before .too-many .ensures) ∙ f .if2 .left) in
-    windows-listed w (i .includes-in .ensures) (e .if1 .left) (s .join-span .ensures) (t .join-tag .ensures) fits (r .put-each .last .0) (r .put-each .result)
-    (r .put-each .ensures (windows-at w (i .includes-in .ensures) (e .if1 .left) (s .join-span .ensures) (t .join-tag .ensures) fits))
+    let k = c .before .before in
+    let y = k .before .before in
+    let t = y .before in
+    let s = t .before .before .before .before .before in
+    let x = s .before .before .before in
+    let i = x .before in
+    let r = i .before .before .before .pre in
+    let at = windows-at _ w (i .includes-in .ensures) (r .0) (x .if1 .left) (s .join-span .ensures) (t .join-tag .ensures) (y .excludes-in .ensures) in
+    windows-put _ w (i .includes-in .ensures) (r .0) (x .if1 .left) (s .join-span .ensures) (t .join-tag .ensures) (y .excludes-in .ensures)
+    (k .put-each .ensures at)
 
 pub put-windows-spec : {M : Type 1} → statement M
 put-windows-spec =
     tie.close
     (tie.spec
-    mul-includes-in
-    slice-read-includes-in
+    mul-header
+    slice-read-header
     includes-in-requires
     returns
     add-a
-    mul-e
-    add-e
+    mul-x
+    add-x
     mul-join-span
     sub-join-span
     part-join-span-start
     part-join-span-end
     join-span-requires
+    count-around-requires
+    same-length
+    returns-2
     mul-join-tag
     sub-join-tag
     part-join-tag-start
     part-join-tag-end
     join-tag-requires
-    too-many-requires
-    same-length
-    returns-2
+    excludes-in-requires
+    mul-e
+    add-e
     put-each-requires
     same-length-2
     returns-3)

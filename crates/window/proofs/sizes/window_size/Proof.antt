@@ -1,0 +1,107 @@
+-- Invariant: the windows of the matches passed are counted, within the limits, and the matches left lie at p. Measure: the matches left. Sizes only grow, so
+-- what is too long on the way is too long as a whole.
+use Prim.Native.Nat.{_-_, _≤_}
+use native.Mathlib.Omega.{arith}
+use Rattle.store.specs.Slot.{SlotAt}
+use Rattle.window.specs.Sizes.{SizeAt}
+use Rattle.window.proofs.SizesLaws.{Sizing, size-start, size-item, size-next, size-over, size-end}
+use borrow.Author.Needs.{needs}
+use Rattle.window.proofs.sizes.window_size.Statement.{statement}
+use Rattle.window.proofs.sizes.window_size.Tie as tie
+
+abbrev Inv-loop : tie.InvT-loop
+Inv-loop mem n src count p₀ matches₀ strings₀ i₀ p matches strings i = (i ≤ count) × ((w : SlotAt mem src) → Sizing n (w .list) mem count p matches strings i)
+
+abbrev μ-loop : tie.MeasureT-loop
+μ-loop mem n src count p₀ matches₀ strings₀ i₀ p matches strings i = count - i
+
+-- the match in hand
+one : (c : tie.In-loop Inv-loop μ-loop)
+    → SizeAt (c .before .before .before .before .args .n) (c .before .before .before .before .args .mem .now) (c .before .loop .p) (c .before .loop .matches)
+    (c .before .loop .strings)
+one c = let r = c .before .before .before .before .pre in size-item (c .before .loop .inv .1 (r .1)) (c .loop-test .taken) (r .0)
+
+mul-count : tie.Need-mul-count Inv-loop μ-loop
+mul-count c = search needs
+
+shared-slice-read-count : tie.Need-shared-slice-read-count Inv-loop μ-loop
+shared-slice-read-count c = search needs
+
+add-p : tie.Need-add-p Inv-loop μ-loop
+add-p c = search needs
+
+loop-holds : tie.Need-loop-holds Inv-loop μ-loop
+loop-holds c = (search needs, λ w. size-start _ (w .slot))
+
+size-with-requires : tie.Need-size-with-requires Inv-loop μ-loop
+size-with-requires c κs = one c
+
+enum-known-size : tie.Need-enum-known-size Inv-loop μ-loop
+enum-known-size c = search needs
+
+enum-told : tie.Need-enum-told Inv-loop μ-loop
+enum-told c = search needs
+
+returns : tie.Need-returns Inv-loop μ-loop
+returns c w =
+    let k = c .before .before in
+    let t = k .before in
+    let size = t .before .before .before .before .pre .0 in
+    let g = t .before .loop .inv .1 w in
+    size-over g (t .loop-test .taken) size (k .size-with .ensures (size-item g (t .loop-test .taken) size)) (c .enum-told .given .1)
+
+mul-match-length : tie.Need-mul-match-length Inv-loop μ-loop
+mul-match-length c = omega (arith, one (c .before .before .before .before) .held .header)
+
+shared-slice-read-match-length : tie.Need-shared-slice-read-match-length Inv-loop μ-loop
+shared-slice-read-match-length c = omega (arith, one (c .before .before .before .before .before) .held .header)
+
+match-length-requires : tie.Need-match-length-requires Inv-loop μ-loop
+match-length-requires c κs = search needs
+
+add-p-2 : tie.Need-add-p-2 Inv-loop μ-loop
+add-p-2 c = omega (arith, one (c .before .before .before .before .before .before) .held .header, c .match-length .ensures)
+
+add-i : tie.Need-add-i Inv-loop μ-loop
+add-i c = search needs
+
+loop-less : tie.Need-loop-less Inv-loop μ-loop
+loop-less c = search needs
+
+loop-again : tie.Need-loop-again Inv-loop μ-loop
+loop-again c =
+    let a = c .before .before .before in
+    let k = a .before .before in
+    let t = k .before in
+    let size = t .before .before .before .before .pre .0 in (
+      search needs,
+      λ w.
+          let g = t .before .loop .inv .1 w in
+          size-next g (t .loop-test .taken) size (k .size-with .ensures (size-item g (t .loop-test .taken) size)) (a .size .given .1) (c .match-length .ensures),
+    )
+
+returns-2 : tie.Need-returns-2 Inv-loop μ-loop
+returns-2 c w = size-end (c .before .loop .inv .1 w) (c .loop-test .left)
+
+pub window-size-spec : {M : Type 1} → statement M
+window-size-spec =
+    tie.close
+    (tie.spec
+    Inv-loop
+    μ-loop
+    mul-count
+    shared-slice-read-count
+    add-p
+    loop-holds
+    size-with-requires
+    enum-known-size
+    enum-told
+    returns
+    mul-match-length
+    shared-slice-read-match-length
+    match-length-requires
+    add-p-2
+    add-i
+    loop-less
+    loop-again
+    returns-2)
