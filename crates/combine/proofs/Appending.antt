@@ -8,7 +8,7 @@ use lib.Seq.{sets}
 use Rattle.model.specs.Rules.{orList}
 use Rattle.model.proofs.RulesLaws.{length-or, strings-or}
 use Rattle.store.specs.declared.Built.the-variants.{Made}
-use Rattle.store.specs.Built.{builtOf}
+use Rattle.store.specs.Built.{builtOf, sizedAs}
 use Rattle.store.specs.Layout.{slotLength, slotSize}
 use Rattle.store.specs.Outcome.{Outcome}
 use Rattle.store.specs.Places.{CopyDown}
@@ -16,7 +16,6 @@ use Rattle.store.specs.Put.{Put}
 use Rattle.store.proofs.LayoutLaws.{length-matches, matches-append}
 use Rattle.store.proofs.PutLaws.{put-copy, put-held}
 use Rattle.store.proofs.Slots.{matches-held, strings-held, slot-stream, answer-made, filled}
-use Rattle.combine.specs.Sizes.{sizedAs}
 use Rattle.combine.specs.TwoSlots.{TwoSlots}
 
 module _ {mem : List ℕ} {l r : ℕ} (w : TwoSlots mem l r) where

@@ -11,7 +11,7 @@ use Rattle.model.specs.Rules.{joined, andList}
 use Rattle.model.proofs.RulesLaws.{strings-joined, length-and, strings-and}
 use Rattle.strings.specs.Strings.{strsOf}
 use Rattle.store.specs.declared.Built.the-variants.{Made}
-use Rattle.store.specs.Built.{builtOf}
+use Rattle.store.specs.Built.{builtOf, sizedAs}
 use Rattle.store.specs.Places.{Under}
 use Rattle.store.specs.Layout.{Holds, headerOf, includesIn, excludesIn, matchLength, matchNumbers, matchesNumbers}
 use Rattle.store.specs.Put.{Put}
@@ -25,7 +25,6 @@ use Rattle.store.proofs.Slots.{matches-held, strings-held, slot-stream, answer-
 use Rattle.store.proofs.Rows.{map-flatMap}
 use Rattle.store.proofs.EachLaws.{Going, slot-each, start, item, step, finish}
 use Rattle.combine.specs.Joining.{CopyBoth, JoinableAt, Row, RowAt}
-use Rattle.combine.specs.Sizes.{sizedAs}
 use Rattle.combine.specs.TwoSlots.{TwoSlots}
 
 -- ---- two copies

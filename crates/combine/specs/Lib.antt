@@ -1,4 +1,3 @@
-pub mod Sizes
 pub mod TwoSlots
 pub mod Finding
 pub mod Joining

@@ -7,7 +7,7 @@ use model::MAX_MATCHES;
 use model::MAX_STRINGS;
 use store::Built;
 ghost use mathlib.Core.Path.{_≡_};
-ghost use Rattle.combine.specs.Sizes.{sizedAs};
+ghost use Rattle.store.specs.Built.{sizedAs};
 
 // The answer for a list of so many matches and strings.
 pub fn sized(matches: u32, strings: u32) -> Built

@@ -19,7 +19,7 @@ use Rattle.strings.specs.Strings.{strsAt}
 use Rattle.strings.proofs.StringsLaws.{Left as StringsLeft, left-next, left-none, length-strsAt}
 use Rattle.store.specs.declared.Built.{Built}
 use Rattle.store.specs.declared.Built.the-variants.{Made, TooLong}
-use Rattle.store.specs.Built.{builtOf, Small}
+use Rattle.store.specs.Built.{sizedAs, builtOf, Small}
 use Rattle.store.specs.Layout.{excludesIn, includesIn, matchLength}
 use Rattle.store.specs.Slot.{SlotHolds}
 use Rattle.store.specs.Stream.{Left}
@@ -27,7 +27,7 @@ use Rattle.store.proofs.Back.{excludes-read}
 use Rattle.store.proofs.Slots.{answer-long, answer-made, built-made, not-long, slot-stream}
 use Rattle.store.proofs.Walking.{Next, next, none-left}
 use Rattle.window.specs.Inside.{WindowSize}
-use Rattle.window.specs.Sizes.{SizeAt, sizedAs, timesInside, windowsAround}
+use Rattle.window.specs.Sizes.{SizeAt, timesInside, windowsAround}
 use Rattle.window.proofs.JoinedLaws.{ends-are, Gives, length-join-one, part, window-dropped}
 
 -- ---- windowsAround

@@ -1,14 +1,10 @@
 -- How many windows there are, and how many strings they hold.
 use Prim.Native.Nat.{ℕ, _+_, _-_, _≤_, min, max}
-use mathlib.Core.Bool.{_||_, cond}
 use mathlib.Core.List.{List, [], _∷_}
 use mathlib.Core.Path.{_≡_}
-use lib.Dec.{ltb}
 use lib.ListN.{length}
 use Rattle.model.specs.Limits.{maxMatches, maxStrings}
 use Rattle.model.specs.Matches.{Match, Str, strings}
-use Rattle.store.specs.declared.Built.{Built}
-use Rattle.store.specs.declared.Built.the-variants.{Made, TooLong}
 use Rattle.store.specs.Stream.{MatchHolds}
 use Rattle.window.specs.Inside.{WindowSize}
 
@@ -20,10 +16,6 @@ windowsAround n start end = start + n - end
 unfoldable pub timesInside : ℕ → ℕ → ℕ → List Str → ℕ
 timesInside n start end [] = 0
 timesInside n start end (s ∷ ss) = windowsAround n (min start (s .start)) (max end (s .end)) + timesInside n start end ss
-
--- the answer for a list of so many matches and strings; what builtOf says of a list is this of its sizes
-abbrev pub sizedAs : ℕ → ℕ → Built
-sizedAs matches strs = cond (ltb maxMatches matches || ltb maxStrings strs) TooLong (Made matches strs)
 
 -- a match at p, and a list of so many matches and strings, within the limits
 pub record SizeAt (n : ℕ) (mem : List ℕ) (p matches strs : ℕ) : Type 0 where

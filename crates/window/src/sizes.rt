@@ -11,10 +11,10 @@ ghost use lib.ListN.{length};
 ghost use Rattle.model.specs.Limits.{maxMatches, maxStrings, radix};
 ghost use Rattle.model.specs.Rules.{window};
 ghost use Rattle.strings.specs.Strings.{strsAt};
-ghost use Rattle.store.specs.Built.{builtOf};
+ghost use Rattle.store.specs.Built.{builtOf, sizedAs};
 ghost use Rattle.store.specs.Slot.{SlotAt};
 ghost use Rattle.window.specs.Inside.{WindowSize};
-ghost use Rattle.window.specs.Sizes.{SizeAt, sizedAs, timesInside, windowsAround};
+ghost use Rattle.window.specs.Sizes.{SizeAt, timesInside, windowsAround};
 
 // How many windows there are around two strings of these spans: "each W from (greatest end − N + 1) up to least start".
 pub fn count_around(n: u32, a: u32, b: u32) -> u32
