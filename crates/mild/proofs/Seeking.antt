@@ -23,10 +23,11 @@ use Rattle.store.proofs.EachLaws.{Counting, item, count-one, count-finish}
 use Rattle.store.proofs.Slots.{slot-below, closed, matches-held}
 use Rattle.mild.specs.declared.beyond.Found.{Found}
 use Rattle.mild.specs.declared.beyond.Found.the-variants.{At, Nothing}
-use Rattle.near.specs.declared.Edges.{Edges}
+use Rattle.near.specs.declared.edges.Edges.{Edges}
 use Rattle.near.specs.declared.Near.{Near}
 use Rattle.mild.specs.Beyond.{coverBoth, mildNot, FoundBeyond}
-use Rattle.near.specs.Near.{edgesOf, Has, NearAt, NearIs}
+use Rattle.near.specs.Edges.{edgesOf, Has}
+use Rattle.near.specs.Near.{NearAt, NearIs}
 use Rattle.mild.specs.Reach.{ReachAt, ReachedIs, SearchAt}
 use Rattle.near.specs.Rest.{fromFirst, Rest}
 use Rattle.near.proofs.ReachingLaws.{beyond-at}

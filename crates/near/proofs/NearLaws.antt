@@ -25,11 +25,13 @@ use Rattle.store.proofs.LayoutLaws.{length-matches, length-slot, matches-append
 use Rattle.store.proofs.Memory.{getD-head, holds-tail}
 use Rattle.store.proofs.Slots.{length-slot-held, matches-held, slot-stream}
 use Rattle.store.proofs.Walking.{left-below}
-use Rattle.near.specs.declared.Edges.{Edges}
+use Rattle.near.specs.declared.edges.Edges.{Edges}
 use Rattle.near.specs.declared.Near.{Near}
-use Rattle.near.specs.declared.Range.{Range}
-use Rattle.near.specs.declared.Ranges.{Ranges}
-use Rattle.near.specs.Near.{edgesOf, have, isWithin, touchBoth, touched, touches, widened, Has, NearIs, Wider, Within}
+use Rattle.near.specs.declared.edges.Range.{Range}
+use Rattle.near.specs.declared.edges.Ranges.{Ranges}
+use Rattle.near.specs.Edges.{edgesOf, have, isWithin, widened, Has, Wider, Within}
+use Rattle.near.specs.Near.{NearIs}
+use Rattle.near.specs.Touching.{touchBoth, touched, touches}
 use Rattle.near.specs.Rest.{fromFirst, LastPassing, Rest}
 use Rattle.near.proofs.ReachingLaws.{beyond-at}
 use Rattle.near.proofs.RestLaws.{all-fromFirst, all-lastPassing}

@@ -1,3 +1,5 @@
+pub mod Edges
 pub mod Near
 pub mod Reaching
 pub mod Rest
+pub mod Touching

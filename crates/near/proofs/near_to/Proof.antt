@@ -1,6 +1,6 @@
 -- The part that is known, or the one from the first match that touches both new ranges up to the last.
 use Rattle.near.proofs.NearLaws.{have-has, near-part, rights-rest}
-use Rattle.near.specs.Near.{Has}
+use Rattle.near.specs.Edges.{Has}
 use borrow.Author.Needs.{needs}
 use mathlib.Core.Path.{sym, _∙_, subst}
 use native.Mathlib.Omega.{arith}

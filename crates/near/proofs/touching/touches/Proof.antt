@@ -4,8 +4,8 @@ use Rattle.model.specs.Limits.{radix}
 use borrow.Author.Needs.{needs}
 use borrow.Author.Tests.{le-leb, lt-leb}
 use native.Mathlib.Omega.{arith}
-use Rattle.near.proofs.touches.Statement.{statement}
-use Rattle.near.proofs.touches.Tie as tie
+use Rattle.near.proofs.touching.touches.Statement.{statement}
+use Rattle.near.proofs.touching.touches.Tie as tie
 
 start-of-requires : tie.Need-start-of-requires
 start-of-requires c κs = search needs

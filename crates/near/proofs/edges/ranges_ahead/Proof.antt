@@ -1,6 +1,6 @@
 -- Invariant: the matches from `at` on are left, and the ranges have the first one's edges. Measure: the matches left.
 use Prim.Native.Nat.{ℕ, _+_, _-_, _≤_, _<_}
-use Rattle.near.specs.Near.{Wider}
+use Rattle.near.specs.Edges.{Wider}
 use Rattle.store.proofs.Walking.{next}
 use Rattle.store.specs.Layout.{matchLength}
 use Rattle.store.specs.Stream.{Header, StreamAt}
@@ -9,8 +9,8 @@ use lib.ListN.{getD}
 use mathlib.Core.List.{List}
 use mathlib.Core.Path.{_≡_, subst}
 use native.Mathlib.Omega.{arith}
-use Rattle.near.proofs.ranges_ahead.Statement.{statement}
-use Rattle.near.proofs.ranges_ahead.Tie as tie
+use Rattle.near.proofs.edges.ranges_ahead.Statement.{statement}
+use Rattle.near.proofs.edges.ranges_ahead.Tie as tie
 
 abbrev Inv-loop : tie.InvT-loop
 Inv-loop mem p n ranges₀ at₀ i₀ ranges at i = (i ≤ n) × StreamAt mem at (n - i) × Wider ranges₀ ranges

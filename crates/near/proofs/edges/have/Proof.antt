@@ -2,8 +2,8 @@
 use borrow.Author.Needs.{needs}
 use borrow.Author.Tests.{not-true, not-false}
 use mathlib.Core.Path.{sym, _∙_}
-use Rattle.near.proofs.have.Statement.{statement}
-use Rattle.near.proofs.have.Tie as tie
+use Rattle.near.proofs.edges.have.Statement.{statement}
+use Rattle.near.proofs.edges.have.Tie as tie
 
 is-within-requires : tie.Need-is-within-requires
 is-within-requires c κs = search needs

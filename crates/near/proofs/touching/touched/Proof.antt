@@ -3,11 +3,11 @@ use Prim.Native.Nat.{_-_}
 use mathlib.Core.Path.{sym, _∙_}
 use borrow.Author.Needs.{needs}
 use lib.ListN.{length}
-use Rattle.near.specs.Near.{touched}
+use Rattle.near.specs.Touching.{touched}
 use Rattle.strings.specs.Strings.{strsAt}
 use Rattle.strings.proofs.StringsLaws.{Left, left-start, decides-any, decided-here, decided-later, decided-end}
-use Rattle.near.proofs.touched.Statement.{statement}
-use Rattle.near.proofs.touched.Tie as tie
+use Rattle.near.proofs.touching.touched.Statement.{statement}
+use Rattle.near.proofs.touching.touched.Tie as tie
 
 abbrev Inv-loop : tie.InvT-loop
 Inv-loop strs range i₀ i = Left (touched range (strsAt strs)) (touched range) strs i

@@ -1,7 +1,7 @@
 -- The two tests of the definition, in its order.
 use borrow.Author.Tests.{le-leb, lt-leb}
-use Rattle.near.proofs.is_within.Statement.{statement}
-use Rattle.near.proofs.is_within.Tie as tie
+use Rattle.near.proofs.edges.is_within.Statement.{statement}
+use Rattle.near.proofs.edges.is_within.Tie as tie
 
 returns : tie.Need-returns
 returns c = rw (lt-leb _ _ (c .if1 .taken))

@@ -1,13 +1,13 @@
 -- Invariant: no match passed that lies at `behind` or after it touches both ranges. Measure: the numbers left.
 use Prim.Native.Nat.{_-_}
 use Rattle.near.proofs.RestLaws.{Ending, rest-next, ending-start, ending-here, ending-later, ending-none}
-use Rattle.near.specs.Near.{touchBoth}
+use Rattle.near.specs.Touching.{touchBoth}
 use Rattle.near.specs.Rest.{RestAt}
 use Rattle.store.specs.Stream.{Header}
 use borrow.Author.Needs.{needs}
 use native.Mathlib.Omega.{arith}
-use Rattle.near.proofs.behind_touching.Statement.{statement}
-use Rattle.near.proofs.behind_touching.Tie as tie
+use Rattle.near.proofs.touching.behind_touching.Statement.{statement}
+use Rattle.near.proofs.touching.behind_touching.Tie as tie
 
 abbrev Inv-loop : tie.InvT-loop
 Inv-loop mem from end ranges behind₀ at₀ behind at = (w : RestAt mem from end) → Ending (touchBoth ranges) (w .todo) mem behind at end

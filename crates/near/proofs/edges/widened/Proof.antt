@@ -1,7 +1,7 @@
 -- The position is below the range, above it, or in it.
 use borrow.Author.Tests.{lt-ltb, le-ltb}
-use Rattle.near.proofs.widened.Statement.{statement}
-use Rattle.near.proofs.widened.Tie as tie
+use Rattle.near.proofs.edges.widened.Statement.{statement}
+use Rattle.near.proofs.edges.widened.Tie as tie
 
 returns : tie.Need-returns
 returns c = rw (lt-ltb _ _ (c .if1 .taken))

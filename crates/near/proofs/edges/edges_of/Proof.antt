@@ -4,8 +4,8 @@ use borrow.Author.Needs.{needs}
 use mathlib.Core.Path.{ap, ap₂, _∙_}
 use lib.ListN.{getD}
 use Rattle.model.specs.Limits.{radix}
-use Rattle.near.proofs.edges_of.Statement.{statement}
-use Rattle.near.proofs.edges_of.Tie as tie
+use Rattle.near.proofs.edges.edges_of.Statement.{statement}
+use Rattle.near.proofs.edges.edges_of.Tie as tie
 
 mul-includes-in : tie.Need-mul-includes-in
 mul-includes-in c = search needs

@@ -1,13 +1,13 @@
 -- Invariant: what is left from `at` on decides which match is the first that touches both ranges. Measure: the numbers left.
 use Prim.Native.Nat.{_-_}
 use Rattle.near.proofs.RestLaws.{rest-next, passing-start, passing-here, passing-later, passing-none}
-use Rattle.near.specs.Near.{touchBoth}
+use Rattle.near.specs.Touching.{touchBoth}
 use Rattle.near.specs.Rest.{Passing, RestAt}
 use Rattle.store.specs.Stream.{Header}
 use borrow.Author.Needs.{needs}
 use native.Mathlib.Omega.{arith}
-use Rattle.near.proofs.first_touching.Statement.{statement}
-use Rattle.near.proofs.first_touching.Tie as tie
+use Rattle.near.proofs.touching.first_touching.Statement.{statement}
+use Rattle.near.proofs.touching.first_touching.Tie as tie
 
 abbrev Inv-loop : tie.InvT-loop
 Inv-loop mem from end ranges at₀ at = (w : RestAt mem from end) → Passing (touchBoth ranges) (w .todo) mem at end

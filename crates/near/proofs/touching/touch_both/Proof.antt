@@ -2,8 +2,8 @@
 use borrow.Author.Needs.{needs}
 use borrow.Author.Tests.{not-true, not-false}
 use mathlib.Core.Path.{sym, _∙_}
-use Rattle.near.proofs.touch_both.Statement.{statement}
-use Rattle.near.proofs.touch_both.Tie as tie
+use Rattle.near.proofs.touching.touch_both.Statement.{statement}
+use Rattle.near.proofs.touching.touch_both.Tie as tie
 
 touched-requires : tie.Need-touched-requires
 touched-requires c κs = search needs

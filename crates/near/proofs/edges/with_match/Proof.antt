@@ -1,8 +1,8 @@
 -- Each range is widened, or left as it is.
 use borrow.Author.Needs.{needs}
 use Rattle.near.proofs.NearLaws.{wider-both}
-use Rattle.near.proofs.with_match.Statement.{statement}
-use Rattle.near.proofs.with_match.Tie as tie
+use Rattle.near.proofs.edges.with_match.Statement.{statement}
+use Rattle.near.proofs.edges.with_match.Tie as tie
 
 mul-includes-in : tie.Need-mul-includes-in
 mul-includes-in c = search needs
