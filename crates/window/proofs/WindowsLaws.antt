@@ -20,7 +20,7 @@ use Rattle.model.proofs.EveryLaws.{every-weaker}
 use Rattle.model.proofs.ListsLaws.{length-keep, length-range, range-cons, range-empty}
 use Rattle.model.proofs.RulesLaws.{greatestEnd-bound, window-none}
 use Rattle.strings.specs.Strings.{strsAt, strsOf}
-use Rattle.strings.proofs.JoiningLaws.{strsOf-join}
+use Rattle.joining.proofs.JoiningLaws.{strsOf-join}
 use Rattle.store.specs.declared.Built.the-variants.{Made, TooLong}
 use Rattle.store.specs.Fine.{Fine}
 use Rattle.store.specs.Layout.{excludesIn, headerOf, includesIn, matchLength, matchNumbers, matchesNumbers}

@@ -5,12 +5,12 @@ mod inside;
 
 use inside::count_inside;
 use inside::put_inside;
+use joining::join_span;
+use joining::join_tag;
 use model::MAX_MATCHES;
 use model::MAX_STRINGS;
 use model::Position;
 use store::Built;
-use strings::joining::join_span;
-use strings::joining::join_tag;
 ghost use mathlib.Core.List.{flatMap};
 ghost use mathlib.Core.Path.{_≡_};
 ghost use Prim.Native.Nat.{_+_, _/_, _%_, _≤_};
