@@ -8,9 +8,9 @@ use Rattle.model.specs.Checks.{wrongOperand}
 use Rattle.model.specs.Lists.{first, fromTo}
 use Rattle.model.specs.Section.{size}
 use Rattle.model.proofs.ListsLaws.{first-range-empty, first-range-here, first-range-later}
-use Rattle.selection.proofs.Searching.{isOutside, outside}
-use Rattle.selection.proofs.table.wrong_operand.Statement.{statement}
-use Rattle.selection.proofs.table.wrong_operand.Tie as tie
+use Rattle.codes.proofs.Searching.{isOutside, outside}
+use Rattle.codes.proofs.table.wrong_operand.Statement.{statement}
+use Rattle.codes.proofs.table.wrong_operand.Tie as tie
 
 abbrev Inv-loop : tie.InvT-loop
 Inv-loop selection m c₀ c = (1 ≤ c) × (c ≤ 4294967296) × (first (isOutside selection) (fromTo c (size selection)) ≡ wrongOperand selection)

@@ -9,9 +9,9 @@ use Rattle.model.specs.Checks.{unknownKind}
 use Rattle.model.specs.Lists.{first, fromTo}
 use Rattle.model.specs.Section.{size}
 use Rattle.model.proofs.ListsLaws.{first-range-empty, first-range-here, first-range-later}
-use Rattle.selection.proofs.Searching.{isUnknown}
-use Rattle.selection.proofs.table.unknown_kind.Statement.{statement}
-use Rattle.selection.proofs.table.unknown_kind.Tie as tie
+use Rattle.codes.proofs.Searching.{isUnknown}
+use Rattle.codes.proofs.table.unknown_kind.Statement.{statement}
+use Rattle.codes.proofs.table.unknown_kind.Tie as tie
 
 abbrev Inv-loop : tie.InvT-loop
 Inv-loop selection m c₀ c = (1 ≤ c) × (c ≤ 4294967296) × (first (isUnknown selection) (fromTo c (size selection)) ≡ unknownKind selection)

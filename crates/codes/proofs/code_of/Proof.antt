@@ -1,8 +1,8 @@
 -- Each arm's kind is known, and the definition's chain of tests computes to that arm.
 use borrow.Author.Tests.{ne-eqb}
 use borrow.Author.Needs.{needs}
-use Rattle.selection.proofs.codes.code_of.Statement.{statement}
-use Rattle.selection.proofs.codes.code_of.Tie as tie
+use Rattle.codes.proofs.code_of.Statement.{statement}
+use Rattle.codes.proofs.code_of.Tie as tie
 
 filter-of-requires : tie.Need-filter-of-requires
 filter-of-requires c κs = search needs

@@ -1,7 +1,7 @@
 -- Each arm's kind is known, and the definition's chain of tests computes to that arm.
 use borrow.Author.Tests.{ne-eqb}
-use Rattle.selection.proofs.codes.filter_of.Statement.{statement}
-use Rattle.selection.proofs.codes.filter_of.Tie as tie
+use Rattle.codes.proofs.filter_of.Statement.{statement}
+use Rattle.codes.proofs.filter_of.Tie as tie
 
 returns : tie.Need-returns
 returns c = simp (c .match .keys1)

@@ -1,4 +1,6 @@
-// The codes of a selection: kinds and operands as `Code`.
+// The codes of a selection: kinds and operands as `Code`. Every public function takes any slice.
+pub mod table; // kinds and operands against the table: refusals 4 and 5
+
 use model::Code;
 use model::Filter;
 use model::Pair;

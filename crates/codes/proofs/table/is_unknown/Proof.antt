@@ -2,8 +2,8 @@
 use native.Mathlib.Omega.{arith}
 use mathlib.Core.Path.{sym}
 use borrow.Author.Tests.{le-leb, lt-leb}
-use Rattle.selection.proofs.table.is_unknown.Statement.{statement}
-use Rattle.selection.proofs.table.is_unknown.Tie as tie
+use Rattle.codes.proofs.table.is_unknown.Statement.{statement}
+use Rattle.codes.proofs.table.is_unknown.Tie as tie
 
 returns : tie.Need-returns
 returns c = sym (lt-leb 16 (c .before .args .kind) (omega arith))

@@ -1,8 +1,8 @@
 -- The kind and the operand are the definition's own numbers.
 use mathlib.Core.Path.{_∙_}
 use borrow.Author.Needs.{needs}
-use Rattle.selection.proofs.codes.code_at.Statement.{statement}
-use Rattle.selection.proofs.codes.code_at.Tie as tie
+use Rattle.codes.proofs.code_at.Statement.{statement}
+use Rattle.codes.proofs.code_at.Tie as tie
 
 number-at-requires : tie.Need-number-at-requires
 number-at-requires c κs = search needs

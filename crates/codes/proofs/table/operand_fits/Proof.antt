@@ -2,8 +2,8 @@
 use Rattle.model.specs.Checks.{operandFits}
 use borrow.Author.Tests.{ne-eqb}
 use borrow.Author.Needs.{needs}
-use Rattle.selection.proofs.table.operand_fits.Statement.{statement}
-use Rattle.selection.proofs.table.operand_fits.Tie as tie
+use Rattle.codes.proofs.table.operand_fits.Statement.{statement}
+use Rattle.codes.proofs.table.operand_fits.Tie as tie
 
 is-within-requires : tie.Need-is-within-requires
 is-within-requires c κs = search needs

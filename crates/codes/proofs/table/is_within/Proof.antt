@@ -1,7 +1,7 @@
 -- Both bounds, in the definition's order.
 use borrow.Author.Tests.{le-leb, lt-leb}
-use Rattle.selection.proofs.table.is_within.Statement.{statement}
-use Rattle.selection.proofs.table.is_within.Tie as tie
+use Rattle.codes.proofs.table.is_within.Statement.{statement}
+use Rattle.codes.proofs.table.is_within.Tie as tie
 
 returns : tie.Need-returns
 returns c = simp (lt-leb _ _ (c .if1 .taken))
