@@ -53,7 +53,7 @@ pub fn build(
     let mut c = lo;
     while c < hi {
         c += 1;
-        let code = selection::codes::code_at(selection, c);
+        let code = codes::code_at(selection, c);
         let built = steps::build_code(section, selection, code, c, next, mem, lists);
         let Built::Made { .. } = built else {
             return Part::TooLong { place: c };

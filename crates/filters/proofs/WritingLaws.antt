@@ -17,7 +17,7 @@ use Rattle.model.specs.Section.{Section}
 use Rattle.model.proofs.ListsLaws.{length-keep}
 use Rattle.strings.specs.Strings.{strOf, strsOf, strsAt}
 use Rattle.strings.proofs.StringsLaws.{strsAt-cons, strsAt-none}
-use Rattle.strings.proofs.JoiningLaws.{strsOf-join}
+use Rattle.joining.proofs.JoiningLaws.{strsOf-join}
 use Rattle.store.specs.Each.{OneAt}
 use Rattle.store.specs.Fine.{Fine}
 use Rattle.store.specs.Layout.{Holds, headerOf, includesIn, excludesIn, matchesNumbers}

@@ -1,11 +1,11 @@
 // Whether a filter keeps a match, by its includes, and which of its excludes then stay. Window is never asked for here.
+use distances::in_distance;
+use distances::sorted_within;
 use lent::number_at;
 use model::Filter;
 use model::Position;
 use strings::covering::covered;
 use strings::covering::run_covered;
-use strings::distances::in_distance;
-use strings::distances::sorted_within;
 use strings::ordering::agrees_with_all;
 use strings::ordering::all_agree;
 use units::Unit;

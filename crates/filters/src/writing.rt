@@ -2,9 +2,9 @@
 use super::keeping::joins;
 use super::keeping::keeps;
 use super::keeping::stays;
+use joining::join_span;
+use joining::join_tag;
 use model::Filter;
-use strings::joining::join_span;
-use strings::joining::join_tag;
 ghost use mathlib.Core.List.{[], _∷_};
 ghost use Prim.Native.Nat.{_+_, _≤_};
 ghost use lib.ListN.{length};

@@ -1,4 +1,3 @@
-pub mod Searching
 pub mod Turns
 pub mod Phrases
 pub mod Unders

@@ -1,7 +1,5 @@
-// A selection: its codes, its parts, and its check. Every public function takes any slice.
-pub mod codes; // kinds and operands as codes
+// A selection: its parts, and its check. Every public function takes any slice.
 pub mod parts; // where a part starts, and what stands in it
-pub mod table; // kinds and operands against the table: refusals 4 and 5
 pub mod waiting; // the waiting rule: refusal 6
 
 use model::Checked;
@@ -73,11 +71,11 @@ pub fn check_selection(selection: &[u32]) -> Checked
             place: 0,
         };
     }
-    let unknown = table::unknown_kind(selection);
+    let unknown = codes::table::unknown_kind(selection);
     let Fault::Nowhere = unknown else {
         return refused(4, unknown);
     };
-    let outside = table::wrong_operand(selection);
+    let outside = codes::table::wrong_operand(selection);
     let Fault::Nowhere = outside else {
         return refused(5, outside);
     };

@@ -42,7 +42,7 @@ pub fn part_start(selection: &[u32], place: u32) -> u32
     let mut trees: usize = 1;
     let mut c = place;
     while 0 < c {
-        let code = crate::codes::code_at(selection, c);
+        let code = codes::code_at(selection, c);
         if stops_at(code, trees) {
             return c;
         }
@@ -71,7 +71,7 @@ pub fn has_not(selection: &[u32], place: u32) -> bool
     let before = part_start(selection, place);
     let mut c = place;
     while before < c {
-        let code = crate::codes::code_at(selection, c);
+        let code = codes::code_at(selection, c);
         if is_not(code) {
             return true;
         }
@@ -100,7 +100,7 @@ pub fn rank_at(selection: &[u32], place: u32) -> u32
     let mut rank: u32 = 0;
     let mut c: u32 = 0;
     while c < place {
-        let code = crate::codes::code_at(selection, c + 1);
+        let code = codes::code_at(selection, c + 1);
         rank += count_phrase(code);
         c += 1;
     }

@@ -75,7 +75,7 @@ pub fn wrong_shape(selection: &[u32]) -> Fault
     let mut words: usize = 0;
     let mut c: u32 = 0;
     while c < m {
-        let code = crate::codes::code_at(selection, c + 1);
+        let code = codes::code_at(selection, c + 1);
         if !code_fits(code, lists, words) {
             return Fault::At(c + 1);
         }

@@ -1,7 +1,4 @@
 -- Loops over the strings of a part ..
 pub mod StringsLaws
--- .. and the laws behind src/.
+-- .. and the laws behind src/covering.rt.
 pub mod CoveringLaws
-pub mod JoiningLaws
-pub mod DistancesLaws
-pub mod SortingLaws

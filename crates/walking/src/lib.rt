@@ -39,7 +39,7 @@ fn count_codes(selection: &[u32], lo: u32, hi: u32) -> u32
     let mut c = lo;
     while c < hi {
         c += 1;
-        let code = selection::codes::code_at(selection, c);
+        let code = codes::code_at(selection, c);
         n += count_code(code);
     }
     n
@@ -75,7 +75,7 @@ pub fn walk(section: &[u32], selection: &[u32], work: &mut [u32], hi: u32) -> Qu
     requires { ⌜ Walkable (now section) (now selection) (now work) hi ⌝ }
     ensures { λ r. ⌜ ((w : Walkable (now (section .entry)) (now (selection .entry)) (now (work .entry)) hi) → r ≡ walkOf (sectionOf (now (section .entry))) (w .part .tree)) ⌝ }
 {
-    let code = selection::codes::code_at(selection, hi);
+    let code = codes::code_at(selection, hi);
     match code {
         // no part ends in a word
         Code::Word(_) => Quick::Refused {

@@ -14,7 +14,7 @@ use Rattle.model.specs.Rules.{greatestEnd, join, leastStart, window, windowEnds
 use Rattle.model.proofs.EveryLaws.{every-weaker}
 use Rattle.model.proofs.RulesLaws.{greatestEnd-bound, window-none}
 use Rattle.strings.specs.Strings.{strsAt, strsOf}
-use Rattle.strings.proofs.JoiningLaws.{strsOf-join}
+use Rattle.joining.proofs.JoiningLaws.{strsOf-join}
 use Rattle.store.specs.Fine.{Fine}
 use Rattle.store.specs.Layout.{includesIn}
 use Rattle.store.specs.Stream.{MatchHolds}

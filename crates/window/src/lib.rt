@@ -4,10 +4,10 @@
 mod inside; // the excludes inside a window
 mod sizes; // how many matches and strings the windows have
 
+use joining::join_span;
+use joining::join_tag;
 use model::Position;
 use store::Built;
-use strings::joining::join_span;
-use strings::joining::join_tag;
 ghost use mathlib.Core.List.{flatMap};
 ghost use lib.ListN.{length};
 ghost use Rattle.model.specs.Rules.{window, windowTo};

@@ -1,9 +1,9 @@
 // How many matches and strings the windows of a list have, counted before any is written.
+use joining::join_span;
+use joining::lesser;
 use model::MAX_MATCHES;
 use model::MAX_STRINGS;
 use store::Built;
-use strings::joining::join_span;
-use strings::joining::lesser;
 ghost use mathlib.Core.List.{flatMap, _++_};
 ghost use mathlib.Core.Path.{_≡_};
 ghost use Prim.Native.Nat.{_+_, _*_, _/_, _%_, _≤_, min, max};

@@ -16,7 +16,7 @@ use borrow.Fn.PlainCycle.{Measures, is, falls, and}
 use Rattle.walking.proofs.walk.Reads as walk
 use Rattle.walking.proofs.walk.Kinds as walk-kinds
 use Rattle.walking.proofs.+walk.Lts-walk as walk-lts
-use Rattle.selection.proofs.codes.code_at.Reads as code-at-reads
+use Rattle.codes.proofs.code_at.Reads as code-at-reads
 use Rattle.selection.proofs.parts.part_start.Reads as part-start-reads
 use Rattle.selection.proofs.parts.phrase_words.Reads as phrase-words-reads
 use Rattle.walking.proofs.build_part.Reads as build-part-reads

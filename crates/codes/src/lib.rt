@@ -1,0 +1,54 @@
+// The codes of a selection: kinds and operands as `Code`. Every public function takes any slice.
+pub mod table; // kinds and operands against the table: refusals 4 and 5
+
+use model::Code;
+use model::Filter;
+use model::Pair;
+use model::RADIX;
+ghost use mathlib.Core.Path.{_≡_};
+ghost use Rattle.model.specs.Selection.{codeAt, codeOf, filterOf};
+
+// "6 to 15 filter"
+fn filter_of(kind: u32, operand: u32) -> Filter
+    ensures { λ r. ⌜ r ≡ filterOf kind operand ⌝ }
+{
+    match kind {
+        6 => Filter::Ordered,
+        7 => Filter::Window(operand),
+        8 => Filter::Distance {
+            least: operand / RADIX,
+            most: operand % RADIX,
+        },
+        9 => Filter::SameSentence,
+        10 => Filter::SameParagraph,
+        11 => Filter::DifferentSentence,
+        12 => Filter::DifferentParagraph,
+        13 => Filter::AtStart,
+        14 => Filter::AtEnd,
+        _ => Filter::EntireContent,
+    }
+}
+
+// "Kinds 0 and 1 are words, 2 to 5 combine, 6 to 15 filter"
+fn code_of(kind: u32, operand: u32) -> Code
+    ensures { λ r. ⌜ r ≡ codeOf kind operand ⌝ }
+{
+    match kind {
+        0 => Code::Word(operand),
+        1 => Code::Phrase(operand),
+        2 => Code::Combine(Pair::Or),
+        3 => Code::Combine(Pair::And),
+        4 => Code::Not,
+        5 => Code::Combine(Pair::MildNot),
+        _ => Code::Filter(filter_of(kind, operand)),
+    }
+}
+
+// The code at a place, counted from 1.
+pub fn code_at(selection: &[u32], place: u32) -> Code
+    ensures { λ r. ⌜ r ≡ codeAt (now (selection .entry)) place ⌝ }
+{
+    let kind = lent::number_at(selection, place as usize);
+    let operand = lent::second_at(selection, place);
+    code_of(kind, operand)
+}

@@ -1,0 +1,2 @@
+pub mod DistancesLaws
+pub mod SortingLaws

@@ -1,0 +1,43 @@
+-- The tag of the first string's query position and the join's mark. A part that holds a string has two numbers.
+use native.Mathlib.Omega.{arith}
+use mathlib.Core.List.{[], _∷_}
+use mathlib.Core.Path.{ap, sym, _∙_}
+use borrow.Author.Needs.{needs}
+use Rattle.joining.proofs.JoiningLaws.{tagOf-join}
+use Rattle.strings.proofs.StringsLaws.{some-string, first-string}
+use Rattle.joining.proofs.join_tag.Statement.{statement}
+use Rattle.joining.proofs.join_tag.Tie as tie
+
+returns : tie.Need-returns
+returns c s ss e = absurd (some-string (c .before .before .args .strs .now) e (omega arith))
+
+shared-slice-read-query-of : tie.Need-shared-slice-read-query-of
+shared-slice-read-query-of c = search needs
+
+query-of-requires : tie.Need-query-of-requires
+query-of-requires c κs = search needs
+
+joins-contiguous-requires : tie.Need-joins-contiguous-requires
+joins-contiguous-requires c κs = search needs
+
+tag-of-requires : tie.Need-tag-of-requires
+tag-of-requires c κs = omega (arith, c .before .before .shared-slice-known2 .given 1)
+
+returns-2 : tie.Need-returns-2
+returns-2 c s ss e =
+    let j = c .before in
+    let q = j .before in
+    let l = q .before .before .before .before .args .strs .now in
+    let query = q .query-of .ensures ∙ first-string l e (λ t ts. t .query) (omega arith) in
+    tagOf-join s ss _ _ query (j .joins-contiguous .ensures s ss e) ∙ ap (λ r. r ∷ []) (sym (c .tag-of .ensures))
+
+pub join-tag-spec : {M : Type 1} → statement M
+join-tag-spec =
+    tie.close
+    (tie.spec
+    returns
+    shared-slice-read-query-of
+    query-of-requires
+    joins-contiguous-requires
+    tag-of-requires
+    returns-2)
