@@ -39,7 +39,8 @@ fn memory(name: &[u8], work: usize, buffer: usize) {
     report(name, checks::check_listing(&empty, &word, work, buffer));
 }
 
-fn sections() {
+// Refusal 1.
+fn section_sizes() {
     let none = [0u32];
     section(b"no numbers", &none[..0]);
     section(b"no tokens", &none);
@@ -51,6 +52,10 @@ fn sections() {
     section(b"4,097 tokens", &long);
     long[0] = 4294967295;
     section(b"a size of 4,294,967,295", &long);
+}
+
+// Refusal 2.
+fn section_units() {
     section(b"sentences 1 1 2", &[3, 7, 7, 7, 1, 1, 2]);
     section(b"sentences 1 2 1", &[3, 7, 7, 7, 1, 2, 1]);
     section(b"sentences 0 0 1", &[3, 7, 7, 7, 0, 0, 1]);
@@ -97,7 +102,8 @@ fn ors(name: &[u8], k: usize, codes: &mut [u32])
     selection(name, &codes[..end]);
 }
 
-fn selections() {
+// Refusal 3, and the most lists that may wait.
+fn selection_sizes() {
     let none = [0u32];
     selection(b"no numbers", &none[..0]);
     selection(b"no codes", &none);
@@ -107,6 +113,10 @@ fn selections() {
     ors(b"eight lists", 8, &mut codes);
     ors(b"nine lists", 9, &mut codes);
     selection(b"a size of 4,294,967,295", &[4294967295, 0, 1, 10, 1]);
+}
+
+// Refusals 4 and 5.
+fn selection_table() {
     selection(b"kind 15", &[3, 0, 1, 15, 10, 1, 0]);
     selection(b"kind 16", &[3, 0, 1, 16, 10, 1, 0]);
     selection(b"window of 4,096", &[3, 0, 1, 7, 10, 1, 4096]);
@@ -114,6 +124,10 @@ fn selections() {
     selection(b"distance 3 to 3", &[3, 0, 1, 8, 10, 1, 196611]);
     selection(b"distance 3 to 2", &[3, 0, 1, 8, 10, 1, 196610]);
     selection(b"operand 1 at code 1, kind 22 at code 2", &[2, 2, 22, 1, 0]);
+}
+
+// Refusals 6 and 7.
+fn selection_shapes() {
     selection(b"a phrase of one word too many", &[2, 0, 1, 10, 2]);
     selection(b"a list too many", &[4, 0, 1, 0, 1, 10, 1, 20, 1]);
     selection(
@@ -128,9 +142,12 @@ fn selections() {
 
 fn main() {
     io::write_all(1, b"sections\n");
-    sections();
+    section_sizes();
+    section_units();
     io::write_all(1, b"selections\n");
-    selections();
+    selection_sizes();
+    selection_table();
+    selection_shapes();
     io::write_all(1, b"memory\n");
     memory(b"12,800 and 1,282", 12800, 1282);
     memory(b"12,799 and 1,282", 12799, 1282);
