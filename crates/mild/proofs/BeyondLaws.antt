@@ -20,7 +20,7 @@ use Rattle.store.proofs.EachLaws.{flatMap-small}
 use Rattle.store.proofs.Rows.{keep-flatMap}
 use Rattle.store.proofs.Slots.{slot-small}
 use Rattle.mild.specs.declared.beyond.Found.the-variants.{At, Nothing}
-use Rattle.near.specs.Reaching.{beyond}
+use Rattle.candidates.specs.Reaching.{beyond}
 use Rattle.mild.specs.Beyond.{mildNot, FoundBeyond}
 
 -- ---- mildNot

@@ -23,17 +23,17 @@ use Rattle.store.proofs.EachLaws.{Counting, item, count-one, count-finish}
 use Rattle.store.proofs.Slots.{slot-below, closed, matches-held}
 use Rattle.mild.specs.declared.beyond.Found.{Found}
 use Rattle.mild.specs.declared.beyond.Found.the-variants.{At, Nothing}
-use Rattle.near.specs.declared.edges.Edges.{Edges}
-use Rattle.near.specs.declared.Near.{Near}
+use Rattle.candidates.specs.declared.edges.Edges.{Edges}
+use Rattle.candidates.specs.declared.Candidates.{Candidates}
 use Rattle.mild.specs.Beyond.{coverBoth, mildNot, FoundBeyond}
-use Rattle.near.specs.Edges.{edgesOf, Has}
-use Rattle.near.specs.Near.{NearAt, NearIs}
+use Rattle.candidates.specs.Edges.{edgesOf, Contains}
+use Rattle.candidates.specs.Candidates.{CandidatesAt, CandidatesAre}
 use Rattle.mild.specs.Reach.{ReachAt, ReachedIs, SearchAt}
-use Rattle.near.specs.Rest.{fromFirst, Rest}
-use Rattle.near.proofs.ReachingLaws.{beyond-at}
+use Rattle.candidates.specs.Rest.{fromFirst, Rest}
+use Rattle.candidates.proofs.ReachingLaws.{beyond-at}
 use Rattle.mild.proofs.BeyondLaws.{mildNot-flatMap, mildNot-small, one-at-most}
-use Rattle.near.proofs.NearLaws.{end-covered, start-covered, uncovered-beyond}
-use Rattle.near.proofs.RestLaws.{all-fromFirst, rest-next, rest-none}
+use Rattle.candidates.proofs.CandidatesLaws.{end-covered, start-covered, uncovered-beyond}
+use Rattle.candidates.proofs.RestLaws.{all-fromFirst, rest-next, rest-none}
 
 -- ---- the walk over a part of R
 
@@ -103,29 +103,29 @@ no-strings : {A : Type 0} (xs : List A) → length xs ≡ 0 → xs ≡ []
 no-strings [] e = refl
 no-strings (x ∷ xs) e = absurd (omega arith)
 
-module _ {mem : List ℕ} {p n r : ℕ} {known : Near} (w : ReachAt mem p n r known) where
-  pub without-includes : {m : ℕ} {b : Bool} → m ≡ includesIn (getD mem p 0) → m ≡ 0 → b ≡ eqb (getD mem r 0) 0 → ReachedIs (w .item) (w .rights) mem r (record { beyond = b; near = known })
+module _ {mem : List ℕ} {p n r : ℕ} {known : Candidates} (w : ReachAt mem p n r known) where
+  pub without-includes : {m : ℕ} {b : Bool} → m ≡ includesIn (getD mem p 0) → m ≡ 0 → b ≡ eqb (getD mem r 0) 0 → ReachedIs (w .item) (w .rights) mem r (record { beyond = b; candidates = known })
   without-includes e f g =
       let none = no-strings (w .item .includes) (omega (arith, includes-held (w .held))) in
-      record { beyond = g ∙ ap (λ n. eqb n 0) (matches-held (w .slot)) ∙ none-beyond (w .item) none (w .rights); near = w .near }
+      record { beyond = g ∙ ap (λ n. eqb n 0) (matches-held (w .slot)) ∙ none-beyond (w .item) none (w .rights); candidates = w .candidates }
 
-  abbrev pub near-at : 0 < includesIn (getD mem p 0) → NearAt mem p n r known
-  near-at some = record { rights = w .rights; some = record { header = w .held .header; some = some }; ahead = w .ahead; slot = w .slot; near = w .near }
+  abbrev pub candidates-at : 0 < includesIn (getD mem p 0) → CandidatesAt mem p n r known
+  candidates-at some = record { rights = w .rights; some = record { header = w .held .header; some = some }; ahead = w .ahead; slot = w .slot; candidates = w .candidates }
 
-  module _ (some : 0 < includesIn (getD mem p 0)) {near : Near} (g : NearIs (w .rights) mem r near) where
-    abbrev pub search-at : SearchAt mem p (near .from) (near .end)
+  module _ (some : 0 < includesIn (getD mem p 0)) {candidates : Candidates} (g : CandidatesAre (w .rights) mem r candidates) where
+    abbrev pub search-at : SearchAt mem p (candidates .from) (candidates .end)
     search-at = record { item = w .item; held = w .held; some = some; todo = g .part; rest = g .rest }
 
-    pub by-search : {b : Bool} → Has (near .ranges) (edgesOf mem p) → b ≡ allOf (reachesBeyond (w .item)) (g .part) → ReachedIs (w .item) (w .rights) mem r (record { beyond = b; near = near })
+    pub by-search : {b : Bool} → Contains (candidates .ranges) (edgesOf mem p) → b ≡ allOf (reachesBeyond (w .item)) (g .part) → ReachedIs (w .item) (w .rights) mem r (record { beyond = b; candidates = candidates })
     by-search h e =
-        record { beyond = e ∙ g .same _ _ (h .0) (h .1) (w .item) (start-covered (w .held) some) (end-covered (w .held) some); near = g }
+        record { beyond = e ∙ g .same _ _ (h .0) (h .1) (w .item) (start-covered (w .held) some) (end-covered (w .held) some); candidates = g }
 
 -- ---- a match of L in hand
 
 module _ (rights : List Match) {lefts : List Match} {mem₀ mem : List ℕ} {n at p q i matches : ℕ} (g : Counting (mildNot rights) lefts mem₀ n at mem p q i matches) (h : i < n) where
   -- R lies below what is written, so it lies there still
-  abbrev pub reach-at : {r k : ℕ} {near : Near} → SlotHolds mem₀ r rights → r + slotSize ≤ at → NearIs rights mem r near → k ≡ n - i → ReachAt mem p k r near
-  reach-at s u near e =
+  abbrev pub reach-at : {r k : ℕ} {candidates : Candidates} → SlotHolds mem₀ r rights → r + slotSize ≤ at → CandidatesAre rights mem r candidates → k ≡ n - i → ReachAt mem p k r candidates
+  reach-at s u candidates e =
       let o = item (g .going) h in
       let l = g .going .left in
       record {
@@ -134,7 +134,7 @@ module _ (rights : List Match) {lefts : List Match} {mem₀ mem : List ℕ} {n a
         held = o .one .held;
         ahead = record { list = g .going .todo; stream = record { holds = l .holds; count = omega (arith, l .count, e); few = l .few; fine = l .fine } };
         slot = slot-below (g .going .rows .put) u s;
-        near = near;
+        candidates = candidates;
       }
 
   module _ {b : Bool} (e : b ≡ allOf (reachesBeyond (item (g .going) h .item)) rights) where

@@ -6,7 +6,7 @@ use mathlib.Core.Path.{_≡_}
 use Rattle.model.specs.Lists.{allOf}
 use Rattle.model.specs.Matches.{Str, Match}
 use Rattle.model.specs.Rules.{covered, keptIf, reachesBeyond}
-use Rattle.near.specs.Reaching.{beyond}
+use Rattle.candidates.specs.Reaching.{beyond}
 use Rattle.mild.specs.declared.beyond.Found.{Found}
 use Rattle.mild.specs.declared.beyond.Found.the-variants.{At, Nothing}
 

@@ -6,9 +6,9 @@ use lib.ListN.{getD}
 use Rattle.model.specs.Lists.{allOf}
 use Rattle.model.specs.Matches.{Match}
 use Rattle.model.specs.Rules.{reachesBeyond}
-use Rattle.near.specs.declared.Near.{Near}
-use Rattle.near.specs.Near.{NearIs}
-use Rattle.near.specs.Rest.{Rest}
+use Rattle.candidates.specs.declared.Candidates.{Candidates}
+use Rattle.candidates.specs.Candidates.{CandidatesAre}
+use Rattle.candidates.specs.Rest.{Rest}
 use Rattle.store.specs.Layout.{includesIn}
 use Rattle.store.specs.Slot.{SlotHolds}
 use Rattle.store.specs.Stream.{MatchHolds, StreamAt}
@@ -23,15 +23,15 @@ pub record SearchAt (mem : List ℕ) (p from end : ℕ) : Type 0 where
   pub rest : Rest todo mem from end
 
 -- a match at p, the first of n, R, and a part of it
-pub record ReachAt (mem : List ℕ) (p n r : ℕ) (known : Near) : Type 0 where
+pub record ReachAt (mem : List ℕ) (p n r : ℕ) (known : Candidates) : Type 0 where
   pub item : Match
   pub rights : List Match
   pub held : MatchHolds mem p item
   pub ahead : StreamAt mem p n
   pub slot : SlotHolds mem r rights
-  pub near : NearIs rights mem r known
+  pub candidates : CandidatesAre rights mem r known
 
 -- what is said of a match l and of R
 pub record ReachedIs (l : Match) (rights : List Match) (mem : List ℕ) (r : ℕ) (reached : Reached) : Type 0 where
   pub beyond : reached .beyond ≡ allOf (reachesBeyond l) rights
-  pub near : NearIs rights mem r (reached .near)
+  pub candidates : CandidatesAre rights mem r (reached .candidates)

@@ -2,9 +2,9 @@
 use super::beyond::Found;
 use super::beyond::find_beyond;
 use super::beyond::next_covering;
-use near::Near;
-use near::edges_of;
-use near::near_to;
+use candidates::Candidates;
+use candidates::candidates_for;
+use candidates::edges_of;
 ghost use mathlib.Core.Path.{_≡_};
 ghost use Rattle.model.specs.Lists.{allOf};
 ghost use Rattle.model.specs.Rules.{reachesBeyond};
@@ -15,7 +15,7 @@ pub struct Reached {
     // does it reach beyond every match of R?
     pub beyond: bool,
     // what is known of R for the next match of L
-    pub near: Near,
+    pub candidates: Candidates,
 }
 
 // "for every match of R", of the match of L at p and the matches of R from `from` up to `end`. The edges of the one, then the last two positions found in its
@@ -44,17 +44,17 @@ fn search(mem: &[u32], p: usize, from: usize, end: usize) -> bool
 }
 
 // "for every match of R", of the match of L at p, of n from there on, and R in the slot at r.
-pub fn reach(mem: &[u32], p: usize, n: usize, r: usize, known: Near) -> Reached
+pub fn reach(mem: &[u32], p: usize, n: usize, r: usize, known: Candidates) -> Reached
     requires { ⌜ ReachAt (now mem) p n r known ⌝ }
     ensures { λ b. ⌜ ((w : ReachAt (now (mem .entry)) p n r known) → ReachedIs (w .item) (w .rights) (now (mem .entry)) r b) ⌝ }
 {
     if store::includes_in(mem[p]) == 0 {
         return Reached {
             beyond: mem[r] == 0,
-            near: known,
+            candidates: known,
         };
     }
-    let near = near_to(mem, p, n, r, known);
-    let beyond = search(mem, p, near.from, near.end);
-    Reached { beyond, near }
+    let candidates = candidates_for(mem, p, n, r, known);
+    let beyond = search(mem, p, candidates.from, candidates.end);
+    Reached { beyond, candidates }
 }

@@ -10,7 +10,7 @@ ghost use Rattle.model.specs.Rules.{covered, covers};
 ghost use Rattle.store.specs.Fine.{Fine};
 ghost use Rattle.strings.specs.Strings.{strOf, strsAt};
 ghost use Rattle.mild.specs.Beyond.{coverBoth, FoundBeyond};
-ghost use Rattle.near.specs.Rest.{fromFirst, Passing, Rest, RestAt};
+ghost use Rattle.candidates.specs.Rest.{fromFirst, Passing, Rest, RestAt};
 
 // A position that includes of a left match cover, and those of a right match don't.
 pub enum Found {

@@ -3,7 +3,7 @@ mod against;
 mod beyond;
 
 use against::reach;
-use near::all_of;
+use candidates::all_of;
 use store::Built;
 ghost use lib.ListN.{length};
 ghost use Rattle.model.specs.Rules.{keptIf, mildNotList};
@@ -43,14 +43,14 @@ pub fn mild_not_list(mem: &mut [u32], l: usize, r: usize, at: usize) -> Built
     let mut p = l + 2;
     let mut q = at + 2;
     let mut matches = 0;
-    let mut near = all_of(mem, r);
+    let mut candidates = all_of(mem, r);
     let mut i = 0;
     while i < n {
         let length = store::match_length(mem[p]);
-        let reached = reach(mem, p, n - i, r, near);
+        let reached = reach(mem, p, n - i, r, candidates);
         let next = put_kept(mem, p, q, reached.beyond);
         matches = store::count_one(matches, q, next);
-        near = reached.near;
+        candidates = reached.candidates;
         q = next;
         p += length;
         i += 1;

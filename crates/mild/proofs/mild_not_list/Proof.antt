@@ -2,10 +2,10 @@
 -- Measure: the matches left. R lies below what is written, so each turn finds it as it was; no list comes out longer than L.
 use Prim.Native.Nat.{_+_, _-_, _≤_}
 use Rattle.mild.proofs.BeyondLaws.{mildNot-small}
-use Rattle.near.proofs.NearLaws.{near-below}
+use Rattle.candidates.proofs.CandidatesLaws.{candidates-below}
 use Rattle.mild.proofs.Seeking.{reach-at, kept-at, keep-next, mildNot-closed}
 use Rattle.mild.specs.Beyond.{mildNot}
-use Rattle.near.specs.Near.{NearIs}
+use Rattle.candidates.specs.Candidates.{CandidatesAre}
 use Rattle.mild.specs.Reach.{ReachAt}
 use Rattle.store.proofs.EachLaws.{Counting, slot-each, count-start, count-most, count-finish}
 use Rattle.store.proofs.Slots.{closing}
@@ -18,17 +18,17 @@ use Rattle.mild.proofs.mild_not_list.Statement.{statement}
 use Rattle.mild.proofs.mild_not_list.Tie as tie
 
 abbrev Inv-loop : tie.InvT-loop
-Inv-loop mem₀ l r at n p₀ q₀ matches₀ near₀ i₀ mem p q matches near i =
+Inv-loop mem₀ l r at n p₀ q₀ matches₀ candidates₀ i₀ mem p q matches candidates i =
     (i ≤ n) × (length mem ≡ length mem₀)
-    × ((u : SlotAt mem₀ l) → (w : SlotAt mem₀ r) → Counting (mildNot (w .list)) (u .list) mem₀ n (at + 2) mem p q i matches × NearIs (w .list) mem r near)
+    × ((u : SlotAt mem₀ l) → (w : SlotAt mem₀ r) → Counting (mildNot (w .list)) (u .list) mem₀ n (at + 2) mem p q i matches × CandidatesAre (w .list) mem r candidates)
 
 abbrev μ-loop : tie.MeasureT-loop
-μ-loop mem₀ l r at n p₀ q₀ matches₀ near₀ i₀ mem p q matches near i = n - i
+μ-loop mem₀ l r at n p₀ q₀ matches₀ candidates₀ i₀ mem p q matches candidates i = n - i
 
 -- the match of L in hand, with what is known of R
 abbrev one : (c : tie.In-loop Inv-loop μ-loop)
     → ReachAt (c .before .loop .mem) (c .before .loop .p) (getD (c .before .before .before .before .before .before .args .mem .now) (c .before .before .before .before .before .before .args .l) 0 - c .before .loop .i)
-    (c .before .before .before .before .before .before .args .r) (c .before .loop .near)
+    (c .before .before .before .before .before .before .args .r) (c .before .loop .candidates)
 one c =
     let r = c .before .before .before .before .before .before .pre in
     let g = c .before .loop .inv .2 (r .0) (r .1 .0) in
@@ -115,7 +115,7 @@ loop-again c =
           let reached = h .reach .ensures (reach-at (w .list) (g .0) (t .loop-test .taken) (w .slot) (omega arith) (g .1) refl) in
           let put = v .put-kept .ensures (kept-at (w .list) (g .0) (t .loop-test .taken) (reached .beyond)) in (
             keep-next (w .list) (g .0) (t .loop-test .taken) (reached .beyond) put (k .match-length .ensures) (n .count-one .ensures),
-            near-below put (omega (arith, low, g .0 .going .rows .put .next-is)) (reached .near),
+            candidates-below put (omega (arith, low, g .0 .going .rows .put .next-is)) (reached .candidates),
           ),
     )
 

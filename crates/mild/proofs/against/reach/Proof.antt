@@ -1,5 +1,5 @@
 -- Without includes it reaches beyond none. Else the part of R decides as all of R does.
-use Rattle.mild.proofs.Seeking.{without-includes, near-at, search-at, by-search}
+use Rattle.mild.proofs.Seeking.{without-includes, candidates-at, search-at, by-search}
 use borrow.Author.Needs.{needs}
 use mathlib.Core.Path.{refl}
 use Prim.Native.Nat.{_<_}
@@ -27,17 +27,17 @@ shared-slice-read-t15 c = search needs
 returns : tie.Need-returns
 returns c w = without-includes w (c .before .before .includes-in .ensures) (c .before .if1 .taken) refl
 
-near-to-requires : tie.Need-near-to-requires
-near-to-requires c κs =
+candidates-for-requires : tie.Need-candidates-for-requires
+candidates-for-requires c κs =
     let i = c .before in
     let w = i .before .before .before .pre in
-    near-at w (omega (arith, i .includes-in .ensures, c .if1 .left))
+    candidates-at w (omega (arith, i .includes-in .ensures, c .if1 .left))
 
 search-requires : tie.Need-search-requires
 search-requires c κs =
     let i = c .before .before in
     let w = i .before .before .before .pre in
-    search-at w (omega (arith, i .includes-in .ensures, c .before .if1 .left)) (c .near-to .ensures .0 (near-at w (omega (arith, i .includes-in .ensures, c .before .if1 .left))))
+    search-at w (omega (arith, i .includes-in .ensures, c .before .if1 .left)) (c .candidates-for .ensures .0 (candidates-at w (omega (arith, i .includes-in .ensures, c .before .if1 .left))))
 
 returns-2 : tie.Need-returns-2
 returns-2 c w =
@@ -45,8 +45,8 @@ returns-2 c w =
     let i = d .before .before in
     let a = i .before .before .before .args in
     let some : 0 < includesIn (getD (a .mem .now) (a .p) 0) = omega (arith, i .includes-in .ensures, d .before .if1 .left) in
-    let near = d .near-to .ensures .0 (near-at w some) in
-    by-search w some near (d .near-to .ensures .1) (c .search .ensures (search-at w some near))
+    let candidates = d .candidates-for .ensures .0 (candidates-at w some) in
+    by-search w some candidates (d .candidates-for .ensures .1) (c .search .ensures (search-at w some candidates))
 
 pub reach-spec : {M : Type 1} → statement M
 reach-spec =
@@ -58,6 +58,6 @@ reach-spec =
     mul-t13
     shared-slice-read-t15
     returns
-    near-to-requires
+    candidates-for-requires
     search-requires
     returns-2)

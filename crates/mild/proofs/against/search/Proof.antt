@@ -1,6 +1,6 @@
 -- Invariant: against the matches from `at` on the match of L decides as against all, and its includes cover the last position found. Measure: the numbers left.
 use Prim.Native.Nat.{_-_}
-use Rattle.near.proofs.RestLaws.{rest-next, rest-after}
+use Rattle.candidates.proofs.RestLaws.{rest-next, rest-after}
 use Rattle.mild.proofs.Seeking.{Seeking, seek, stopped, passed, sought}
 use Rattle.mild.specs.Reach.{SearchAt}
 use Rattle.store.specs.Stream.{Header}

@@ -4,8 +4,8 @@ use Prim.Native.Nat.{_+_, _-_, _≤_}
 use native.Mathlib.Omega.{arith}
 use Rattle.store.specs.Stream.{Header}
 use Rattle.mild.specs.Beyond.{coverBoth}
-use Rattle.near.specs.Rest.{Passing, RestAt}
-use Rattle.near.proofs.RestLaws.{rest-next, rest-fine, passing-start, passing-here, passing-later, passing-none, passing-trans, passing-rest}
+use Rattle.candidates.specs.Rest.{Passing, RestAt}
+use Rattle.candidates.proofs.RestLaws.{rest-next, rest-fine, passing-start, passing-here, passing-later, passing-none, passing-trans, passing-rest}
 use borrow.Author.Needs.{needs}
 use Rattle.mild.proofs.beyond.next_covering.Statement.{statement}
 use Rattle.mild.proofs.beyond.next_covering.Tie as tie

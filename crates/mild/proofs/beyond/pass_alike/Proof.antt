@@ -3,8 +3,8 @@ use Prim.Native.Nat.{_-_, _≤_}
 use native.Mathlib.Omega.{arith}
 use Rattle.store.specs.Stream.{Header}
 use Rattle.mild.specs.Beyond.{coverBoth}
-use Rattle.near.specs.Rest.{Passing, RestAt}
-use Rattle.near.proofs.RestLaws.{rest-next, rest-fine, passing-start, passing-later}
+use Rattle.candidates.specs.Rest.{Passing, RestAt}
+use Rattle.candidates.proofs.RestLaws.{rest-next, rest-fine, passing-start, passing-later}
 use borrow.Author.Needs.{needs}
 use Rattle.mild.proofs.beyond.pass_alike.Statement.{statement}
 use Rattle.mild.proofs.beyond.pass_alike.Tie as tie

@@ -1,0 +1,3 @@
+pub mod CandidatesLaws
+pub mod ReachingLaws
+pub mod RestLaws

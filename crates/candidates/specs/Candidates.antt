@@ -1,0 +1,30 @@
+-- The part of R that can cover a match of L.
+use Prim.Native.Nat.{ℕ, _+_, _≤_}
+use mathlib.Core.Bool.{true}
+use mathlib.Core.List.{List}
+use mathlib.Core.Path.{_≡_}
+use Rattle.model.specs.Lists.{allOf}
+use Rattle.model.specs.Matches.{Match}
+use Rattle.model.specs.Rules.{covered, reachesBeyond}
+use Rattle.store.specs.Layout.{slotSize}
+use Rattle.store.specs.Slot.{SlotHolds}
+use Rattle.store.specs.Stream.{StreamAt}
+use Rattle.candidates.specs.Edges.{SomeAt, Within}
+use Rattle.candidates.specs.Rest.{Rest}
+use Rattle.candidates.specs.declared.Candidates.{Candidates}
+
+-- against the part, a match of L that covers a position of each range decides as against all of R, the list in the slot at r
+pub record CandidatesAre (rights : List Match) (mem : List ℕ) (r : ℕ) (candidates : Candidates) : Type 0 where
+  pub part : List Match
+  pub rest : Rest part mem (candidates .from) (candidates .end)
+  pub within : candidates .end ≤ r + slotSize
+  pub same : (p q : ℕ) → Within (candidates .ranges .start) p → Within (candidates .ranges .end) q → (l : Match) → covered (l .includes) p ≡ true → covered (l .includes) q ≡ true
+      → allOf (reachesBeyond l) part ≡ allOf (reachesBeyond l) rights
+
+-- a match with includes at p, the first of n, and a part of R
+pub record CandidatesAt (mem : List ℕ) (p n r : ℕ) (known : Candidates) : Type 0 where
+  pub rights : List Match
+  pub some : SomeAt mem p
+  pub ahead : StreamAt mem p n
+  pub slot : SlotHolds mem r rights
+  pub candidates : CandidatesAre rights mem r known

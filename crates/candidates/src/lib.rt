@@ -1,0 +1,56 @@
+// Which matches of R can cover all positions of a match of L: only those that cover its edges, the start of its first include and the end of its last one.
+// The edges of matches of L that follow each other lie close together, so that one part of R serves many of them.
+mod edges; // of the matches of L
+mod touching; // the matches of R that have positions in their ranges
+
+pub use edges::Edges;
+use edges::Range;
+use edges::Ranges;
+use edges::contain;
+pub use edges::edges_of;
+use edges::ranges_ahead;
+use touching::behind_touching;
+use touching::first_touching;
+ghost use Rattle.store.specs.Slot.{SlotAt};
+ghost use Rattle.candidates.specs.Edges.{edgesOf, Contains};
+ghost use Rattle.candidates.specs.Candidates.{CandidatesAt, CandidatesAre};
+
+// A part of R, the matches from `from` up to `end`: no other one covers a position of both ranges.
+pub struct Candidates {
+    pub ranges: Ranges,
+    pub from: usize,
+    pub end: usize,
+}
+
+// All of R, before any match of L is looked at.
+pub fn all_of(mem: &[u32], r: usize) -> Candidates
+    requires { ⌜ SlotAt (now mem) r ⌝ }
+    ensures { λ b. ⌜ ((w : SlotAt (now (mem .entry)) r) → CandidatesAre (w .list) (now (mem .entry)) r b) ⌝ }
+{
+    let none = Range { lo: 0, hi: 0 };
+    Candidates {
+        ranges: Ranges {
+            start: none,
+            end: none,
+        },
+        from: r + 2,
+        end: r + store::slot_length(mem, r),
+    }
+}
+
+// The part of R for the match of L at p, of n from there on: the one that is known, where its ranges have the edges of this match, or a new one.
+pub fn candidates_for(mem: &[u32], p: usize, n: usize, r: usize, known: Candidates) -> Candidates
+    requires { ⌜ CandidatesAt (now mem) p n r known ⌝ }
+    ensures { λ b. ⌜ ((w : CandidatesAt (now (mem .entry)) p n r known) → CandidatesAre (w .rights) (now (mem .entry)) r b) ⌝ }
+    ensures { λ b. ⌜ Contains (b .ranges) (edgesOf (now (mem .entry)) p) ⌝ }
+{
+    let edges = edges_of(mem, p);
+    if contain(known.ranges, edges) {
+        return known;
+    }
+    let ranges = ranges_ahead(mem, p, n, edges);
+    let stop = r + store::slot_length(mem, r);
+    let from = first_touching(mem, r + 2, stop, ranges);
+    let end = behind_touching(mem, from, stop, ranges);
+    Candidates { ranges, from, end }
+}

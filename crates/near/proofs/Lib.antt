@@ -1,3 +1,0 @@
-pub mod NearLaws
-pub mod ReachingLaws
-pub mod RestLaws
