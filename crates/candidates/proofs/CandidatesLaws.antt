@@ -32,9 +32,9 @@ use Rattle.candidates.specs.declared.edges.Ranges.{Ranges}
 use Rattle.candidates.specs.Edges.{edgesOf, contain, isWithin, widened, Contains, Wider, Within}
 use Rattle.candidates.specs.Candidates.{CandidatesAre}
 use Rattle.candidates.specs.Touching.{touchBoth, touched, touches}
-use Rattle.candidates.specs.Rest.{fromFirst, LastPassing, Rest}
+use Rattle.candidates.specs.Rest.{fromFirst, upToLast, Rest}
 use Rattle.candidates.proofs.ReachingLaws.{beyond-at}
-use Rattle.candidates.proofs.RestLaws.{all-fromFirst, all-lastPassing}
+use Rattle.candidates.proofs.RestLaws.{all-fromFirst, all-upToLast, length-upToLast}
 
 -- ---- ranges
 
@@ -159,15 +159,16 @@ module _ {mem : List ℕ} {r : ℕ} {rights : List Match} (slot : SlotHolds mem 
 
   -- from the first match on that touches both ranges up to the last one
   pub candidates-part : {ranges : Ranges} {stop from end : ℕ} → stop ≡ r + slotLength mem r → Rest (fromFirst (touchBoth ranges) rights) mem from stop
-      → LastPassing (touchBoth ranges) (fromFirst (touchBoth ranges) rights) mem from end → CandidatesAre rights mem r (record { ranges = ranges; from = from; end = end })
-  candidates-part {ranges} {stop} {from} {end} e g h =
+      → Rest (upToLast (touchBoth ranges) (fromFirst (touchBoth ranges) rights)) mem from end → CandidatesAre rights mem r (record { ranges = ranges; from = from; end = end })
+  candidates-part {ranges} e g h =
+      let test = touchBoth ranges in
       record {
-        part = h .part;
-        rest = h .rest;
-        within = omega (arith, e, slot .heads, g .up-to, h .rest .up-to, ap (λ ms. length (matchesNumbers ms)) (h .split), ap length (matches-append (h .part) (h .others)), length-append (matchesNumbers (h .part)) (matchesNumbers (h .others)));
+        part = upToLast test (fromFirst test rights);
+        rest = h;
+        within = omega (arith, e, slot .heads, g .up-to, h .up-to, length-upToLast test (fromFirst test rights));
         same = λ p q v w l c d.
             let miss = untouched-beyond l p q c d ranges v w in
-            all-lastPassing l (touchBoth ranges) miss h ∙ all-fromFirst l (touchBoth ranges) miss rights;
+            all-upToLast l test miss (fromFirst test rights) ∙ all-fromFirst l test miss rights;
       }
 
 -- stores above R leave the part

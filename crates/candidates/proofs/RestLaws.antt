@@ -1,17 +1,18 @@
 -- Matches that lie one behind the other: the first of them, those behind it, and a part that others lie behind. A search for the first that passes a test
--- goes by what is left; one for the last splits what it has passed, and what passed no more is behind the split.
+-- goes by what is left; one for the last splits the matches walked over, and none behind the split passes.
 use Prim.Native.Nat.{ℕ, _+_, _-_, _*_, _≤_, _<_}
 use native.Mathlib.Omega.{arith}
 use mathlib.Core.Path.{_≡_, refl, sym, ap, _∙_, subst}
-use mathlib.Core.Bool.{Bool, true, false, _&&_, and-true, cond}
+use mathlib.Core.Bool.{Bool, true, false, _&&_, or-true, cond}
 use mathlib.Core.List.{List, [], _∷_, _++_, append-assoc, append-nil}
 use lib.ListN.{length, take, drop, getD, length-append}
 use Rattle.model.specs.AllStrings.{AllList, AllStrs, Every}
-use Rattle.model.specs.Lists.{allOf}
+use Rattle.model.specs.Lists.{allOf, anyOf}
 use Rattle.model.specs.Matches.{Str, Match}
 use Rattle.model.specs.Rules.{reachesBeyond}
-use Rattle.model.proofs.ListsLaws.{all-append}
+use Rattle.model.proofs.ListsLaws.{any-append}
 use Rattle.model.proofs.RulesLaws.{strings-append}
+use Rattle.model.proofs.TestsLaws.{both-false}
 use Rattle.strings.specs.Strings.{strsAt}
 use Rattle.store.specs.Fine.{Fine}
 use Rattle.store.specs.Layout.{Holds, includesIn, matchLength, matchNumbers, matchesNumbers}
@@ -19,7 +20,7 @@ use Rattle.store.proofs.Back.{includes-read, length-held}
 use Rattle.store.proofs.LayoutLaws.{length-matches, matches-append, matches-cons, matches-none}
 use Rattle.store.proofs.Memory.{holds-left}
 use Rattle.store.proofs.Walking.{Next, next, none-left}
-use Rattle.candidates.specs.Rest.{fromFirst, LastPassing, Passing, Rest, RestAt}
+use Rattle.candidates.specs.Rest.{fromFirst, upToLast, Passing, Rest, RestAt}
 
 -- ---- Rest
 
@@ -111,70 +112,95 @@ module _ {test : List Str → Bool} {all : List Match} {mem : List ℕ} {at end 
 
 -- ---- the last that passes
 
-none-more : (test : List Str → Bool) (ms : List Match) (m : Match) → fromFirst test ms ≡ [] → test (m .includes) ≡ false → fromFirst test (ms ++ m ∷ []) ≡ []
-unfolding fromFirst
-none-more test [] m none miss = rw miss
-none-more test (n ∷ ms) m none miss = at (test (n .includes)) none (none-more test ms m)
-  where
-    at : (b : Bool) → cond b (n ∷ ms) (fromFirst test ms) ≡ [] → (fromFirst test ms ≡ [] → test (m .includes) ≡ false → fromFirst test (ms ++ m ∷ []) ≡ [])
-        → cond b (n ∷ (ms ++ m ∷ [])) (fromFirst test (ms ++ m ∷ [])) ≡ []
-    at true e later = let z : length (n ∷ ms) ≡ 0 = ap length e in absurd (omega arith)
-    at false e later = later e miss
+abbrev passes : (List Str → Bool) → Match → Bool
+passes test m = test (m .includes)
 
--- before the match at `at`: none of those passed that lie at `behind` or after it passes the test
+-- where none passes
+none-last : (test : List Str → Bool) (ms : List Match) → anyOf (passes test) ms ≡ false → upToLast test ms ≡ []
+unfolding upToLast anyOf
+none-last test [] e = refl
+none-last test (m ∷ ms) e = rw e
+
+-- behind matches of any sort one that passes
+some-there : (test : List Str → Bool) (os : List Match) (m : Match) (ms : List Match) → passes test m ≡ true → anyOf (passes test) (os ++ m ∷ ms) ≡ true
+unfolding anyOf
+some-there test os m ms e = any-append (passes test) os (m ∷ ms) ∙ rw e (or-true (anyOf (passes test) os))
+
+last-here : (test : List Str → Bool) (os : List Match) (m : Match) (ms : List Match) → passes test m ≡ true → upToLast test (os ++ m ∷ ms) ≡ (os ++ m ∷ []) ++ upToLast test ms
+unfolding upToLast anyOf
+last-here test [] m ms e = rw e
+last-here test (o ∷ os) m ms e = rw (some-there test (o ∷ os) m ms e) (ap (λ rest. o ∷ rest) (last-here test os m ms e))
+
+-- up to the last one there are no more numbers than in all
+pub length-upToLast : (test : List Str → Bool) (ms : List Match) → length (matchesNumbers (upToLast test ms)) ≤ length (matchesNumbers ms)
+unfolding upToLast
+length-upToLast test [] = omega arith
+length-upToLast test (m ∷ ms) = at (anyOf (passes test) (m ∷ ms)) (length-upToLast test ms)
+  where
+    numbers : (ns : List Match) → length (matchesNumbers (m ∷ ns)) ≡ length (matchNumbers m) + length (matchesNumbers ns)
+    numbers ns = ap length (matches-cons m ns) ∙ length-append (matchNumbers m) (matchesNumbers ns)
+
+    at : (b : Bool) → length (matchesNumbers (upToLast test ms)) ≤ length (matchesNumbers ms)
+        → length (matchesNumbers (cond b (m ∷ upToLast test ms) [])) ≤ length (matchesNumbers (m ∷ ms))
+    at true h = omega (arith, numbers (upToLast test ms), numbers ms)
+    at false h = omega (arith, ap length matches-none)
+
+-- before the match at `at`: of those walked over, none at `behind` or after it passes the test
 pub record Ending (test : List Str → Bool) (all : List Match) (mem : List ℕ) (behind at end : ℕ) : Type 0 where
   pub part : List Match
   pub others : List Match
   pub todo : List Match
   pub split : all ≡ part ++ (others ++ todo)
-  pub none : fromFirst test others ≡ []
+  pub same : upToLast test all ≡ part ++ upToLast test (others ++ todo)
+  pub none : anyOf (passes test) others ≡ false
   pub up-to : behind + length (matchesNumbers (others ++ todo)) ≡ end
   pub rest : Rest todo mem at end
 
 module _ {test : List Str → Bool} {mem : List ℕ} {from end : ℕ} (w : RestAt mem from end) where
   pub ending-start : Ending test (w .todo) mem from from end
-  unfolding fromFirst
-  ending-start = record { part = []; others = []; todo = w .todo; split = refl; none = refl; up-to = w .rest .up-to; rest = w .rest }
+  unfolding anyOf
+  ending-start = record { part = []; others = []; todo = w .todo; split = refl; same = refl; none = refl; up-to = w .rest .up-to; rest = w .rest }
 
   module _ {behind at : ℕ} (g : Ending test (w .todo) mem behind at end) where
-    pub ending-none : end ≤ at → LastPassing test (w .todo) mem from behind
+    pub ending-none : end ≤ at → Rest (upToLast test (w .todo)) mem from behind
     ending-none h =
-        let none = rest-none (g .rest) h in
-        let others : g .others ++ g .todo ≡ g .others = ap (λ ms. g .others ++ ms) none ∙ append-nil (g .others) in
-        let split = g .split ∙ ap (λ ms. g .part ++ ms) others in
-        record {
-          part = g .part;
-          others = g .others;
-          split = split;
-          rest = rest-before (g .part) (g .others) (subst (λ ms. Rest ms mem from end) split (w .rest)) (subst (λ ms. behind + length (matchesNumbers ms) ≡ end) others (g .up-to));
-          none = g .none;
-        }
+        let others : g .others ++ g .todo ≡ g .others = ap (λ ms. g .others ++ ms) (rest-none (g .rest) h) ∙ append-nil (g .others) in
+        let all = subst (λ ms. Rest ms mem from end) (g .split ∙ ap (λ ms. g .part ++ ms) others) (w .rest) in
+        let last = g .same ∙ ap (λ ms. g .part ++ ms) (ap (upToLast test) others ∙ none-last test (g .others) (g .none)) ∙ append-nil (g .part) in
+        let part = rest-before (g .part) (g .others) all (subst (λ ms. behind + length (matchesNumbers ms) ≡ end) others (g .up-to)) in
+        subst (λ ms. Rest ms mem from behind) (sym last) part
 
     module _ (h : at < end) {e : ℕ} {b : Bool} (f : e ≡ at + 1 + 2 * includesIn (getD mem at 0)) (tested : b ≡ test (strsAt (take (e - (at + 1)) (drop (at + 1) mem))))
         {next : ℕ} (l : next ≡ at + matchLength (getD mem at 0)) where
       after : Rest (rest-next (g .rest) h .rest) mem next end
       after = subst (λ k. Rest (rest-next (g .rest) h .rest) mem k end) (sym l) (rest-after (g .rest) h refl)
 
+      first-is : test (rest-next (g .rest) h .first .includes) ≡ b
+      first-is = sym (tested ∙ ap test (rest-read (g .rest) h f))
+
       -- the others with the match in hand, and those after it
       one-more : g .others ++ g .todo ≡ (g .others ++ rest-next (g .rest) h .first ∷ []) ++ rest-next (g .rest) h .rest
       one-more = ap (λ ms. g .others ++ ms) (rest-next (g .rest) h .is) ∙ sym (append-assoc (g .others) (rest-next (g .rest) h .first ∷ []) (rest-next (g .rest) h .rest))
 
-      pub ending-here : Ending test (w .todo) mem next next end
-      unfolding fromFirst
-      ending-here =
+      pub ending-here : b ≡ true → Ending test (w .todo) mem next next end
+      unfolding anyOf
+      ending-here hit =
           let N = rest-next (g .rest) h in
           let o = g .others ++ N .first ∷ [] in
+          let last = ap (λ ms. upToLast test (g .others ++ ms)) (N .is) ∙ last-here test (g .others) (N .first) (N .rest) (first-is ∙ hit) in
           record {
             part = g .part ++ o;
             others = [];
             todo = N .rest;
             split = g .split ∙ ap (λ ms. g .part ++ ms) one-more ∙ sym (append-assoc (g .part) o (N .rest));
+            same = g .same ∙ ap (λ ms. g .part ++ ms) last ∙ sym (append-assoc (g .part) o (upToLast test (N .rest)));
             none = refl;
             up-to = after .up-to;
             rest = after;
           }
 
       pub ending-later : b ≡ false → Ending test (w .todo) mem behind next end
+      unfolding anyOf
       ending-later miss =
           let N = rest-next (g .rest) h in
           record {
@@ -182,7 +208,8 @@ module _ {test : List Str → Bool} {mem : List ℕ} {from end : ℕ} (w : RestA
             others = g .others ++ N .first ∷ [];
             todo = N .rest;
             split = g .split ∙ ap (λ ms. g .part ++ ms) one-more;
-            none = none-more test (g .others) (N .first) (g .none) (sym (ap test (rest-read (g .rest) h f)) ∙ sym tested ∙ miss);
+            same = g .same ∙ ap (λ ms. g .part ++ upToLast test ms) one-more;
+            none = any-append (passes test) (g .others) (N .first ∷ []) ∙ rw (g .none, first-is ∙ miss);
             up-to = subst (λ ms. behind + length (matchesNumbers ms) ≡ end) one-more (g .up-to);
             rest = after;
           }
@@ -201,10 +228,20 @@ module _ (l : Match) (test : List Str → Bool) (miss : (m : Match) → test (m 
       at true e later = refl
       at false e later = rw (miss m e) later
 
+  none-passes : (ms : List Match) → anyOf (passes test) ms ≡ false → allOf (reachesBeyond l) ms ≡ true
+  unfolding anyOf allOf
+  none-passes [] e = refl
+  none-passes (m ∷ ms) e =
+      let both = both-false (passes test m) (anyOf (passes test) ms) e in
+      rw (miss m (both .0)) (none-passes ms (both .1))
+
   -- .. and up to the last one
-  pub all-lastPassing : {all : List Match} {mem : List ℕ} {from behind : ℕ} (g : LastPassing test all mem from behind)
-      → allOf (reachesBeyond l) (g .part) ≡ allOf (reachesBeyond l) all
-  unfolding allOf
-  all-lastPassing g =
-      let none : allOf (reachesBeyond l) (g .others) ≡ true = sym (all-fromFirst (g .others)) ∙ ap (allOf (reachesBeyond l)) (g .none) in
-      sym (ap (allOf (reachesBeyond l)) (g .split) ∙ all-append (reachesBeyond l) (g .part) (g .others) ∙ rw none (and-true (allOf (reachesBeyond l) (g .part))))
+  pub all-upToLast : (ms : List Match) → allOf (reachesBeyond l) (upToLast test ms) ≡ allOf (reachesBeyond l) ms
+  unfolding upToLast allOf
+  all-upToLast [] = refl
+  all-upToLast (m ∷ ms) = at (anyOf (passes test) (m ∷ ms)) refl (all-upToLast ms)
+    where
+      at : (b : Bool) → anyOf (passes test) (m ∷ ms) ≡ b → allOf (reachesBeyond l) (upToLast test ms) ≡ allOf (reachesBeyond l) ms
+          → allOf (reachesBeyond l) (cond b (m ∷ upToLast test ms) []) ≡ allOf (reachesBeyond l) (m ∷ ms)
+      at true e later = ap (λ t. reachesBeyond l m && t) later
+      at false e later = sym (none-passes (m ∷ ms) e)

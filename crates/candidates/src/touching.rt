@@ -5,7 +5,7 @@ use strings::end_of;
 use strings::start_of;
 ghost use mathlib.Core.Path.{_≡_};
 ghost use Rattle.strings.specs.Strings.{strOf, strsAt};
-ghost use Rattle.candidates.specs.Rest.{fromFirst, LastPassing, Rest, RestAt};
+ghost use Rattle.candidates.specs.Rest.{fromFirst, Rest, RestAt, upToLast};
 ghost use Rattle.candidates.specs.Touching.{touchBoth, touched, touches};
 
 // Does a string of this span have a position in the range?
@@ -63,7 +63,7 @@ pub fn first_touching(mem: &[u32], from: usize, end: usize, ranges: Ranges) -> u
 // The place behind the last match of R, from the one at `from` on, that has positions in both ranges; `from` if none has.
 pub fn behind_touching(mem: &[u32], from: usize, end: usize, ranges: Ranges) -> usize
     requires { ⌜ RestAt (now mem) from end ⌝ }
-    ensures { λ r. ⌜ ((w : RestAt (now (mem .entry)) from end) → LastPassing (touchBoth ranges) (w .todo) (now (mem .entry)) from r) ⌝ }
+    ensures { λ r. ⌜ ((w : RestAt (now (mem .entry)) from end) → Rest (upToLast (touchBoth ranges) (w .todo)) (now (mem .entry)) from r) ⌝ }
 {
     let mut behind = from;
     let mut at = from;

@@ -69,7 +69,7 @@ loop-again c = λ w.
     let m = c .before .before .before in
     let x = m .before in
     let t = x .before .before in
-    ending-here w (t .before .loop .inv w) (t .loop-test .taken) (omega (arith, x .includes-in .ensures)) (c .before .touch-both .ensures) (omega (arith, m .match-length .ensures))
+    ending-here w (t .before .loop .inv w) (t .loop-test .taken) (omega (arith, x .includes-in .ensures)) (c .before .touch-both .ensures) (omega (arith, m .match-length .ensures)) (c .if1 .taken)
 
 loop-less-2 : tie.Need-loop-less-2 Inv-loop μ-loop
 loop-less-2 c = omega (arith, c .before .before .before .before .before .before .loop-test .taken, c .before .before .before .match-length .ensures)
