@@ -1,3 +1,4 @@
 pub mod CandidatesLaws
+pub mod EdgesLaws
 pub mod ReachingLaws
 pub mod RestLaws

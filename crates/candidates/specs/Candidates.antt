@@ -8,12 +8,12 @@ use Rattle.model.specs.Matches.{Match}
 use Rattle.model.specs.Rules.{covered, reachesBeyond}
 use Rattle.store.specs.Layout.{slotSize}
 use Rattle.store.specs.Slot.{SlotHolds}
-use Rattle.store.specs.Stream.{StreamAt}
-use Rattle.candidates.specs.Edges.{SomeAt, Within}
+use Rattle.store.specs.Stream.{MatchHolds, StreamAt}
+use Rattle.candidates.specs.Edges.{Within}
 use Rattle.candidates.specs.Rest.{Rest}
 use Rattle.candidates.specs.declared.Candidates.{Candidates}
 
--- against the part, a match of L that covers a position of each range decides as against all of R, the list in the slot at r
+-- for every match that covers a position of each range, the part decides as all of `rights` does; it ends within the slot at r
 pub record CandidatesAre (rights : List Match) (mem : List ℕ) (r : ℕ) (candidates : Candidates) : Type 0 where
   pub part : List Match
   pub rest : Rest part mem (candidates .from) (candidates .end)
@@ -21,10 +21,11 @@ pub record CandidatesAre (rights : List Match) (mem : List ℕ) (r : ℕ) (candi
   pub same : (p q : ℕ) → Within (candidates .ranges .start) p → Within (candidates .ranges .end) q → (l : Match) → covered (l .includes) p ≡ true → covered (l .includes) q ≡ true
       → allOf (reachesBeyond l) part ≡ allOf (reachesBeyond l) rights
 
--- a match with includes at p, the first of n, and a part of R
+-- a match at p, the first of n, R in the slot at r, and a part of it
 pub record CandidatesAt (mem : List ℕ) (p n r : ℕ) (known : Candidates) : Type 0 where
+  pub item : Match
   pub rights : List Match
-  pub some : SomeAt mem p
+  pub held : MatchHolds mem p item
   pub ahead : StreamAt mem p n
   pub slot : SlotHolds mem r rights
   pub candidates : CandidatesAre rights mem r known

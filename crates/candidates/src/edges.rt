@@ -1,11 +1,14 @@
-// The edges of a match of L, the start of its first include and the end of its last one, and the ranges of the edges of several.
+// The edges of a match of L, the start of its first include and the end of its last one, and the ranges of the edges of several. Includes stand in the
+// selection's order, so that the edges need not be the least and the greatest position.
 use strings::end_of;
 use strings::start_of;
 ghost use mathlib.Core.Path.{_≡_};
-ghost use Rattle.store.specs.Stream.{Header, StreamAt};
-ghost use Rattle.candidates.specs.Edges.{edgesOf, Contains, contain, isWithin, SomeAt, Wider, widened};
+ghost use lib.ListN.{take};
+ghost use Rattle.store.specs.Stream.{StreamAt};
+ghost use Rattle.strings.specs.Strings.{strsAt};
+ghost use Rattle.candidates.specs.Edges.{ahead, contain, edgesOf, isWithin, MatchAt, rangesAt, widened, withMatch, withMatches};
 
-// So many matches of L share one part of R.
+// How many matches of L a part of R is found for.
 const AHEAD: usize = 16;
 
 // The start of a match's first include, and the end of its last one.
@@ -26,15 +29,17 @@ pub struct Ranges {
     pub end: Range,
 }
 
-// The edges of the match at p, which has includes.
-pub fn edges_of(mem: &[u32], p: usize) -> Edges
-    requires { ⌜ SomeAt (now mem) p ⌝ }
-    ensures { λ r. ⌜ r ≡ edgesOf (now (mem .entry)) p ⌝ }
+// The edges of a match with these includes.
+pub fn edges_of(strs: &[u32]) -> Edges
+    ensures { λ r. ⌜ r ≡ edgesOf (strsAt (now (strs .entry))) ⌝ }
 {
-    let last = p + 2 * store::includes_in(mem[p]) - 1;
+    if strs.len() < 2 {
+        return Edges { start: 0, end: 0 };
+    }
+    let last = strs.len() / 2 * 2 - 2;
     Edges {
-        start: start_of(mem[p + 1]),
-        end: end_of(mem[last]),
+        start: start_of(strs[0]),
+        end: end_of(strs[last]),
     }
 }
 
@@ -48,7 +53,7 @@ fn is_within(range: Range, p: u32) -> bool
     p <= range.hi
 }
 
-// Do the ranges have these edges?
+// Are the edges within the ranges?
 pub fn contain(ranges: Ranges, edges: Edges) -> bool
     ensures { λ r. ⌜ r ≡ contain ranges edges ⌝ }
 {
@@ -58,7 +63,7 @@ pub fn contain(ranges: Ranges, edges: Edges) -> bool
     is_within(ranges.end, edges.end)
 }
 
-// The range that reaches to a position too.
+// The range, widened to a position.
 fn widened(range: Range, p: u32) -> Range
     ensures { λ r. ⌜ r ≡ widened range p ⌝ }
 {
@@ -77,25 +82,28 @@ fn widened(range: Range, p: u32) -> Range
     range
 }
 
-// The ranges, with the edges of the match at p.
+// The ranges, widened to the edges of the match at p, if it has includes.
 fn with_match(mem: &[u32], p: usize, ranges: Ranges) -> Ranges
-    requires { ⌜ Header (now mem) p ⌝ }
-    ensures { λ r. ⌜ Wider ranges r ⌝ }
+    requires { ⌜ MatchAt (now mem) p ⌝ }
+    ensures { λ r. ⌜ ((w : MatchAt (now (mem .entry)) p) → r ≡ withMatch ranges (w .item)) ⌝ }
 {
-    if store::includes_in(mem[p]) == 0 {
+    let includes = store::includes_in(mem[p]);
+    if includes == 0 {
         return ranges;
     }
-    let edges = edges_of(mem, p);
+    let a = p + 1;
+    let e = a + 2 * includes;
+    let edges = edges_of(&mem[a..e]);
     Ranges {
         start: widened(ranges.start, edges.start),
         end: widened(ranges.end, edges.end),
     }
 }
 
-// The ranges of these edges and those of the next matches of L, of n that lie from p on.
+// The ranges of these edges and those of the matches of L from p on: of sixteen, or of n if there are no more.
 pub fn ranges_ahead(mem: &[u32], p: usize, n: usize, edges: Edges) -> Ranges
     requires { ⌜ StreamAt (now mem) p n ⌝ }
-    ensures { λ r. ⌜ Contains r edges ⌝ }
+    ensures { λ r. ⌜ ((w : StreamAt (now (mem .entry)) p n) → r ≡ withMatches (rangesAt edges) (take ahead (w .list))) ⌝ }
 {
     let mut ranges = Ranges {
         start: Range {

@@ -1,5 +1,5 @@
 // Which matches of R can cover all positions of a match of L: only those that cover its edges, the start of its first include and the end of its last one.
-// The edges of matches of L that follow each other lie close together, so that one part of R serves many of them.
+// The edges of matches of L that follow each other mostly lie close together, so one part of R is enough for many of them.
 mod edges; // of the matches of L
 mod touching; // the matches of R that have positions in their ranges
 
@@ -15,7 +15,7 @@ ghost use Rattle.store.specs.Slot.{SlotAt};
 ghost use Rattle.candidates.specs.Edges.{edgesOf, Contains};
 ghost use Rattle.candidates.specs.Candidates.{CandidatesAt, CandidatesAre};
 
-// A part of R, the matches from `from` up to `end`: no other one covers a position of both ranges.
+// A part of R, the matches from `from` up to `end`: no other one covers a position of each range.
 pub struct Candidates {
     pub ranges: Ranges,
     pub from: usize,
@@ -27,6 +27,7 @@ pub fn all_of(mem: &[u32], r: usize) -> Candidates
     requires { ⌜ SlotAt (now mem) r ⌝ }
     ensures { λ b. ⌜ ((w : SlotAt (now (mem .entry)) r) → CandidatesAre (w .list) (now (mem .entry)) r b) ⌝ }
 {
+    // positions run from 1
     let none = Range { lo: 0, hi: 0 };
     Candidates {
         ranges: Ranges {
@@ -38,13 +39,16 @@ pub fn all_of(mem: &[u32], r: usize) -> Candidates
     }
 }
 
-// The part of R for the match of L at p, of n from there on: the one that is known, where its ranges have the edges of this match, or a new one.
+// The candidates for the match of L at p, the first of the n that are left: the known ones, if their ranges contain its edges, else new ones.
 pub fn candidates_for(mem: &[u32], p: usize, n: usize, r: usize, known: Candidates) -> Candidates
     requires { ⌜ CandidatesAt (now mem) p n r known ⌝ }
-    ensures { λ b. ⌜ ((w : CandidatesAt (now (mem .entry)) p n r known) → CandidatesAre (w .rights) (now (mem .entry)) r b) ⌝ }
-    ensures { λ b. ⌜ Contains (b .ranges) (edgesOf (now (mem .entry)) p) ⌝ }
+    ensures { λ b.
+        ⌜ ((w : CandidatesAt (now (mem .entry)) p n r known)
+        → CandidatesAre (w .rights) (now (mem .entry)) r b × Contains (b .ranges) (edgesOf (w .item .includes))) ⌝ }
 {
-    let edges = edges_of(mem, p);
+    let a = p + 1;
+    let e = a + 2 * store::includes_in(mem[p]);
+    let edges = edges_of(&mem[a..e]);
     if contain(known.ranges, edges) {
         return known;
     }

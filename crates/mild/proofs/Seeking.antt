@@ -28,11 +28,12 @@ use Rattle.candidates.specs.declared.Candidates.{Candidates}
 use Rattle.mild.specs.Beyond.{coverBoth, mildNot, FoundBeyond}
 use Rattle.candidates.specs.Edges.{edgesOf, Contains}
 use Rattle.candidates.specs.Candidates.{CandidatesAt, CandidatesAre}
-use Rattle.mild.specs.Reach.{ReachAt, ReachedIs, SearchAt}
+use Rattle.mild.specs.Reach.{ReachedIs, SearchAt}
 use Rattle.candidates.specs.Rest.{fromFirst, Rest}
 use Rattle.candidates.proofs.ReachingLaws.{beyond-at}
 use Rattle.mild.proofs.BeyondLaws.{mildNot-flatMap, mildNot-small, one-at-most}
-use Rattle.candidates.proofs.CandidatesLaws.{end-covered, start-covered, uncovered-beyond}
+use Rattle.candidates.proofs.CandidatesLaws.{uncovered-beyond}
+use Rattle.candidates.proofs.EdgesLaws.{end-covered, start-covered}
 use Rattle.candidates.proofs.RestLaws.{all-fromFirst, rest-next, rest-none}
 
 -- ---- the walk over a part of R
@@ -46,11 +47,11 @@ pub record Seeking (l : Match) (all : List Match) (mem : List ℕ) (at end last 
 
 module _ {mem : List ℕ} {p from end : ℕ} (w : SearchAt mem p from end) where
   -- before the first match of R that covers the edges
-  pub seek : {at : ℕ} {edges : Edges} → edges ≡ edgesOf mem p → Rest (fromFirst (coverBoth (edges .end) (edges .start)) (w .todo)) mem at end
+  pub seek : {at : ℕ} {edges : Edges} → edges ≡ edgesOf (w .item .includes) → Rest (fromFirst (coverBoth (edges .end) (edges .start)) (w .todo)) mem at end
       → Seeking (w .item) (w .todo) mem at end (edges .start)
   seek e rest =
-      let a = subst (λ g. covered (w .item .includes) (g .end) ≡ true) (sym e) (end-covered (w .held) (w .some)) in
-      let b = subst (λ g. covered (w .item .includes) (g .start) ≡ true) (sym e) (start-covered (w .held) (w .some)) in
+      let a = subst (λ g. covered (w .item .includes) (g .end) ≡ true) (sym e) (end-covered (w .item .includes) (w .held .fine .includes) (omega (arith, w .some, includes-held (w .held)))) in
+      let b = subst (λ g. covered (w .item .includes) (g .start) ≡ true) (sym e) (start-covered (w .item .includes) (w .held .fine .includes) (omega (arith, w .some, includes-held (w .held)))) in
       record { todo = _; rest = rest; same = all-fromFirst (w .item) _ (uncovered-beyond (w .item) _ _ a b) (w .todo); within = b }
 
   module _ {at last : ℕ} (g : Seeking (w .item) (w .todo) mem at end last) where
@@ -103,28 +104,26 @@ no-strings : {A : Type 0} (xs : List A) → length xs ≡ 0 → xs ≡ []
 no-strings [] e = refl
 no-strings (x ∷ xs) e = absurd (omega arith)
 
-module _ {mem : List ℕ} {p n r : ℕ} {known : Candidates} (w : ReachAt mem p n r known) where
+module _ {mem : List ℕ} {p n r : ℕ} {known : Candidates} (w : CandidatesAt mem p n r known) where
   pub without-includes : {m : ℕ} {b : Bool} → m ≡ includesIn (getD mem p 0) → m ≡ 0 → b ≡ eqb (getD mem r 0) 0 → ReachedIs (w .item) (w .rights) mem r (record { beyond = b; candidates = known })
   without-includes e f g =
       let none = no-strings (w .item .includes) (omega (arith, includes-held (w .held))) in
       record { beyond = g ∙ ap (λ n. eqb n 0) (matches-held (w .slot)) ∙ none-beyond (w .item) none (w .rights); candidates = w .candidates }
 
-  abbrev pub candidates-at : 0 < includesIn (getD mem p 0) → CandidatesAt mem p n r known
-  candidates-at some = record { rights = w .rights; some = record { header = w .held .header; some = some }; ahead = w .ahead; slot = w .slot; candidates = w .candidates }
-
   module _ (some : 0 < includesIn (getD mem p 0)) {candidates : Candidates} (g : CandidatesAre (w .rights) mem r candidates) where
     abbrev pub search-at : SearchAt mem p (candidates .from) (candidates .end)
     search-at = record { item = w .item; held = w .held; some = some; todo = g .part; rest = g .rest }
 
-    pub by-search : {b : Bool} → Contains (candidates .ranges) (edgesOf mem p) → b ≡ allOf (reachesBeyond (w .item)) (g .part) → ReachedIs (w .item) (w .rights) mem r (record { beyond = b; candidates = candidates })
+    pub by-search : {b : Bool} → Contains (candidates .ranges) (edgesOf (w .item .includes)) → b ≡ allOf (reachesBeyond (w .item)) (g .part) → ReachedIs (w .item) (w .rights) mem r (record { beyond = b; candidates = candidates })
     by-search h e =
-        record { beyond = e ∙ g .same _ _ (h .0) (h .1) (w .item) (start-covered (w .held) some) (end-covered (w .held) some); candidates = g }
+        let many : 0 < length (w .item .includes) = omega (arith, includes-held (w .held)) in
+        record { beyond = e ∙ g .same _ _ (h .0) (h .1) (w .item) (start-covered (w .item .includes) (w .held .fine .includes) many) (end-covered (w .item .includes) (w .held .fine .includes) many); candidates = g }
 
 -- ---- a match of L in hand
 
 module _ (rights : List Match) {lefts : List Match} {mem₀ mem : List ℕ} {n at p q i matches : ℕ} (g : Counting (mildNot rights) lefts mem₀ n at mem p q i matches) (h : i < n) where
   -- R lies below what is written, so it lies there still
-  abbrev pub reach-at : {r k : ℕ} {candidates : Candidates} → SlotHolds mem₀ r rights → r + slotSize ≤ at → CandidatesAre rights mem r candidates → k ≡ n - i → ReachAt mem p k r candidates
+  abbrev pub reach-at : {r k : ℕ} {candidates : Candidates} → SlotHolds mem₀ r rights → r + slotSize ≤ at → CandidatesAre rights mem r candidates → k ≡ n - i → CandidatesAt mem p k r candidates
   reach-at s u candidates e =
       let o = item (g .going) h in
       let l = g .going .left in

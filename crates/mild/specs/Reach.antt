@@ -6,12 +6,10 @@ use lib.ListN.{getD}
 use Rattle.model.specs.Lists.{allOf}
 use Rattle.model.specs.Matches.{Match}
 use Rattle.model.specs.Rules.{reachesBeyond}
-use Rattle.candidates.specs.declared.Candidates.{Candidates}
 use Rattle.candidates.specs.Candidates.{CandidatesAre}
 use Rattle.candidates.specs.Rest.{Rest}
 use Rattle.store.specs.Layout.{includesIn}
-use Rattle.store.specs.Slot.{SlotHolds}
-use Rattle.store.specs.Stream.{MatchHolds, StreamAt}
+use Rattle.store.specs.Stream.{MatchHolds}
 use Rattle.mild.specs.declared.against.Reached.{Reached}
 
 -- a match with includes at p, and matches of R from `from` up to `end`
@@ -21,15 +19,6 @@ pub record SearchAt (mem : List ℕ) (p from end : ℕ) : Type 0 where
   pub some : 0 < includesIn (getD mem p 0)
   pub todo : List Match
   pub rest : Rest todo mem from end
-
--- a match at p, the first of n, R, and a part of it
-pub record ReachAt (mem : List ℕ) (p n r : ℕ) (known : Candidates) : Type 0 where
-  pub item : Match
-  pub rights : List Match
-  pub held : MatchHolds mem p item
-  pub ahead : StreamAt mem p n
-  pub slot : SlotHolds mem r rights
-  pub candidates : CandidatesAre rights mem r known
 
 -- what is said of a match l and of R
 pub record ReachedIs (l : Match) (rights : List Match) (mem : List ℕ) (r : ℕ) (reached : Reached) : Type 0 where

@@ -8,9 +8,10 @@ use candidates::edges_of;
 ghost use mathlib.Core.Path.{_≡_};
 ghost use Rattle.model.specs.Lists.{allOf};
 ghost use Rattle.model.specs.Rules.{reachesBeyond};
-ghost use Rattle.mild.specs.Reach.{ReachAt, ReachedIs, SearchAt};
+ghost use Rattle.candidates.specs.Candidates.{CandidatesAt};
+ghost use Rattle.mild.specs.Reach.{ReachedIs, SearchAt};
 
-// What comes of a match of L against R.
+// The answer for a match of L.
 pub struct Reached {
     // does it reach beyond every match of R?
     pub beyond: bool,
@@ -18,15 +19,15 @@ pub struct Reached {
     pub candidates: Candidates,
 }
 
-// "for every match of R", of the match of L at p and the matches of R from `from` up to `end`. The edges of the one, then the last two positions found in its
-// includes, are held against the others, and only where both are covered is another position looked for.
+// "for every match of R", of the match of L at p and the matches of R from `from` up to `end`. Two of its positions are held against each match of R, first
+// its edges, then each position found and the one before it, beginning with the start; only where both are covered is another looked for.
 fn search(mem: &[u32], p: usize, from: usize, end: usize) -> bool
     requires { ⌜ SearchAt (now mem) p from end ⌝ }
     ensures { λ b. ⌜ ((w : SearchAt (now (mem .entry)) p from end) → b ≡ allOf (reachesBeyond (w .item)) (w .todo)) ⌝ }
 {
     let a = p + 1;
     let e = a + 2 * store::includes_in(mem[p]);
-    let edges = edges_of(mem, p);
+    let edges = edges_of(&mem[a..e]);
     let mut last = edges.start;
     let mut at = next_covering(mem, from, end, edges.end, last);
     while at < end {
@@ -43,10 +44,10 @@ fn search(mem: &[u32], p: usize, from: usize, end: usize) -> bool
     true
 }
 
-// "for every match of R", of the match of L at p, of n from there on, and R in the slot at r.
+// "for every match of R", of the match of L at p, the first of the n that are left, and R in the slot at r.
 pub fn reach(mem: &[u32], p: usize, n: usize, r: usize, known: Candidates) -> Reached
-    requires { ⌜ ReachAt (now mem) p n r known ⌝ }
-    ensures { λ b. ⌜ ((w : ReachAt (now (mem .entry)) p n r known) → ReachedIs (w .item) (w .rights) (now (mem .entry)) r b) ⌝ }
+    requires { ⌜ CandidatesAt (now mem) p n r known ⌝ }
+    ensures { λ b. ⌜ ((w : CandidatesAt (now (mem .entry)) p n r known) → ReachedIs (w .item) (w .rights) (now (mem .entry)) r b) ⌝ }
 {
     if store::includes_in(mem[p]) == 0 {
         return Reached {

@@ -5,8 +5,7 @@ use Rattle.mild.proofs.BeyondLaws.{mildNot-small}
 use Rattle.candidates.proofs.CandidatesLaws.{candidates-below}
 use Rattle.mild.proofs.Seeking.{reach-at, kept-at, keep-next, mildNot-closed}
 use Rattle.mild.specs.Beyond.{mildNot}
-use Rattle.candidates.specs.Candidates.{CandidatesAre}
-use Rattle.mild.specs.Reach.{ReachAt}
+use Rattle.candidates.specs.Candidates.{CandidatesAre, CandidatesAt}
 use Rattle.store.proofs.EachLaws.{Counting, slot-each, count-start, count-most, count-finish}
 use Rattle.store.proofs.Slots.{closing}
 use Rattle.store.specs.Slot.{SlotAt}
@@ -27,7 +26,7 @@ abbrev μ-loop : tie.MeasureT-loop
 
 -- the match of L in hand, with what is known of R
 abbrev one : (c : tie.In-loop Inv-loop μ-loop)
-    → ReachAt (c .before .loop .mem) (c .before .loop .p) (getD (c .before .before .before .before .before .before .args .mem .now) (c .before .before .before .before .before .before .args .l) 0 - c .before .loop .i)
+    → CandidatesAt (c .before .loop .mem) (c .before .loop .p) (getD (c .before .before .before .before .before .before .args .mem .now) (c .before .before .before .before .before .before .args .l) 0 - c .before .loop .i)
     (c .before .before .before .before .before .before .args .r) (c .before .loop .candidates)
 one c =
     let r = c .before .before .before .before .before .before .pre in

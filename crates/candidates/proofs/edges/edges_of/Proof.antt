@@ -1,35 +1,19 @@
--- The two numbers are read where the header says that they are.
-use Prim.Native.Nat.{ℕ, _+_, _-_, _*_, _%_}
+-- The first pair of numbers is the first string, and the last pair the last one.
+use Prim.Native.Nat.{ℕ}
+use Rattle.candidates.proofs.EdgesLaws.{edges-none, edges-read}
 use borrow.Author.Needs.{needs}
-use mathlib.Core.Path.{ap, ap₂, _∙_}
-use lib.ListN.{getD}
-use Rattle.model.specs.Limits.{radix}
+use mathlib.Core.Path.{sym, ap₂, _∙_}
 use Rattle.candidates.proofs.edges.edges_of.Statement.{statement}
 use Rattle.candidates.proofs.edges.edges_of.Tie as tie
 
-mul-includes-in : tie.Need-mul-includes-in
-mul-includes-in c = search needs
-
-shared-slice-read-includes-in : tie.Need-shared-slice-read-includes-in
-shared-slice-read-includes-in c = search needs
-
-includes-in-requires : tie.Need-includes-in-requires
-includes-in-requires c κs = search needs
+returns : tie.Need-returns
+returns c = sym (edges-none _ (c .if1 .taken))
 
 mul-last : tie.Need-mul-last
 mul-last c = search needs
 
-add-last : tie.Need-add-last
-add-last c = search needs
-
 sub-last : tie.Need-sub-last
 sub-last c = search needs
-
-add-start-of : tie.Need-add-start-of
-add-start-of c = search needs
-
-mul-start-of : tie.Need-mul-start-of
-mul-start-of c = search needs
 
 shared-slice-read-start-of : tie.Need-shared-slice-read-start-of
 shared-slice-read-start-of c = search needs
@@ -46,28 +30,21 @@ shared-slice-read-end-of c = search needs
 end-of-requires : tie.Need-end-of-requires
 end-of-requires c κs = search needs
 
-returns : tie.Need-returns
-returns c =
-    let i = c .before .before .before .before in
-    let a = i .before .before .before .args in
-    let end = c .end-of .ensures ∙ ap (λ k. getD (a .mem .now) (a .p + 2 * k - 1) 0 % radix) (i .includes-in .ensures) in
-    ap₂ (λ (a b : ℕ). record { start = a; end = b }) (c .before .before .start-of .ensures) end
+returns-2 : tie.Need-returns-2
+returns-2 c =
+    let s = c .before .before in
+    ap₂ (λ (a b : ℕ). record { start = a; end = b }) (s .start-of .ensures) (c .end-of .ensures) ∙ sym (edges-read _ (s .before .before .if1 .left))
 
 pub edges-of-spec : {M : Type 1} → statement M
 edges-of-spec =
     tie.close
     (tie.spec
-    mul-includes-in
-    shared-slice-read-includes-in
-    includes-in-requires
+    returns
     mul-last
-    add-last
     sub-last
-    add-start-of
-    mul-start-of
     shared-slice-read-start-of
     start-of-requires
     mul-end-of
     shared-slice-read-end-of
     end-of-requires
-    returns)
+    returns-2)

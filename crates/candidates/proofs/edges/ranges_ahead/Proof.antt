@@ -1,58 +1,43 @@
--- Invariant: the matches from `at` on are left, and the ranges have the first one's edges. Measure: the matches left.
-use Prim.Native.Nat.{ℕ, _+_, _-_, _≤_, _<_}
-use Rattle.candidates.specs.Edges.{Wider}
-use Rattle.store.proofs.Walking.{next}
-use Rattle.store.specs.Layout.{matchLength}
-use Rattle.store.specs.Stream.{Header, StreamAt}
+-- Invariant: the ranges, widened to the matches that are still to come, are what they are to be. Measure: the matches left.
+use Prim.Native.Nat.{_-_, _≤_}
+use Rattle.candidates.proofs.EdgesLaws.{Widening, widening-start, widening-at, widening-next, widening-enough, widening-end}
+use Rattle.candidates.specs.Edges.{MatchAt}
+use Rattle.store.specs.Stream.{StreamAt}
 use borrow.Author.Needs.{needs}
-use lib.ListN.{getD}
-use mathlib.Core.List.{List}
-use mathlib.Core.Path.{_≡_, subst}
 use native.Mathlib.Omega.{arith}
 use Rattle.candidates.proofs.edges.ranges_ahead.Statement.{statement}
 use Rattle.candidates.proofs.edges.ranges_ahead.Tie as tie
 
 abbrev Inv-loop : tie.InvT-loop
-Inv-loop mem p n ranges₀ at₀ i₀ ranges at i = (i ≤ n) × StreamAt mem at (n - i) × Wider ranges₀ ranges
+Inv-loop mem p n ranges₀ at₀ i₀ ranges at i = (i ≤ n) × ((w : StreamAt mem p n) → Widening (w .list) ranges₀ mem n at i ranges)
 
 abbrev μ-loop : tie.MeasureT-loop
 μ-loop mem p n ranges₀ at₀ i₀ ranges at i = n - i
 
--- the match in hand, and those behind it
-start : {mem : List ℕ} {at n : ℕ} → StreamAt mem at n → StreamAt mem at (n - 0)
-start w = subst (StreamAt _ _) (omega arith) w
-
-first : {mem : List ℕ} {at n : ℕ} → StreamAt mem at n → 0 < n → Header mem at
-first w h = next (w .stream) h .held .header
-
-after : {mem : List ℕ} {at n k len : ℕ} → StreamAt mem at n → 0 < n → len ≡ matchLength (getD mem at 0) → k + 1 ≡ n → StreamAt mem (at + len) k
-after {len = len} w h e f =
-    let l = next (w .stream) h .after len e in
-    record { list = _; stream = record { holds = l .holds; count = omega (arith, l .count, f); few = l .few; fine = l .fine } }
-
-one : (c : tie.In-loop Inv-loop μ-loop) → Header (c .before .before .before .args .mem .now) (c .before .loop .at)
-one c = first (c .before .loop .inv .1) (omega arith)
+-- the match in hand
+abbrev one : (c : tie.In-loop Inv-loop μ-loop) → MatchAt (c .before .before .before .args .mem .now) (c .before .loop .at)
+one c = widening-at (c .before .loop .inv .1 (c .before .before .before .pre)) (c .loop-test .taken)
 
 loop-holds : tie.Need-loop-holds Inv-loop μ-loop
-loop-holds c = (omega arith, start (c .before .pre), omega arith)
+loop-holds c = (omega arith, λ w. widening-start w _)
 
 returns : tie.Need-returns Inv-loop μ-loop
-returns c = omega arith
+returns c w = let t = c .before in widening-enough (t .before .loop .inv .1 w) (c .if1 .taken)
 
 with-match-requires : tie.Need-with-match-requires Inv-loop μ-loop
 with-match-requires c κs = one (c .before)
 
 mul-match-length : tie.Need-mul-match-length Inv-loop μ-loop
-mul-match-length c = omega (arith, one (c .before .before))
+mul-match-length c = omega (arith, one (c .before .before) .held .header)
 
 shared-slice-read-match-length : tie.Need-shared-slice-read-match-length Inv-loop μ-loop
-shared-slice-read-match-length c = omega (arith, one (c .before .before .before))
+shared-slice-read-match-length c = omega (arith, one (c .before .before .before) .held .header)
 
 match-length-requires : tie.Need-match-length-requires Inv-loop μ-loop
 match-length-requires c κs = search needs
 
 add-at : tie.Need-add-at Inv-loop μ-loop
-add-at c = omega (arith, one (c .before .before .before .before), c .match-length .ensures)
+add-at c = omega (arith, one (c .before .before .before .before) .held .header, c .match-length .ensures)
 
 add-i : tie.Need-add-i Inv-loop μ-loop
 add-i c = search needs
@@ -63,12 +48,17 @@ loop-less c = search needs
 loop-again : tie.Need-loop-again Inv-loop μ-loop
 loop-again c =
     let m = c .before .before in
-    let t = m .before .before in
-    let l = t .before .loop in
-    (omega arith, after (l .inv .1) (omega arith) (c .match-length .ensures) (omega arith), omega (arith, l .inv .2, m .with-match .ensures))
+    let e = m .before in
+    let t = e .before in
+    let l = t .before .loop in (
+      omega arith,
+      λ w.
+          let g = l .inv .1 w in
+          widening-next g (t .loop-test .taken) (e .if1 .left) (m .with-match .ensures (widening-at g (t .loop-test .taken))) (c .match-length .ensures),
+    )
 
 returns-2 : tie.Need-returns-2 Inv-loop μ-loop
-returns-2 c = omega arith
+returns-2 c w = widening-end (c .before .loop .inv .1 w) (c .loop-test .left)
 
 pub ranges-ahead-spec : {M : Type 1} → statement M
 ranges-ahead-spec =

@@ -1,5 +1,5 @@
 -- Without includes it reaches beyond none. Else the part of R decides as all of R does.
-use Rattle.mild.proofs.Seeking.{without-includes, candidates-at, search-at, by-search}
+use Rattle.mild.proofs.Seeking.{without-includes, search-at, by-search}
 use borrow.Author.Needs.{needs}
 use mathlib.Core.Path.{refl}
 use Prim.Native.Nat.{_<_}
@@ -29,15 +29,13 @@ returns c w = without-includes w (c .before .before .includes-in .ensures) (c .b
 
 candidates-for-requires : tie.Need-candidates-for-requires
 candidates-for-requires c κs =
-    let i = c .before in
-    let w = i .before .before .before .pre in
-    candidates-at w (omega (arith, i .includes-in .ensures, c .if1 .left))
+    c .before .before .before .before .pre
 
 search-requires : tie.Need-search-requires
 search-requires c κs =
     let i = c .before .before in
     let w = i .before .before .before .pre in
-    search-at w (omega (arith, i .includes-in .ensures, c .before .if1 .left)) (c .candidates-for .ensures .0 (candidates-at w (omega (arith, i .includes-in .ensures, c .before .if1 .left))))
+    search-at w (omega (arith, i .includes-in .ensures, c .before .if1 .left)) (c .candidates-for .ensures w .0)
 
 returns-2 : tie.Need-returns-2
 returns-2 c w =
@@ -45,8 +43,8 @@ returns-2 c w =
     let i = d .before .before in
     let a = i .before .before .before .args in
     let some : 0 < includesIn (getD (a .mem .now) (a .p) 0) = omega (arith, i .includes-in .ensures, d .before .if1 .left) in
-    let candidates = d .candidates-for .ensures .0 (candidates-at w some) in
-    by-search w some candidates (d .candidates-for .ensures .1) (c .search .ensures (search-at w some candidates))
+    let candidates = d .candidates-for .ensures w in
+    by-search w some (candidates .0) (candidates .1) (c .search .ensures (search-at w some (candidates .0)))
 
 pub reach-spec : {M : Type 1} → statement M
 reach-spec =
