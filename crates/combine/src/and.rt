@@ -64,7 +64,7 @@ fn and_size(mem: &[u32], l: usize, r: usize) -> Built
 {
     let m = mem[l];
     let n = mem[r];
-    crate::sized(m * n, n * mem[l + 1] + m * mem[r + 1])
+    store::sized(m * n, n * mem[l + 1] + m * mem[r + 1])
 }
 
 // "for each of L": the product of the lists in the slots at l and r, in the slot at `at` above them.

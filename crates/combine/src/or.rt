@@ -12,7 +12,7 @@ pub fn or_list(mem: &mut [u32], l: usize, r: usize) -> Built
     requires { ⌜ l + slotSize ≤ r ⌝ }
     ensures { λ b. ⌜ ((w : TwoSlots (now (mem .entry)) l r) → Outcome (orList (w .lefts) (w .rights)) (now (mem .entry)) (now (mem .exit)) l b) ⌝ }
 {
-    let size = crate::sized(mem[l] + mem[r], mem[l + 1] + mem[r + 1]);
+    let size = store::sized(mem[l] + mem[r], mem[l + 1] + mem[r + 1]);
     let Built::Made { matches, strings } = size else {
         return size;
     };

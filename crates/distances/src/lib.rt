@@ -1,6 +1,6 @@
 // How far strings lie apart.
-use joining::lesser;
 use strings::end_of;
+use strings::numbers::lesser;
 use strings::start_of;
 ghost use mathlib.Core.Path.{_≡_};
 ghost use mathlib.Core.Bool.{_||_};

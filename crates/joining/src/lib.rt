@@ -2,39 +2,21 @@
 use strings::covering::run_covered;
 use strings::end_of;
 use strings::is_contiguous;
+use strings::numbers::greater;
+use strings::numbers::lesser;
 use strings::query_of;
 use strings::span_of;
 use strings::start_of;
 use strings::tag_of;
 ghost use mathlib.Core.Path.{_≡_};
 ghost use mathlib.Core.List.{List, [], _∷_, map};
-ghost use Prim.Native.Nat.{_<_, min, max};
+ghost use Prim.Native.Nat.{_<_};
 ghost use Rattle.model.specs.Answers.{spanOf, tagOf};
 ghost use Rattle.model.specs.Limits.{radix};
 ghost use Rattle.model.specs.Lists.{allOf};
 ghost use Rattle.model.specs.Matches.{Str};
 ghost use Rattle.model.specs.Rules.{greatestEnd, join, leastStart};
 ghost use Rattle.strings.specs.Strings.{strsAt};
-
-// The lesser of two numbers.
-pub fn lesser(a: u32, b: u32) -> u32
-    ensures { λ r. ⌜ r ≡ min a b ⌝ }
-{
-    if a <= b {
-        return a;
-    }
-    b
-}
-
-// The greater of two numbers.
-fn greater(a: u32, b: u32) -> u32
-    ensures { λ r. ⌜ r ≡ max a b ⌝ }
-{
-    if a <= b {
-        return b;
-    }
-    a
-}
 
 // "least start"
 pub fn least_start(strs: &[u32]) -> u32

@@ -12,7 +12,7 @@ use Rattle.store.specs.declared.Built.the-variants.{Made, TooLong}
 abbrev pub builtOf : List Match → Built
 builtOf ms = cond (tooLong ms) TooLong (Made (length ms) (strings ms))
 
--- the answer for a list of so many matches and strings: what builtOf says of a list is this of its sizes
+-- the same for a list of so many matches and strings
 abbrev pub sizedAs : ℕ → ℕ → Built
 sizedAs matches strs = cond (ltb maxMatches matches || ltb maxStrings strs) TooLong (Made matches strs)
 

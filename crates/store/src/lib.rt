@@ -1,5 +1,7 @@
 // Match lists in working memory. A list lies in a slot: its number of matches, its number of strings, then each match as a header and its strings.
 // Of nine slots eight are for the lists that wait, the first at 0; the ninth is to build in. Every function takes memory whole, with indices.
+use model::MAX_MATCHES;
+use model::MAX_STRINGS;
 use model::RADIX;
 ghost use mathlib.Core.Bool.{cond};
 ghost use mathlib.Core.List.{[], _∷_};
@@ -9,6 +11,7 @@ ghost use lib.Dec.{ltb};
 ghost use lib.ListN.{drop, length, take};
 ghost use lib.Seq.{sets};
 ghost use Rattle.model.specs.Limits.{maxMatches};
+ghost use Rattle.store.specs.Built.{sizedAs};
 ghost use Rattle.store.specs.Places.{Closing, Copy, CopyDown, CopyUp, Counts};
 ghost use Rattle.store.specs.Layout.{excludesIn, headerOf, includesIn, matchLength, slotLength, slotNumbers, slotSize};
 ghost use Rattle.store.specs.Outcome.{Closed};
@@ -25,6 +28,19 @@ pub enum Built {
     Made { matches: u32, strings: u32 },
     // it has over 256 matches or 512 strings
     TooLong,
+}
+
+// The answer for a list of so many matches and strings.
+pub fn sized(matches: u32, strings: u32) -> Built
+    ensures { λ r. ⌜ r ≡ sizedAs matches strings ⌝ }
+{
+    if MAX_MATCHES < matches {
+        return Built::TooLong;
+    }
+    if MAX_STRINGS < strings {
+        return Built::TooLong;
+    }
+    Built::Made { matches, strings }
 }
 
 // Copies n numbers to a place that they do not meet.

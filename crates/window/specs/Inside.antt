@@ -1,4 +1,4 @@
--- The strings of one sort in memory that lie inside a window, as they are counted and copied.
+-- The excludes of a match that lie inside a window, as they are copied.
 use Prim.Native.Nat.{ℕ, _+_, _*_, _≤_}
 use mathlib.Core.Bool.{cond}
 use mathlib.Core.List.{List, [], _∷_}

@@ -12,7 +12,7 @@ use Rattle.window.specs.Inside.{WindowSize}
 abbrev pub windowsAround : ℕ → ℕ → ℕ → ℕ
 windowsAround n start end = start + n - end
 
--- for each of the strings how many of them hold it, which is as many as there are around both: the sum
+-- how many windows hold each of the strings, summed: as many as there are around it and the join
 unfoldable pub timesInside : ℕ → ℕ → ℕ → List Str → ℕ
 timesInside n start end [] = 0
 timesInside n start end (s ∷ ss) = windowsAround n (min start (s .start)) (max end (s .end)) + timesInside n start end ss

@@ -1,9 +1,9 @@
 // How many matches and strings the windows of a list have, counted before any is written.
 use joining::join_span;
-use joining::lesser;
 use model::MAX_MATCHES;
-use model::MAX_STRINGS;
 use store::Built;
+use strings::numbers::greater;
+use strings::numbers::lesser;
 ghost use mathlib.Core.List.{flatMap, _++_};
 ghost use mathlib.Core.Path.{_≡_};
 ghost use Prim.Native.Nat.{_+_, _*_, _/_, _%_, _≤_, min, max};
@@ -22,22 +22,15 @@ pub fn count_around(n: u32, a: u32, b: u32) -> u32
     ensures { λ r. ⌜ r ≡ windowsAround n (min (a / radix) (b / radix)) (max (a % radix) (b % radix)) ⌝ }
 {
     let before = lesser(strings::start_of(a), strings::start_of(b)) + n;
-    let end = strings::end_of(a);
-    let last = strings::end_of(b);
+    let end = greater(strings::end_of(a), strings::end_of(b));
     if before <= end {
         return 0;
     }
-    if before <= last {
-        return 0;
-    }
-    if last <= end {
-        return before - end;
-    }
-    before - last
+    before - end
 }
 
-// How many strings of a part lie inside the windows around a join of this span, counted once for each window: so many times as there are windows around
-// both.
+// How often strings of a part lie inside the windows around a join of this span, summed over the windows: each as often as there are windows around it and
+// the join.
 fn count_inside(n: u32, span: u32, strs: &[u32]) -> u32
     requires { ⌜ WindowSize n ⌝ }
     requires { ⌜ windowsAround n (span / radix) (span % radix) ≤ maxMatches ⌝ }
@@ -54,7 +47,7 @@ fn count_inside(n: u32, span: u32, strs: &[u32]) -> u32
     count
 }
 
-// The sizes of a list of so many matches and strings with the windows around a join of this span and with these excludes behind it, or that they are too many.
+// The sizes of a list of so many matches and strings after the windows around a join of this span, with these excludes, are added, or that it is too long.
 fn size_around(n: u32, span: u32, excludes: &[u32], matches: u32, strings: u32) -> Built
     requires { ⌜ WindowSize n ⌝ }
     requires { ⌜ (matches ≤ maxMatches) × (strings ≤ maxStrings) ⌝ }
@@ -68,16 +61,10 @@ fn size_around(n: u32, span: u32, excludes: &[u32], matches: u32, strings: u32) 
         return Built::TooLong;
     }
     let more = windows + count_inside(n, span, excludes);
-    if MAX_STRINGS < strings + more {
-        return Built::TooLong;
-    }
-    Built::Made {
-        matches: matches + windows,
-        strings: strings + more,
-    }
+    store::sized(matches + windows, strings + more)
 }
 
-// The sizes with the windows of the match at p behind it: a match without includes adds none.
+// The sizes after the windows of the match at p are added; a match without includes adds none.
 fn size_with(mem: &[u32], n: u32, p: usize, matches: u32, strings: u32) -> Built
     requires { ⌜ SizeAt n (now mem) p matches strings ⌝ }
     ensures { λ r. ⌜ ((w : SizeAt n (now (mem .entry)) p matches strings) → r ≡ builtOf (w .list ++ window n (w .item))) ⌝ }
@@ -94,7 +81,7 @@ fn size_with(mem: &[u32], n: u32, p: usize, matches: u32, strings: u32) -> Built
     size_around(n, span, &mem[x..e], matches, strings)
 }
 
-// The sizes of the windows of the list in the slot at src, or that they are too many.
+// The sizes of the windows of the list in the slot at src, or that it is too long.
 pub fn window_size(mem: &[u32], n: u32, src: usize) -> Built
     requires { ⌜ WindowSize n ⌝ }
     requires { ⌜ SlotAt (now mem) src ⌝ }

@@ -1,11 +1,11 @@
--- The two tests of tooLong, in its order, on counts that are exact; each return knows how they went.
-use mathlib.Core.Path.{_≡_}
+-- The counts are exact. With too many matches the list is too long, whatever its strings are.
 use Prim.Native.Nat.{_/_, _%_}
-use borrow.Author.Tests.{lt-ltb, le-ltb}
 use Rattle.model.specs.Limits.{radix}
-use Rattle.window.specs.Sizes.{windowsAround}
 use Rattle.window.proofs.SizesLaws.{around-span}
+use Rattle.window.specs.Sizes.{windowsAround}
 use borrow.Author.Needs.{needs}
+use borrow.Author.Tests.{lt-ltb}
+use mathlib.Core.Path.{_≡_}
 use Rattle.window.proofs.sizes.size_around.Statement.{statement}
 use Rattle.window.proofs.sizes.size_around.Tie as tie
 
@@ -28,26 +28,19 @@ count-inside-requires c κs = search needs
 add-more : tie.Need-add-more
 add-more c = search needs
 
-add-if2 : tie.Need-add-if2
-add-if2 c = search needs
+add-sized : tie.Need-add-sized
+add-sized c = search needs
+
+add-sized-2 : tie.Need-add-sized-2
+add-sized-2 c = search needs
+
+sized-requires : tie.Need-sized-requires
+sized-requires c κs = search needs
 
 returns-2 : tie.Need-returns-2
 returns-2 c =
     let i = c .before in
-    let f = i .before in
-    rw (← counted (f .before), le-ltb _ _ (f .if1 .left), ← i .count-inside .ensures .0, lt-ltb _ _ (c .if2 .taken))
-
-add-t8 : tie.Need-add-t8
-add-t8 c = search needs
-
-add-t10 : tie.Need-add-t10
-add-t10 c = search needs
-
-returns-3 : tie.Need-returns-3
-returns-3 c =
-    let i = c .before in
-    let f = i .before in
-    rw (← counted (f .before), le-ltb _ _ (f .if1 .left), ← i .count-inside .ensures .0, le-ltb _ _ (c .if2 .left))
+    rw (← counted (i .before .before), ← i .count-inside .ensures .0) (c .sized .ensures)
 
 pub size-around-spec : {M : Type 1} → statement M
 size-around-spec =
@@ -58,8 +51,7 @@ size-around-spec =
     returns
     count-inside-requires
     add-more
-    add-if2
-    returns-2
-    add-t8
-    add-t10
-    returns-3)
+    add-sized
+    add-sized-2
+    sized-requires
+    returns-2)

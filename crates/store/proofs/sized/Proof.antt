@@ -1,7 +1,7 @@
 -- The two tests of tooLong, in its order; each return knows how they went.
 use borrow.Author.Tests.{lt-ltb, le-ltb}
-use Rattle.combine.proofs.sized.Statement.{statement}
-use Rattle.combine.proofs.sized.Tie as tie
+use Rattle.store.proofs.sized.Statement.{statement}
+use Rattle.store.proofs.sized.Tie as tie
 
 returns : tie.Need-returns
 returns c = simp (lt-ltb _ _ (c .if1 .taken))
