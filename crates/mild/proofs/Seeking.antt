@@ -11,6 +11,7 @@ use lib.ListN.{length, take, drop, getD}
 use Rattle.model.specs.Lists.{allOf, anyOf}
 use Rattle.model.specs.Matches.{Match}
 use Rattle.model.specs.Rules.{covered, keptIf, mildNotList, reachesBeyond}
+use Rattle.model.proofs.RulesLaws.{length-none}
 use Rattle.strings.specs.Strings.{strsAt}
 use Rattle.store.specs.declared.Built.{Built}
 use Rattle.store.specs.Each.{OneAt}
@@ -100,14 +101,10 @@ none-beyond l e (r ∷ rs) =
     let within : allOf (reachesBeyond l) (r ∷ rs) ≡ false = rw e in
     some ∙ sym within
 
-no-strings : {A : Type 0} (xs : List A) → length xs ≡ 0 → xs ≡ []
-no-strings [] e = refl
-no-strings (x ∷ xs) e = absurd (omega arith)
-
 module _ {mem : List ℕ} {p n r : ℕ} {known : Candidates} (w : CandidatesAt mem p n r known) where
   pub without-includes : {m : ℕ} {b : Bool} → m ≡ includesIn (getD mem p 0) → m ≡ 0 → b ≡ eqb (getD mem r 0) 0 → ReachedIs (w .item) (w .rights) mem r (record { beyond = b; candidates = known })
   without-includes e f g =
-      let none = no-strings (w .item .includes) (omega (arith, includes-held (w .held))) in
+      let none = length-none (w .item .includes) (omega (arith, includes-held (w .held))) in
       record { beyond = g ∙ ap (λ n. eqb n 0) (matches-held (w .slot)) ∙ none-beyond (w .item) none (w .rights); candidates = w .candidates }
 
   module _ (some : 0 < includesIn (getD mem p 0)) {candidates : Candidates} (g : CandidatesAre (w .rights) mem r candidates) where

@@ -35,8 +35,8 @@ pub fn find_beyond(lefts: &[u32], rights: &[u32]) -> Found
     Found::Nothing
 }
 
-// Does a string of this span cover a position? Its start isn't behind its end, so one comparison tells, of the position's distance from the start, which
-// wraps before it.
+// Does a string of this span cover a position? Its start isn't behind its end, so one comparison is enough: the position's distance from the start is at most
+// the end's. Before the start it wraps, and is greater than any.
 fn covers(span: u32, p: u32) -> bool
     requires { ⌜ span / radix ≤ span % radix ⌝ }
     ensures { λ r. ⌜ r ≡ covers (strOf span 0) p ⌝ }
@@ -72,9 +72,9 @@ fn cover_both(strs: &[u32], p: u32, q: u32) -> bool
     is_covered(strs, q)
 }
 
-// Passes the matches of R from the one at `from` on that have this header and whose includes don't cover both positions: the place of the first other match,
-// or the end. Matches with one header lie evenly, so that the place of the next doesn't wait for it.
-fn pass_alike(mem: &[u32], from: usize, end: usize, header: u32, p: u32, q: u32) -> usize
+// Skips the matches of R from the one at `from` on that have this header and whose includes don't cover both positions; gives the place of the first other
+// match, or the end. Equal headers mean equal lengths, so the place of the next match is known before its header is read.
+fn skip_alike(mem: &[u32], from: usize, end: usize, header: u32, p: u32, q: u32) -> usize
     requires { ⌜ RestAt (now mem) from end ⌝ }
     ensures { λ r. ⌜ from ≤ r ⌝ }
     ensures { λ r. ⌜ ((w : RestAt (now (mem .entry)) from end) → Passing (coverBoth p q) (w .todo) (now (mem .entry)) r end) ⌝ }
@@ -111,7 +111,7 @@ pub fn next_covering(mem: &[u32], from: usize, end: usize, p: u32, q: u32) -> us
             return at;
         }
         let next = at + store::match_length(header);
-        at = pass_alike(mem, next, end, header, p, q);
+        at = skip_alike(mem, next, end, header, p, q);
     }
     at
 }

@@ -29,7 +29,7 @@ unfolding flatMap
 flatMap-map f g [] = refl
 flatMap-map f g (x ∷ xs) = ap (λ ys. f (g x) ++ ys) (flatMap-map f g xs)
 
-length-none : {A : Type 0} (xs : List A) → length xs ≡ 0 → xs ≡ []
+pub length-none : {A : Type 0} (xs : List A) → length xs ≡ 0 → xs ≡ []
 length-none [] h = refl
 length-none (x ∷ xs) h = absurd (omega arith)
 

@@ -1,21 +1,20 @@
 -- One turn of each loop over the codes of a selection: what is left gives the same.
 use Prim.Native.Nat.{ℕ, zero, suc, _+_, _-_, _≤_, _<_}
 use native.Mathlib.Omega.{arith}
-use native.Mathlib.Numerals.{add-one}
 use mathlib.Core.Path.{_≡_, refl, sym, ap, ap₂, _∙_}
 use mathlib.Core.Bool.{Bool, true, false, _||_, or-false}
-use mathlib.Core.List.{List, [], _∷_, _++_}
+use mathlib.Core.List.{[], _∷_}
 use mathlib.Core.Option.{Option, some, none}
 use lib.ListN.{drop}
 use borrow.Author.Tests.{eq-eqb, ne-eqb}
 use Rattle.model.specs.declared.Code.{Code}
 use Rattle.model.specs.Lists.{anyOf}
-use Rattle.model.specs.Parts.{isNotCode, stops, needs, back, partStart}
+use Rattle.model.specs.Parts.{isNotCode, stops, needs, back}
 use Rattle.model.specs.Selection.{upTo}
-use Rattle.model.specs.Waiting.{fits, listsBehind, wordsBehind, atRest, breakFrom}
+use Rattle.model.specs.Waiting.{fits, listsBehind, wordsBehind, breakFrom}
 use Rattle.model.proofs.ListsLaws.{any-append}
-use Rattle.model.proofs.PartsLaws.{back-none, back-stop, back-on, needs-le}
-use Rattle.model.proofs.WaitingLaws.{break-here, break-on, break-end, lists-le, words-le}
+use Rattle.model.proofs.PartsLaws.{back-none, back-stop, back-on}
+use Rattle.model.proofs.WaitingLaws.{break-here, break-on, break-end}
 
 -- ---- the waiting rule
 

@@ -3,15 +3,15 @@
 use Prim.Native.Nat.{ℕ, suc, _+_, _-_, _≤_, _<_}
 use native.Mathlib.Omega.{arith}
 use native.Mathlib.Numerals.{add-one}
-use mathlib.Core.Path.{_≡_, refl, sym, ap, ap₂, _∙_}
-use mathlib.Core.Bool.{Bool, true, false, _&&_, _||_, or-false}
+use mathlib.Core.Path.{_≡_, refl, sym, ap, _∙_}
+use mathlib.Core.Bool.{true, false, _&&_, or-false}
 use mathlib.Core.List.{List, [], _∷_, _++_}
 use mathlib.Core.Logic.{_⊎_, inl, inr, ⊎-elim}
 use mathlib.Core.Option.{Option, some, none, Option·map, orElse, map-eq-none-iff, Option·none-ne-some}
 use Rattle.model.specs.declared.Code.{Code}
 use Rattle.model.specs.declared.Code.the-variants.{Word, Phrase, Combine, Not, Filter}
 use Rattle.model.specs.declared.Pair.the-variants.{Or, And, MildNot}
-use Rattle.model.specs.Checks.{isNot, hasNot, mildOverNot, notUnderMildNot}
+use Rattle.model.specs.Checks.{isNot, mildOverNot, notUnderMildNot}
 use Rattle.model.specs.Lists.{anyOf, first}
 use Rattle.model.specs.Parts.{isNotCode, postfix, fitsAll, wellFormed, headOf, newest, waitingParts, PartAt, partStart}
 use Rattle.model.specs.Section.{size}

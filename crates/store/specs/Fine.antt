@@ -1,5 +1,5 @@
 -- What every string in memory has: a span within the longest section, and a query position among the most phrases that a selection can have.
-use Prim.Native.Nat.{ℕ, _≤_}
+use Prim.Native.Nat.{_≤_}
 use Rattle.model.specs.Accepted.{maxPhrases}
 use Rattle.model.specs.Limits.{maxTokens}
 use Rattle.model.specs.Matches.{Str}

@@ -15,6 +15,7 @@ use Rattle.model.specs.Limits.{radix}
 use Rattle.model.specs.Lists.{keep}
 use Rattle.model.specs.Matches.{Str}
 use Rattle.model.specs.Rules.{insideWindow}
+use Rattle.model.proofs.RulesLaws.{length-none}
 use Rattle.strings.specs.Strings.{strOf, strsOf}
 use Rattle.store.specs.Fine.{Fine}
 use Rattle.store.specs.Layout.{Holds}
@@ -57,10 +58,6 @@ module _ {n last : ℕ} {mem : List ℕ} {i q : ℕ} (w : StringAt n last mem i 
   one-room f = subst (λ t. q + length (cond t (span ∷ tag ∷ []) []) ≤ length mem) (sym e ∙ f) (w .room)
 
 -- ---- copying
-
-pub no-strings : (ss : List Str) → length ss ≡ 0 → ss ≡ []
-no-strings [] h = refl
-no-strings (s ∷ ss) h = absurd (omega arith)
 
 -- the numbers of one string, or none
 abbrev rowOf : ℕ → ℕ → Str → List ℕ
@@ -142,4 +139,4 @@ module _ {n last : ℕ} {mem₀ : List ℕ} {a e q : ℕ} (w : ExcludesAt n last
         }
 
   pub copy-end : e ≤ i → Put mem₀ mem q (strsOf 1 (keep (insideWindow n last) (w .list))) next
-  copy-end h = subst (λ xs. Put mem₀ mem q xs next) (rows-inside n last (w .list)) (rows-finish (g .rows) (no-strings (g .todo) (omega (arith, g .end-is))))
+  copy-end h = subst (λ xs. Put mem₀ mem q xs next) (rows-inside n last (w .list)) (rows-finish (g .rows) (length-none (g .todo) (omega (arith, g .end-is))))

@@ -12,14 +12,13 @@ use Rattle.model.specs.Lists.{fromTo}
 use Rattle.model.specs.Matches.{Match, Str}
 use Rattle.model.specs.Rules.{greatestEnd, join, leastStart, window, windowEnds}
 use Rattle.model.proofs.EveryLaws.{every-weaker}
-use Rattle.model.proofs.RulesLaws.{greatestEnd-bound, window-none}
+use Rattle.model.proofs.RulesLaws.{length-none, greatestEnd-bound, window-none}
 use Rattle.strings.specs.Strings.{strsAt, strsOf}
 use Rattle.joining.proofs.JoiningLaws.{strsOf-join}
 use Rattle.store.specs.Fine.{Fine}
 use Rattle.store.specs.Layout.{includesIn}
 use Rattle.store.specs.Stream.{MatchHolds}
 use Rattle.store.proofs.Back.{includes-held, includes-read}
-use Rattle.window.proofs.InsideLaws.{no-strings}
 
 -- what a function f of strings gives of their join is x, if there are any
 abbrev pub Gives : (Str → ℕ) → List Str → ℕ → Type 0
@@ -50,7 +49,7 @@ length-join-some (s ∷ ss) h = refl
 -- a match at p, its includes counted
 module _ {mem : List ℕ} {p : ℕ} {m : Match} (r : MatchHolds mem p m) {i : ℕ} (e : i ≡ includesIn (getD mem p 0)) where
   pub window-dropped : (n : ℕ) → i ≡ 0 → window n m ≡ []
-  window-dropped n z = window-none n m (no-strings (m .includes) (sym (includes-held r) ∙ sym e ∙ z))
+  window-dropped n z = window-none n m (length-none (m .includes) (sym (includes-held r) ∙ sym e ∙ z))
 
   -- .. and some
   module _ (some : i ≡ 0 → ⊥) where

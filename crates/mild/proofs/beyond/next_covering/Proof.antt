@@ -1,5 +1,5 @@
 -- Invariant: from `at` on the list goes on from its first match that covers both as the whole does. Measure: the numbers left. The part lent is the
--- includes of the match in hand; those of the same header after it are passed together.
+-- includes of the match in hand; those of the same header after it are skipped together.
 use Prim.Native.Nat.{_+_, _-_, _≤_}
 use native.Mathlib.Omega.{arith}
 use Rattle.store.specs.Stream.{Header}
@@ -74,8 +74,8 @@ match-length-requires c κs = search needs
 add-next : tie.Need-add-next Inv-loop μ-loop
 add-next c = omega (arith, one (c .before .before .before .before .before .before), c .match-length .ensures)
 
-pass-alike-requires : tie.Need-pass-alike-requires Inv-loop μ-loop
-pass-alike-requires c κs = let e = c .before in
+skip-alike-requires : tie.Need-skip-alike-requires Inv-loop μ-loop
+skip-alike-requires c κs = let e = c .before in
     let b = e .before in
     let x = b .before .before in
     let t = x .before .before in
@@ -96,8 +96,8 @@ loop-again c = let m = c .before in
     let l = t .before in
     let size = x .includes-in .ensures in
     let long = m .match-length .ensures in (
-      omega (arith, c .pass-alike .ensures .0, l .loop .inv .0, long),
-      λ w. let later = passing-later (l .loop .inv .1 w) (t .loop-test .taken) (omega (arith, size)) (b .cover-both .ensures) (e .if1 .left) {next = l .loop .at + m .match-length .result} (omega (arith, long)) in passing-trans later (c .pass-alike .ensures .1 (passing-rest later)),
+      omega (arith, c .skip-alike .ensures .0, l .loop .inv .0, long),
+      λ w. let later = passing-later (l .loop .inv .1 w) (t .loop-test .taken) (omega (arith, size)) (b .cover-both .ensures) (e .if1 .left) {next = l .loop .at + m .match-length .result} (omega (arith, long)) in passing-trans later (c .skip-alike .ensures .1 (passing-rest later)),
     )
 
 returns-2 : tie.Need-returns-2 Inv-loop μ-loop
@@ -124,7 +124,7 @@ next-covering-spec =
     returns
     match-length-requires
     add-next
-    pass-alike-requires
+    skip-alike-requires
     loop-less
     loop-again
     returns-2)

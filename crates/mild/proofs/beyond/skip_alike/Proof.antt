@@ -1,4 +1,4 @@
--- Invariant: what is left from `at` on decides from where on both positions are covered. Measure: the numbers left. All matches passed have one header.
+-- Invariant: what is left from `at` on decides from where on both positions are covered. Measure: the numbers left. All matches skipped have one header.
 use Prim.Native.Nat.{_-_, _≤_}
 use native.Mathlib.Omega.{arith}
 use Rattle.store.specs.Stream.{Header}
@@ -6,8 +6,8 @@ use Rattle.mild.specs.Beyond.{coverBoth}
 use Rattle.candidates.specs.Rest.{Passing, RestAt}
 use Rattle.candidates.proofs.RestLaws.{rest-next, rest-fine, passing-start, passing-later}
 use borrow.Author.Needs.{needs}
-use Rattle.mild.proofs.beyond.pass_alike.Statement.{statement}
-use Rattle.mild.proofs.beyond.pass_alike.Tie as tie
+use Rattle.mild.proofs.beyond.skip_alike.Statement.{statement}
+use Rattle.mild.proofs.beyond.skip_alike.Tie as tie
 
 abbrev Inv-loop : tie.InvT-loop
 Inv-loop mem from end header p q size length at₀ at = (from ≤ at) × ((w : RestAt mem from end) → Passing (coverBoth p q) (w .todo) mem at end)
@@ -89,8 +89,8 @@ loop-again c = let b = c .before in
 returns-3 : tie.Need-returns-3 Inv-loop μ-loop
 returns-3 c = search needs
 
-pub pass-alike-spec : {M : Type 1} → statement M
-pass-alike-spec =
+pub skip-alike-spec : {M : Type 1} → statement M
+skip-alike-spec =
     tie.close
     (tie.spec
     Inv-loop
