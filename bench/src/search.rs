@@ -44,6 +44,7 @@ fn beginnings() -> Vec<Input> {
     add("1 2*256 3*256", format!("1 2 and {}", "1 3 and mild ".repeat(9)));
     add("1 2 3*170 4*256", format!("1-2 4 and {}", "2 1 and 3 and mild ".repeat(6)));
     add("1 2 3 4 5*102 6*256", format!("1-2-3-4 6 and {}", "4 3 and 2 and 1 and 5 and mild ".repeat(3)));
+    add("1 2", format!("1-2 window:257 1 and {}", "1 window:256 mild ".repeat(14)));
     add("1 2 3", format!("1-2-3 window:258 {}", "1 window:256 3 and mild ".repeat(8)));
     add("1 3 2*170 4*170", format!("1 2 and 3 and {}", "1 4 and 3 and mild ".repeat(5)));
     add(&format!("1 2 4 5 6 7 8 {}", "3 20 3 21 3 22 3 23 ".repeat(15)), eight_words());
