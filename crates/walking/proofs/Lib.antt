@@ -1,2 +1,3 @@
 pub mod PartsLaws
+pub mod AnswersLaws
 pub mod WalkingLaws

@@ -24,12 +24,13 @@ use Rattle.model.specs.Selection.{codeAt, upTo}
 use Rattle.model.specs.Trees.{Tree, phrase, pair, negation, filter, parts}
 use Rattle.model.specs.Walk.{firstTooLong, unlessTooLong, build, turned, orWalk, andWalk, walk, says, built, reached}
 use Rattle.model.proofs.PartsLaws.{PairAt, WrapAt, pair-at, negation-at, filter-at, phrase-at, word-at, part-some, part-length}
+use Rattle.model.proofs.TestsLaws.{false-true}
 use Rattle.model.proofs.SelectionLaws.{length-upTo, upTo-front, ends}
 use Rattle.model.proofs.TreesLaws.{heads-le, length-parts}
 use Rattle.model.proofs.WalkLaws.{walk-is, length-reached}
 use Rattle.selection.specs.Phrases.{phraseWords}
 use Rattle.building.proofs.WordsLaws.{Loose, phrase-words, one-behind}
-use Rattle.walking.specs.Steps.{isMildNot, decides, counted, joined, codesIn}
+use Rattle.walking.specs.Steps.{isMildNot, decides, codesIn, passedUp}
 use Rattle.walking.specs.Walkable.{Walkable}
 
 -- ---- counts
@@ -38,38 +39,72 @@ codes-unless : (f : Option ℕ) (b : Bool) (n : ℕ) → codesIn (unlessTooLong 
 codes-unless none b n = omega arith
 codes-unless (some c) b n = omega arith
 
--- a part's walk counts at most the selection's codes
-pub codes-few : {section sel mem : List ℕ} {hi : ℕ} (w : Walkable section sel mem hi) (s : Section) {r : Quick} → r ≡ walk s (w .part .tree) → codesIn r ≤ maxCodes
-codes-few {section} {sel} {mem} {hi} w s {r} e =
-    let t = w .part .tree in
+-- a part's walk counts at most its codes
+pub codes-few : (s : Section) (t : Tree) → codesIn (walk s t) ≤ length (postfix t)
+codes-few s t =
     let counts = codes-unless (firstTooLong s (built s t)) (says s t) (length (reached s t)) in
-    omega (arith, ap codesIn (e ∙ walk-is s t), counts, length-reached s t, length-parts t, heads-le (postfix t), part-length (codeAt sel) hi (w .part), w .up-to, w .in-selection .few)
+    omega (arith, ap codesIn (walk-is s t), counts, length-reached s t, length-parts t, heads-le (postfix t))
 
--- ---- a combination's steps
+-- ---- passedUp
 
-pub or-steps : (l r : Quick) → orWalk l r ≡ cond (decides Or l) (counted l) (joined l r)
-or-steps (Answered true n) r = refl
-or-steps (Answered false n) (Answered b k) = refl
-or-steps (Answered false n) (Refused number place) = refl
-or-steps (Refused number place) r = refl
+pub passed-whole : (q : Quick) → passedUp false 0 q ≡ q
+passed-whole (Answered true n) = ap (Answered true) (omega arith)
+passed-whole (Answered false n) = ap (Answered false) (omega arith)
+passed-whole (Refused number place) = refl
 
-pub and-steps : (l r : Quick) → andWalk l r ≡ cond (decides And l) (counted l) (joined l r)
-and-steps (Answered false n) r = refl
-and-steps (Answered true n) (Answered b k) = refl
-and-steps (Answered true n) (Refused number place) = refl
-and-steps (Refused number place) r = refl
+-- through a not
+passed-turned : (b : Bool) (n : ℕ) (q : Quick) → passedUp b n (turned q) ≡ passedUp (not b) (n + 1) q
+passed-turned true n (Answered true k) = ap (Answered true) (omega arith)
+passed-turned true n (Answered false k) = ap (Answered false) (omega arith)
+passed-turned false n (Answered true k) = ap (Answered false) (omega arith)
+passed-turned false n (Answered false k) = ap (Answered true) (omega arith)
+passed-turned b n (Refused number place) = refl
 
-pair-steps : (s : Section) (k : Pair) (c : ℕ) (t u : Tree) → isMildNot k ≡ false
-    → walk s (pair k c t u) ≡ cond (decides k (walk s t)) (counted (walk s t)) (joined (walk s t) (walk s u))
-unfolding walk
-pair-steps s Or c t u e = or-steps (walk s t) (walk s u)
-pair-steps s And c t u e = and-steps (walk s t) (walk s u)
-pair-steps s MildNot c t u e = let z : _≡_ {A = ℕ} 0 1 = cc in absurd (omega arith)
+-- ---- a combination
+
+module _ (b : Bool) (n : ℕ) where
+  or-decided : (l r : Quick) → decides Or l ≡ true → passedUp b n (orWalk l r) ≡ passedUp b (n + 1) l
+  or-decided (Answered true k) r e = ap (Answered (cond b false true)) (omega arith)
+  or-decided (Answered false k) r e = false-true e
+  or-decided (Refused number place) r e = refl
+
+  and-decided : (l r : Quick) → decides And l ≡ true → passedUp b n (andWalk l r) ≡ passedUp b (n + 1) l
+  and-decided (Answered false k) r e = ap (Answered (cond b true false)) (omega arith)
+  and-decided (Answered true k) r e = false-true e
+  and-decided (Refused number place) r e = refl
+
+  or-undecided : (l r : Quick) → decides Or l ≡ false → passedUp b n (orWalk l r) ≡ passedUp b (n + 1 + codesIn l) r
+  or-undecided (Answered false k) (Answered y j) e = ap (Answered (cond b (not y) y)) (omega arith)
+  or-undecided (Answered false k) (Refused number place) e = refl
+  or-undecided (Answered true k) r e = false-true (sym e)
+  or-undecided (Refused number place) r e = false-true (sym e)
+
+  and-undecided : (l r : Quick) → decides And l ≡ false → passedUp b n (andWalk l r) ≡ passedUp b (n + 1 + codesIn l) r
+  and-undecided (Answered true k) (Answered y j) e = ap (Answered (cond b (not y) y)) (omega arith)
+  and-undecided (Answered true k) (Refused number place) e = refl
+  and-undecided (Answered false k) r e = false-true (sym e)
+  and-undecided (Refused number place) r e = false-true (sym e)
+
+  module _ (s : Section) (c : ℕ) (t u : Tree) where
+    -- the left side decides: its answer, and one code more
+    pair-decided : (k : Pair) → isMildNot k ≡ false → decides k (walk s t) ≡ true → passedUp b n (walk s (pair k c t u)) ≡ passedUp b (n + 1) (walk s t)
+    unfolding walk
+    pair-decided Or e d = or-decided (walk s t) (walk s u) d
+    pair-decided And e d = and-decided (walk s t) (walk s u) d
+    pair-decided MildNot e d = false-true (sym e)
+
+    -- it does not: the right side's answer, with the left side's codes and one more
+    pair-undecided : (k : Pair) → isMildNot k ≡ false → decides k (walk s t) ≡ false
+        → passedUp b n (walk s (pair k c t u)) ≡ passedUp b (n + 1 + codesIn (walk s t)) (walk s u)
+    unfolding walk
+    pair-undecided Or e d = or-undecided (walk s t) (walk s u) d
+    pair-undecided And e d = and-undecided (walk s t) (walk s u) d
+    pair-undecided MildNot e d = false-true (sym e)
 
 mild-builds : (s : Section) (k : Pair) (c : ℕ) (t u : Tree) → isMildNot k ≡ true → walk s (pair k c t u) ≡ build s (pair k c t u)
 unfolding walk
-mild-builds s Or c t u e = let z : _≡_ {A = ℕ} 0 1 = cc in absurd (omega arith)
-mild-builds s And c t u e = let z : _≡_ {A = ℕ} 0 1 = cc in absurd (omega arith)
+mild-builds s Or c t u e = false-true e
+mild-builds s And c t u e = false-true e
 mild-builds s MildNot c t u e = refl
 
 -- ---- a phrase's words
@@ -141,15 +176,6 @@ module _ {section sel mem : List ℕ} {hi : ℕ} (w : Walkable section sel mem h
       ∙ ap (λ (l : List ℕ). Answered (not (isEmpty (phraseList (sectionOf section) (rankAfter (w .part .below)) l))) 1) (ws ∙ found)
       ∙ ap (walk (sectionOf section)) (sym (p .is))
 
-  -- a not
-  abbrev pub wrapped : {code : Code} → code ≡ codeAt sel hi → code ≡ Not → WrapAt (codeAt sel) hi (negation hi) (w .part .tree)
-  wrapped e c = negation-at (codeAt sel) hi (w .part) (sym e ∙ c)
-
-  pub not-walks : (p : WrapAt (codeAt sel) hi (negation hi) (w .part .tree)) {r : Quick} → r ≡ walk (sectionOf section) (p .under .tree)
-      → turned r ≡ walk (sectionOf section) (w .part .tree)
-  unfolding walk
-  not-walks p e = ap turned e ∙ ap (walk (sectionOf section)) (sym (p .is))
-
   -- a filter
   pub filter-walks : {code : Code} {f : Filter} → code ≡ codeAt sel hi → code ≡ Filtered f
       → build (sectionOf section) (w .part .tree) ≡ walk (sectionOf section) (w .part .tree)
@@ -167,14 +193,74 @@ module _ {section sel mem : List ℕ} {hi : ℕ} (w : Walkable section sel mem h
       let p = sides {mid = partStart (codeAt sel) (hi - 1)} e c refl in
       rw (p .is) (sym (mild-builds (sectionOf section) k hi (p .left .tree) (p .right .tree) m))
 
-  module _ {k : Pair} {mid : ℕ} (p : PairAt (codeAt sel) hi mid k (w .part .tree)) (plain : isMildNot k ≡ false) {l : Quick}
-      (left : l ≡ walk (sectionOf section) (p .left .tree)) where
-    steps-are : walk (sectionOf section) (w .part .tree) ≡ cond (decides k l) (counted l) (joined l (walk (sectionOf section) (p .right .tree)))
-    steps-are = rw (p .is, left) (pair-steps (sectionOf section) k hi (p .left .tree) (p .right .tree) plain)
+-- ---- the loop: from a part to what is under its not, or to its right side
 
-    pub left-decides : decides k l ≡ true → counted l ≡ walk (sectionOf section) (w .part .tree)
-    left-decides d = sym (steps-are ∙ ap (λ (b : Bool). cond b (counted l) (joined l (walk (sectionOf section) (p .right .tree)))) d)
+-- The walk of the whole part is that of the part in hand, passed up.
+pub record Going (section sel : List ℕ) (hi : ℕ) (whole : Tree) (mem : List ℕ) (place : ℕ) (turned : Bool) (codes : ℕ) : Type 0 where
+  pub here : Walkable section sel mem place
+  pub up-to : place ≤ hi
+  pub few : codes + length (postfix (here .part .tree)) ≤ maxCodes
+  pub same : passedUp turned codes (walk (sectionOf section) (here .part .tree)) ≡ walk (sectionOf section) whole
 
-    pub right-decides : {r : Quick} → decides k l ≡ false → r ≡ walk (sectionOf section) (p .right .tree) → joined l r ≡ walk (sectionOf section) (w .part .tree)
-    right-decides {r} d e =
-        ap (joined l) e ∙ sym (steps-are ∙ ap (λ (b : Bool). cond b (counted l) (joined l (walk (sectionOf section) (p .right .tree)))) d)
+pub start : {section sel mem : List ℕ} {hi : ℕ} (w : Walkable section sel mem hi) → Going section sel hi (w .part .tree) mem hi false 0
+start {section} {sel} {mem} {hi} w = record {
+  here = w;
+  up-to = omega arith;
+  few = omega (arith, part-length (codeAt sel) hi (w .part), w .up-to, w .in-selection .few);
+  same = passed-whole (walk (sectionOf section) (w .part .tree));
+}
+
+module _ {section sel mem : List ℕ} {hi : ℕ} {whole : Tree} {place : ℕ} {b : Bool} {n : ℕ} (g : Going section sel hi whole mem place b n) where
+  abbrev tree : Tree
+  tree = g .here .part .tree
+
+  -- an answer of the part in hand
+  pub passes : {q : Quick} → q ≡ walk (sectionOf section) tree → passedUp b n q ≡ walk (sectionOf section) whole
+  passes e = ap (passedUp b n) e ∙ g .same
+
+  pub passes-few : {q : Quick} → q ≡ walk (sectionOf section) tree → codesIn q + n ≤ maxCodes
+  passes-few e = omega (arith, ap codesIn e, codes-few (sectionOf section) tree, g .few)
+
+  -- under a not
+  pub under-not : {code : Code} → code ≡ codeAt sel place → code ≡ Not → Going section sel hi whole mem (place - 1) (not b) (n + 1)
+  unfolding walk postfix
+  under-not {code} e c =
+      let p = negation-at (codeAt sel) place (g .here .part) (sym e ∙ c) in
+      let t = p .under .tree in
+      record {
+        here = below mem (g .here) (p .under) (omega arith) refl;
+        up-to = omega (arith, g .up-to);
+        few = omega (arith, ap (λ (x : Tree). length (postfix x)) (p .is), length-append (postfix t) (Not ∷ []), g .few);
+        same = sym (passed-turned b n (walk (sectionOf section) t)) ∙ ap (λ (x : Tree). passedUp b n (walk (sectionOf section) x)) (sym (p .is)) ∙ g .same;
+      }
+
+  module _ {k : Pair} {mid : ℕ} (p : PairAt (codeAt sel) place mid k tree) (plain : isMildNot k ≡ false) where
+    sizes : length (postfix tree) ≡ length (postfix (p .left .tree)) + length (postfix (p .right .tree)) + 1
+    unfolding postfix
+    sizes =
+        let l = postfix (p .left .tree) in
+        let r = postfix (p .right .tree) in
+        omega (arith, ap (λ (x : Tree). length (postfix x)) (p .is), length-append (l ++ r) (Combine k ∷ []), length-append l r)
+
+    module _ {l : Quick} (left : l ≡ walk (sectionOf section) (p .left .tree)) where
+      -- the left side decides
+      pub left-decides : decides k l ≡ true → passedUp b (n + 1) l ≡ walk (sectionOf section) whole
+      left-decides d =
+          rw left (sym (pair-decided b n (sectionOf section) place (p .left .tree) (p .right .tree) k plain (ap (decides k) (sym left) ∙ d)))
+          ∙ ap (λ (x : Tree). passedUp b n (walk (sectionOf section) x)) (sym (p .is))
+          ∙ g .same
+
+      pub left-few : codesIn l + (n + 1) ≤ maxCodes
+      left-few = omega (arith, ap codesIn left, codes-few (sectionOf section) (p .left .tree), sizes, g .few)
+
+      -- it does not
+      pub right-side : decides k l ≡ false → (mem' : List ℕ) → length mem' ≡ length mem → Going section sel hi whole mem' (place - 1) b (n + 1 + codesIn l)
+      right-side d mem' same-length = record {
+        here = below mem' (g .here) (p .right) (omega arith) same-length;
+        up-to = omega (arith, g .up-to);
+        few = omega (arith, ap codesIn left, codes-few (sectionOf section) (p .left .tree), sizes, g .few);
+        same =
+            rw left (sym (pair-undecided b n (sectionOf section) place (p .left .tree) (p .right .tree) k plain (ap (decides k) (sym left) ∙ d)))
+            ∙ ap (λ (x : Tree). passedUp b n (walk (sectionOf section) x)) (sym (p .is))
+            ∙ g .same;
+      }

@@ -1,10 +1,16 @@
--- The steps of the walk at a combination, as functions of its sides' answers. That they make document 01's walk is proved.
-use Prim.Native.Nat.{ℕ, _+_}
-use mathlib.Core.Bool.{Bool, true, false, not}
+-- The steps of the walk: an answer as the number that the code keeps it in, and what a code makes of its sides' answers. That they make document 01's
+-- walk is proved.
+use Prim.Native.Nat.{ℕ, _+_, _/_, _%_}
+use mathlib.Core.Bool.{Bool, true, false, not, cond}
+use lib.Dec.{leb, eqb}
 use Rattle.model.specs.declared.Pair.{Pair}
 use Rattle.model.specs.declared.Pair.the-variants.{Or, And, MildNot}
 use Rattle.model.specs.declared.Quick.{Quick}
 use Rattle.model.specs.declared.Quick.the-variants.{Answered, Refused}
+
+-- The answer that a number tells: from 2^33 on refusal 9, the only one of a walk, with its place; below it the codes, twice, and one more for yes.
+abbrev pub answerOf : ℕ → Quick
+answerOf a = cond (leb 8589934592 a) (Refused 9 (a % 4294967296)) (Answered (eqb (a % 2) 1) (a / 2))
 
 abbrev pub isMildNot : Pair → Bool
 isMildNot Or = false
@@ -18,18 +24,12 @@ decides And (Answered answer n) = not answer
 decides MildNot (Answered answer n) = true
 decides k (Refused number place) = true
 
--- the left side's answer, and one code more
-abbrev pub counted : Quick → Quick
-counted (Answered answer n) = Answered answer (n + 1)
-counted (Refused number place) = Refused number place
-
--- the right side's answer, both sides' codes, and one more
-abbrev pub joined : Quick → Quick → Quick
-joined (Answered l n) (Answered answer k) = Answered answer (n + k + 1)
-joined (Answered l n) (Refused number place) = Refused number place
-joined (Refused number place) right = Refused number place
-
 -- the codes that an answer counts
 abbrev pub codesIn : Quick → ℕ
 codesIn (Answered answer n) = n
 codesIn (Refused number place) = 0
+
+-- The answer of a part as that of a part above it: turned round or not, and with the codes walked besides.
+abbrev pub passedUp : Bool → ℕ → Quick → Quick
+passedUp turned more (Answered answer n) = Answered (cond turned (not answer) answer) (n + more)
+passedUp turned more (Refused number place) = Refused number place

@@ -1,20 +1,16 @@
 // The quick answer's walk, from the last code of a part.
-mod steps; // what a code makes of its sides' answers
+mod answers; // a part's answer in one number, and what a code makes of its sides' answers
 
 use building::Part;
 use model::Code;
 use model::Quick;
-ghost use mathlib.Core.Bool.{not};
 ghost use mathlib.Core.Path.{_≡_};
-ghost use Prim.Native.Nat.{ℕ, _+_, _≤_};
-ghost use Rattle.model.specs.Accepted.{AcceptedSection};
-ghost use Rattle.model.specs.declared.Quick.the-variants.{Answered};
-ghost use Rattle.model.specs.Lists.{isEmpty};
+ghost use Prim.Native.Nat.{_+_, _≤_};
 ghost use Rattle.model.specs.Parts.{heads, headOf};
-ghost use Rattle.model.specs.Rules.{phraseList};
 ghost use Rattle.model.specs.Section.{sectionOf};
 ghost use Rattle.model.specs.Selection.{codeAt, upTo};
 ghost use Rattle.model.specs.Walk.{build as buildOf, walk as walkOf};
+ghost use Rattle.walking.specs.Steps.{answerOf};
 ghost use Rattle.walking.specs.Walkable.{Walkable};
 
 // One for every code other than a word.
@@ -46,28 +42,68 @@ fn count_codes(selection: &[u32], lo: u32, hi: u32) -> u32
 }
 
 // "At kinds 5 to 15 it builds that code's whole part by the rules above, left to right, and looks for a match without excludes."
-fn build_part(section: &[u32], selection: &[u32], work: &mut [u32], hi: u32) -> Quick
+fn build_part(section: &[u32], selection: &[u32], work: &mut [u32], hi: u32) -> u64
     requires { ⌜ Walkable (now section) (now selection) (now work) hi ⌝ }
-    ensures { λ r. ⌜ ((w : Walkable (now (section .entry)) (now (selection .entry)) (now (work .entry)) hi) → r ≡ buildOf (sectionOf (now (section .entry))) (w .part .tree)) ⌝ }
+    ensures { λ r. ⌜ ((w : Walkable (now (section .entry)) (now (selection .entry)) (now (work .entry)) hi) → answerOf r ≡ buildOf (sectionOf (now (section .entry))) (w .part .tree)) ⌝ }
 {
     let lo = selection::parts::part_start(selection, hi);
     let before = selection::parts::rank_at(selection, lo);
     let part = building::build(section, selection, work, lo, hi, before + 1);
     if let Part::TooLong { place } = part {
-        return Quick::Refused { number: 9, place };
+        return answers::too_long(place);
     }
     let yes = output::is_yes(work, 0);
     let codes = count_codes(selection, lo, hi);
-    Quick::Answered { yes, codes }
+    answers::answered(yes, codes)
 }
 
-// "a phrase is yes if its list isn't empty": it stops at the first find.
-fn walk_phrase(section: &[u32], words: &[u32]) -> Quick
-    requires { ⌜ AcceptedSection (now section) ⌝ }
-    ensures { λ r. ⌜ ((rank : ℕ) → r ≡ Answered (not (isEmpty (phraseList (sectionOf (now (section .entry))) rank (now (words .entry))))) 1) ⌝ }
+// The walk of the part that ends at hi. What is under a not, and the right side of an or or an and, is gone on with in the loop: its answer is the
+// part's own, turned round by each not, with the codes walked so far. So only left sides are walked by recursion.
+fn walk_part(section: &[u32], selection: &[u32], work: &mut [u32], hi: u32) -> u64
+    requires { ⌜ Walkable (now section) (now selection) (now work) hi ⌝ }
+    ensures { λ r. ⌜ ((w : Walkable (now (section .entry)) (now (selection .entry)) (now (work .entry)) hi) → answerOf r ≡ walkOf (sectionOf (now (section .entry))) (w .part .tree)) ⌝ }
 {
-    let yes = combine::phrase::is_found(section, words);
-    Quick::Answered { yes, codes: 1 }
+    let mut place = hi;
+    let mut turned = false;
+    let mut codes: u32 = 0;
+    loop {
+        let code = codes::code_at(selection, place);
+        match code {
+            // "a phrase is yes if its list isn't empty": it stops at the first find
+            Code::Phrase(_) => {
+                let words = selection::parts::phrase_words(selection, place);
+                let found = combine::phrase::is_found(section, words);
+                return answers::passed_up(answers::answered(found, 1), turned, codes);
+            }
+            Code::Filter(_) => {
+                let answer = build_part(section, selection, work, place);
+                return answers::passed_up(answer, turned, codes);
+            }
+            Code::Combine(pair) => {
+                if answers::is_mild_not(pair) {
+                    let answer = build_part(section, selection, work, place);
+                    return answers::passed_up(answer, turned, codes);
+                }
+                codes += 1;
+                let mid = selection::parts::part_start(selection, place - 1);
+                let left = walk_part(section, selection, work, mid);
+                if answers::decides(pair, left) {
+                    return answers::passed_up(left, turned, codes);
+                }
+                codes += answers::codes_in(left);
+                place -= 1;
+            }
+            Code::Not => {
+                turned = !turned;
+                codes += 1;
+                place -= 1;
+            }
+            // no part ends in a word
+            Code::Word(_) => {
+                return answers::too_long(place);
+            }
+        }
+    }
 }
 
 // The walk of the part that ends at hi: "`or` walks its left side, then its right only after a no; `and` its left side, then its right only after a yes".
@@ -75,33 +111,6 @@ pub fn walk(section: &[u32], selection: &[u32], work: &mut [u32], hi: u32) -> Qu
     requires { ⌜ Walkable (now section) (now selection) (now work) hi ⌝ }
     ensures { λ r. ⌜ ((w : Walkable (now (section .entry)) (now (selection .entry)) (now (work .entry)) hi) → r ≡ walkOf (sectionOf (now (section .entry))) (w .part .tree)) ⌝ }
 {
-    let code = codes::code_at(selection, hi);
-    match code {
-        // no part ends in a word
-        Code::Word(_) => Quick::Refused {
-            number: 0,
-            place: 0,
-        },
-        Code::Phrase(_) => {
-            let words = selection::parts::phrase_words(selection, hi);
-            walk_phrase(section, words)
-        }
-        Code::Not => {
-            let answer = walk(section, selection, work, hi - 1);
-            steps::turned(answer)
-        }
-        Code::Filter(_) => build_part(section, selection, work, hi),
-        Code::Combine(pair) => {
-            if steps::is_mild_not(pair) {
-                return build_part(section, selection, work, hi);
-            }
-            let mid = selection::parts::part_start(selection, hi - 1);
-            let left = walk(section, selection, work, mid);
-            if steps::decides(pair, left) {
-                return steps::counted(left);
-            }
-            let right = walk(section, selection, work, hi - 1);
-            steps::joined(left, right)
-        }
-    }
+    let answer = walk_part(section, selection, work, hi);
+    answers::answer_of(answer)
 }

@@ -4,7 +4,7 @@ use Rattle.selection.specs.Phrases.{phrasesIn}
 use Rattle.model.specs.Selection.{codeAt, upTo}
 use Prim.Native.Nat.{ℕ}
 use native.Mathlib.Omega.{arith}
-use mathlib.Core.Path.{ap}
+use mathlib.Core.Path.{ap, _∙_}
 use borrow.Author.Needs.{needs}
 use Rattle.walking.proofs.build_part.Statement.{statement}
 use Rattle.walking.proofs.build_part.Tie as tie
@@ -28,14 +28,18 @@ build-requires c κs = let r = c .before in
 enum-known-part : tie.Need-enum-known-part
 enum-known-part c = search needs
 
+too-long-requires : tie.Need-too-long-requires
+too-long-requires c κs = search needs
+
 same-length : tie.Need-same-length
 same-length c = search needs
 
 returns : tie.Need-returns
 returns c = λ w.
-    let r = c .before .before .before .before .before .before .before in
-    let st = r .before .before .before .before .before in
-    build-long w (c .before .before .before .before .before .build .ensures (buildable w (r .before .part-start .ensures) (r .rank-at .ensures))) (c .before .part .given .1)
+    let k = c .before in
+    let r = k .before .before .before .before .before .before .before in
+    c .too-long .ensures
+    ∙ build-long w (k .before .before .before .before .before .build .ensures (buildable w (r .before .part-start .ensures) (r .rank-at .ensures))) (k .before .part .given .1)
 
 enum-told : tie.Need-enum-told
 enum-told c = search needs
@@ -51,15 +55,19 @@ count-codes-requires c κs = let r = c .before .before .before .before .before .
     let st = r .before .before .before .before .before in
     omega (arith, r .before .part-start .ensures, starts-before (st .pre))
 
+answered-requires : tie.Need-answered-requires
+answered-requires c κs = search needs
+
 same-length-2 : tie.Need-same-length-2
 same-length-2 c = search needs
 
 returns-2 : tie.Need-returns-2
 returns-2 c = λ w.
-    let r = c .before .before .before .before .before .before .before .before .before in
-    let st = r .before .before .before .before .before in
-    let b = c .before .before .before .before .before .before .before .build .ensures (buildable w (r .before .part-start .ensures) (r .rank-at .ensures)) in
-    build-answers w b (c .before .before .before .enum-told .given .1) (r .before .part-start .ensures) (c .before .is-yes .ensures) (c .count-codes .ensures)
+    let k = c .before in
+    let r = k .before .before .before .before .before .before .before .before .before in
+    let b = k .before .before .before .before .before .before .before .build .ensures (buildable w (r .before .part-start .ensures) (r .rank-at .ensures)) in
+    c .answered .ensures
+    ∙ build-answers w b (k .before .before .before .enum-told .given .1) (r .before .part-start .ensures) (k .before .is-yes .ensures) (k .count-codes .ensures)
 
 pub build-part-spec : {M : Type 1} → statement M
 build-part-spec =
@@ -70,10 +78,12 @@ build-part-spec =
     add-build
     build-requires
     enum-known-part
+    too-long-requires
     same-length
     returns
     enum-told
     is-yes-requires
     count-codes-requires
+    answered-requires
     same-length-2
     returns-2)

@@ -1,0 +1,21 @@
+-- By the two cases of the definition.
+use mathlib.Core.Path.{sym}
+use borrow.Author.Needs.{needs}
+use Rattle.walking.proofs.AnswersLaws.{told-answer, told-long}
+use Rattle.walking.proofs.answers.answer_of.Statement.{statement}
+use Rattle.walking.proofs.answers.answer_of.Tie as tie
+
+cast-t4 : tie.Need-cast-t4
+cast-t4 c = search needs
+
+returns : tie.Need-returns
+returns c = sym (told-long _ (c .if1 .taken))
+
+cast-t7 : tie.Need-cast-t7
+cast-t7 c = search needs
+
+returns-2 : tie.Need-returns-2
+returns-2 c = sym (told-answer _ (c .if1 .left))
+
+pub answer-of-spec : {M : Type 1} → statement M
+answer-of-spec = tie.close (tie.spec cast-t4 returns cast-t7 returns-2)
