@@ -19,6 +19,11 @@ extern "C" {
 #define JULLPINAY_WORK 12800
 #define JULLPINAY_BUFFER 1282
 
+/* The most bytes of stack that a call takes, its return address included, as the archive is compiled for x86-64. It needs no heap. */
+#define JULLPINAY_LISTING_STACK 768
+#define JULLPINAY_QUICK_STACK 4096
+#define JULLPINAY_SNIPPET_STACK 64
+
 /* The full listing. Returns 0 and answers {0, matches, strings, yes}, with the listing in the buffer; or returns a refusal's number and answers
  * {number, place}, with the buffer and the rest of the answer unchanged. */
 uint32_t jullpinay_listing(const uint32_t *section, size_t section_count,

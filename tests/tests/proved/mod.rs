@@ -1,11 +1,13 @@
 //! The proved engine, by the exported functions of `crates/boundary`.
 
+#![allow(dead_code)]
+
 use second_engine::{Engine, Listing, Quick};
 
 #[cfg(not_built)]
 compile_error!("target/staticlib/libboundary.a is not there: build it by `rt staticlib boundary`");
 
-mod exported {
+pub mod exported {
     // Nothing holds these declarations to crates/boundary/src/lib.rt: keep them alike. A slice is a pointer and a length.
     #[link(name = "boundary", kind = "static")]
     extern "C" {
