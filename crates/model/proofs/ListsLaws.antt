@@ -160,6 +160,15 @@ module _ (p : ℕ → Bool) where
           let here = none-here a b (omega arith) e in
           ⊎-elim (λ q. ap p (sym q) ∙ here) (λ q. go n (a + 1) (omega arith) (sym (first-range-later a b (omega arith) here) ∙ e) (omega arith)) (eq-or-lt-of-le h)
 
+  -- and where nothing passes, it finds nothing
+  pub range-first-none : (a b : ℕ) → ((i : ℕ) → a ≤ i → i ≤ b → p i ≡ false) → first p (fromTo a b) ≡ none
+  unfolding first fromTo upFrom
+  range-first-none a b h = go (b + 1 - a) a (λ i k l. h i k (omega arith))
+    where
+      go : (n a : ℕ) → ((i : ℕ) → a ≤ i → i < a + n → p i ≡ false) → first p (upFrom a n) ≡ none
+      go zero a h = refl
+      go (suc n) a h = let e = h a (omega arith) (omega arith) in rw e (go n (a + 1) (λ i k l. h i (omega arith) (omega arith)))
+
 -- ---- Sublistᴰ xs ys: xs is ys with some elements left out
 
 pub length-sublist : {A : Type 0} {xs ys : List A} → Sublistᴰ xs ys → length xs ≤ length ys
