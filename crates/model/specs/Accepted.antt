@@ -7,8 +7,8 @@ use mathlib.Core.Option.{none}
 use mathlib.Core.Path.{_≡_}
 use lib.ListN.{length}
 use Rattle.model.specs.AllStrings.{RanksUpTo}
-use Rattle.model.specs.Checks.{operandFits, mildOverNot}
-use Rattle.model.specs.Limits.{maxTokens, maxCodes}
+use Rattle.model.specs.Checks.{operandFits, mildOverNot, inputRefusal}
+use Rattle.model.specs.Limits.{maxTokens, maxCodes, workLength}
 use Rattle.model.specs.Lists.{first}
 use Rattle.model.specs.Parts.{postfix, placed, wellFormed}
 use Rattle.model.specs.Section.{size, sentenceAt, paragraphAt}
@@ -48,3 +48,9 @@ pub record AcceptedSelection (selection : List ℕ) : Type 0 where
   pub numbered : placed 1 1 (treeOf selection) ≡ treeOf selection
   pub ranks : RanksUpTo maxPhrases (treeOf selection)
   pub no-not : first mildOverNot (parts (treeOf selection)) ≡ none
+
+-- "Section and selection pass the checks where no refusal other than 8 falls on them before any list is built. Working memory is enough from
+-- 12,800 u32."
+pub record Passes (section selection : List ℕ) (work : ℕ) : Type 0 where
+  pub checks : inputRefusal section selection ≡ none
+  pub enough : workLength ≤ work
