@@ -21,7 +21,7 @@ use Rattle.model.specs.Section.{sectionOf, size}
 use Rattle.model.specs.AllMatches.{allMatches}
 use Rattle.model.specs.Trees.{Tree, parts}
 use Rattle.model.specs.Walk.{firstTooLong}
-use Rattle.model.specs.Demand3.{Passes}
+use Rattle.model.specs.Accepted.{Passes}
 use Rattle.model.proofs.AnswersLaws.{checked-accepted, complete-fits, listingRefusal-none, listingRefusal-passes}
 use Rattle.model.proofs.ChecksLaws.{otherwise-none}
 use Rattle.model.proofs.TestsLaws.{both-true, cond-none}

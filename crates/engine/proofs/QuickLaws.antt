@@ -13,7 +13,7 @@ use Rattle.model.specs.declared.Quick.{Quick}
 use Rattle.model.specs.declared.Quick.the-variants.{Refused}
 use Rattle.model.specs.Answers.{checkedOf, quickAnswer}
 use Rattle.model.specs.Checks.{refusal, inputRefusal, quickChecks, roomRefusal}
-use Rattle.model.specs.Demand3.{Passes}
+use Rattle.model.specs.Accepted.{Passes}
 use Rattle.model.specs.Limits.{workLength}
 use Rattle.model.specs.Section.{sectionOf, size}
 use Rattle.model.specs.Walk.{walk}

@@ -2,27 +2,29 @@
 use Prim.Native.Nat.{ℕ, _+_, _*_, _≤_}
 use native.Mathlib.Omega.{arith}
 use mathlib.Core.Path.{_≡_, refl, ap₂, _∙_}
-use mathlib.Core.Bool.{Bool, true, false, _&&_, _||_}
+use mathlib.Core.Bool.{Bool, false, _&&_}
 use mathlib.Core.List.{List, [], _∷_, _++_, map, flatMap}
-use mathlib.Core.Logic.{_↔_}
 use mathlib.Core.Option.{Option, some, none, Option·map, map-eq-none-iff}
 use lib.Dec.{leb, ltb}
-use lib.ListN.{length, length-append, length-map}
+use lib.ListN.{length, drop, length-append, length-map}
 use borrow.Author.Tests.{leb-true, le-leb, ltb-false}
 use Rattle.model.specs.declared.Checked.the-variants.{Accepted, Refused as CheckedRefused}
 use Rattle.model.specs.declared.Fault.the-variants.{At, Nowhere}
 use Rattle.model.specs.declared.Listing.the-variants.{Listed, Refused}
-use Rattle.model.specs.Answers.{faultOf, checkedOf, isAccepted, completeList, listingRefusal, answerUnless, listingAnswer, spansIn, tagsIn, spanOf, tagOf, listingNumbers, quickAnswer}
-use Rattle.model.specs.Checks.{Refusal, refusal, otherwise, roomRefusal, inputRefusal, listingChecks, quickChecks}
-use Rattle.model.specs.Demand3.{Passes, walkBuilds, walkReaches}
+use Rattle.model.specs.declared.Quick.{Quick}
+use Rattle.model.specs.declared.Quick.the-variants.{Answered}
+use Rattle.model.specs.Answers.{faultOf, checkedOf, isAccepted, completeList, listingRefusal, answerUnless, listingAnswer, spansIn, tagsIn, spanOf, tagOf, listingNumbers, listingBuffer, walkUnless, quickAnswer}
+use Rattle.model.specs.Checks.{Refusal, refusal, roomRefusal, inputRefusal, listingChecks, quickChecks}
+use Rattle.model.specs.Accepted.{Passes}
 use Rattle.model.specs.Limits.{maxMatches, maxStrings, workLength, bufferLength}
 use Rattle.model.specs.Matches.{Str, Match, isYes, stringsIn, strings, tooLong}
 use Rattle.model.specs.Section.{sectionOf}
 use Rattle.model.specs.Trees.{treeOf, parts}
-use Rattle.model.specs.Walk.{firstTooLong, unlessTooLong}
+use Rattle.model.specs.Walk.{firstTooLong, unlessTooLong, walk}
+use Rattle.model.specs.Walked.{walkBuilds, walkReaches}
 use Rattle.model.proofs.ChecksLaws.{otherwise-none}
 use Rattle.model.proofs.TestsLaws.{both-true, both-false, cond-none}
-use Rattle.model.proofs.WalkLaws.{firstTooLong-whole, walk-is, says-free}
+use Rattle.model.proofs.WalkLaws.{firstTooLong-whole, walk-is, walkAnswer-complete}
 
 -- ---- faultOf, checkedOf
 
@@ -62,11 +64,7 @@ answerUnless-listed : (r : Option Refusal) (ms : List Match) (m k : ℕ) (y : Bo
 answerUnless-listed none ms m k y e = (refl, cc, cc, cc)
 answerUnless-listed (some r) ms m k y e = let z : _≡_ {A = ℕ} 0 1 = cc in absurd (omega arith)
 
-pub answerUnless-nine : (f : Option ℕ) (ms : List Match) (c : ℕ) → (answerUnless (Option·map (refusal 9) f) ms ≡ Refused 9 c) ↔ (f ≡ some c)
-answerUnless-nine none ms c = (λ e. cc, λ e. cc)
-answerUnless-nine (some d) ms c = (λ e. cc, λ e. cc)
-
-pub answerUnless-refused : (o : Option Refusal) (ms : List Match) (n c : ℕ) → answerUnless o ms ≡ Refused n c → (r : Refusal) × (o ≡ some r)
+answerUnless-refused : (o : Option Refusal) (ms : List Match) (n c : ℕ) → answerUnless o ms ≡ Refused n c → (r : Refusal) × (o ≡ some r)
 answerUnless-refused none ms n c e = let z : _≡_ {A = ℕ} 0 1 = cc in absurd (omega arith)
 answerUnless-refused (some r) ms n c e = (r, refl)
 
@@ -113,26 +111,65 @@ unfolding flatMap strings
 length-flatMap f h [] = refl
 length-flatMap f h (m ∷ ms) = length-append (f m) (flatMap f ms) ∙ ap₂ _+_ (h m) (length-flatMap f h ms)
 
-length-columns : {A : Type 0} (f g : Str → A) (m : Match) → length (map f (m .includes) ++ map g (m .excludes)) ≡ stringsIn m
+pub length-columns : {A : Type 0} (f g : Str → A) (m : Match) → length (map f (m .includes) ++ map g (m .excludes)) ≡ stringsIn m
 length-columns f g m = length-append (map f (m .includes)) (map g (m .excludes)) ∙ ap₂ _+_ (length-map (m .includes) f) (length-map (m .excludes) g)
+
+pub length-spans : (ms : List Match) → length (flatMap spansIn ms) ≡ strings ms
+length-spans ms = length-flatMap spansIn (length-columns spanOf spanOf) ms
+
+pub length-tags : (ms : List Match) → length (flatMap tagsIn ms) ≡ strings ms
+length-tags ms = length-flatMap tagsIn (length-columns (tagOf 0) (tagOf 1)) ms
 
 pub length-listingNumbers : (ms : List Match) → length (listingNumbers ms) ≡ 2 + length ms + 2 * strings ms
 unfolding listingNumbers
-length-listingNumbers ms =
-    simp (length-append, length-map, length-flatMap spansIn (length-columns spanOf spanOf), length-flatMap tagsIn (length-columns (tagOf 0) (tagOf 1))) (omega arith)
+length-listingNumbers ms = simp (length-append, length-map, length-spans, length-tags) (omega arith)
+
+-- ---- listingBuffer
+
+module _ (section selection : List ℕ) (work : ℕ) (buffer : List ℕ) where
+  -- A call that refuses leaves the buffer unchanged; one that lists puts the complete list's numbers at its front.
+  pub listingBuffer-refused : (number place : ℕ) → listingAnswer section selection work (length buffer) ≡ Refused number place
+      → listingBuffer section selection work buffer ≡ buffer
+  unfolding listingAnswer listingBuffer
+  listingBuffer-refused number place e =
+      rw (answerUnless-refused (listingRefusal section selection work (length buffer)) (completeList section selection) number place e .1)
+
+  pub listingBuffer-listed : listingRefusal section selection work (length buffer) ≡ none
+      → listingBuffer section selection work buffer
+      ≡ listingNumbers (completeList section selection) ++ drop (length (listingNumbers (completeList section selection))) buffer
+  unfolding listingBuffer
+  listingBuffer-listed e = rw e
 
 -- ---- quickAnswer
+
+walkUnless-answered : (r : Option Refusal) (walked : Quick) (y : Bool) (n : ℕ) → walkUnless r walked ≡ Answered y n → (r ≡ none) × (walked ≡ Answered y n)
+walkUnless-answered none walked y n e = (refl, e)
+walkUnless-answered (some r) walked y n e = let z : _≡_ {A = ℕ} 0 1 = cc in absurd (omega arith)
 
 module _ (section selection : List ℕ) (work : ℕ) where
   pub quickChecks-passes : Passes section selection work → quickChecks section selection work ≡ none
   unfolding quickChecks
   quickChecks-passes p = rw (p .checks, le-leb workLength work (p .enough))
 
+  pub quickChecks-none : quickChecks section selection work ≡ none → Passes section selection work
+  unfolding quickChecks
+  quickChecks-none e =
+      let checks = otherwise-none (inputRefusal section selection) (roomRefusal (leb workLength work)) e in
+      record { checks = checks .0; enough = leb-true workLength work (cond-none (leb workLength work) (refusal 8 0) (checks .1)) }
+
+  -- A given answer tells that the checks pass, and is the walk's.
+  pub quickAnswer-answered : (y : Bool) (n : ℕ) → quickAnswer section selection work ≡ Answered y n
+      → Passes section selection work × (walk (sectionOf section) (treeOf selection) ≡ Answered y n)
+  unfolding quickAnswer
+  quickAnswer-answered y n e =
+      let given = walkUnless-answered (quickChecks section selection work) (walk (sectionOf section) (treeOf selection)) y n e in
+      (quickChecks-none (given .0), given .1)
+
   -- Where the checks pass, the quick answer refuses at the first list too long that its walk builds; where none is, it answers whether the
   -- complete list has a match without excludes, and counts what its walk reaches.
   pub quickAnswer-is : Passes section selection work
       → quickAnswer section selection work
-      ≡ unlessTooLong (firstTooLong (sectionOf section) (walkBuilds section selection)) (isYes (completeList section selection))
-      (length (walkReaches section selection))
+      ≡ unlessTooLong (firstTooLong (sectionOf section) (walkBuilds (sectionOf section) (treeOf selection))) (isYes (completeList section selection))
+      (length (walkReaches (sectionOf section) (treeOf selection)))
   unfolding quickAnswer
-  quickAnswer-is p = rw (quickChecks-passes p, walk-is (sectionOf section) (treeOf selection), says-free (sectionOf section) (treeOf selection))
+  quickAnswer-is p = rw (quickChecks-passes p, walk-is (sectionOf section) (treeOf selection), walkAnswer-complete (sectionOf section) (treeOf selection))

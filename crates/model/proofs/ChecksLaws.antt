@@ -1,26 +1,27 @@
--- What the checks guarantee: where none of a list of checks refuses, each of them passes. In an accepted section each counting rises from one
--- position to the next, and is zero at the one exactly where it is at the other; an accepted selection is one tree that spells its codes.
-use Prim.Native.Nat.{ℕ, zero, suc, _+_, _-_, _*_, _≤_}
+-- What the checks guarantee: where none of a list of checks refuses, each of them passes. A section has no faulty position exactly where each
+-- counting is all zero, or all nonzero and never falling; an accepted selection is one tree that spells its codes.
+use Prim.Native.Nat.{ℕ, zero, suc, _+_, _-_, _≤_}
 use native.Mathlib.Omega.{arith}
 use mathlib.Core.Path.{_≡_, refl, sym, ap, ap₂, _∙_}
-use mathlib.Core.Bool.{Bool, true, false, not, _&&_, _||_, cond, xor}
+use mathlib.Core.Bool.{Bool, true, false, not, _||_, xor}
 use mathlib.Core.List.{List, [], _∷_, _++_, map}
+use mathlib.Core.Logic.{_↔_, inl, inr}
 use mathlib.Core.Option.{Option, some, none, Option·map, Option·some-ne-none, map-eq-none-iff}
 use lib.Dec.{eqb, leb, ltb}
 use lib.ListN.{length}
-use borrow.Author.Tests.{eqb-true, eq-eqb, ltb-false, leb-false, not-false}
+use borrow.Author.Tests.{eqb-true, eq-eqb, ne-eqb, ltb-false, le-ltb, leb-false, not-false}
 use Rattle.model.specs.declared.Code.{Code}
 use Rattle.model.specs.declared.Code.the-variants.{Word, Phrase, Combine, Not, Filter as Filtered}
 use Rattle.model.specs.Limits.{maxTokens, maxCodes, maxWaiting}
-use Rattle.model.specs.Lists.{allOf, anyOf, first}
+use Rattle.model.specs.Lists.{allOf, anyOf, first, fromTo}
 use Rattle.model.specs.Section.{size, wellSized, sentenceAt, paragraphAt}
 use Rattle.model.specs.Selection.{kindAt, operandAt, codeOf, codeAt, codesOf}
 use Rattle.model.specs.Trees.{Tree, phrase, pair, negation, filter, placeOf, topTree, treeOf, parts}
 use Rattle.model.specs.Parts.{isNotCode, hasWords, postfix, placed, wellFormed, PartAt, spelled, phrasesAll}
 use Rattle.model.specs.Checks.{Refusal, refusal, otherwise, Check, tried, wrongSection, faultyIn, faultyAt, faultyPosition, sectionRefusal, wrongSelection, unknownKind}
 use Rattle.model.specs.Checks.{operandFits, wrongOperand, wrongShape, isNot, hasNot, mildOverNot, notUnderMildNot, selectionRefusal}
-use Rattle.model.specs.Accepted.{Steady, AcceptedSection, maxPhrases, AcceptedSelection}
-use Rattle.model.proofs.ListsLaws.{any-append, first-range-none}
+use Rattle.model.specs.Accepted.{ReportedOrNot, AcceptedSection, maxPhrases, AcceptedSelection}
+use Rattle.model.proofs.ListsLaws.{any-append, first-range-none, range-first-none}
 use Rattle.model.proofs.SectionLaws.{WellSized, well-sized}
 use Rattle.model.proofs.TestsLaws.{both-true, both-false, xor-false, cond-none}
 use Rattle.model.proofs.SelectionLaws.{codeOf-cases, length-upTo, all-upTo}
@@ -49,52 +50,76 @@ module _ (c : Check) (cs : List Check) (lent : List ℕ) where
   unfolding tried
   tried-stop place e = rw e
 
--- ---- faultyIn: a counting without a faulty position is steady
+-- ---- faultyIn: a counting has no faulty position exactly where it is all zero, or all nonzero and never falling
 
-module _ (unit : ℕ → ℕ) (n : ℕ) (fine : (p : ℕ) → 2 ≤ p → p ≤ n → faultyIn unit p ≡ false) where
-  next : (p : ℕ) → 1 ≤ p → p + 1 ≤ n → (unit p ≤ unit (p + 1)) × (eqb (unit (p + 1)) 0 ≡ eqb (unit p) 0)
-  next p h k =
+module _ (unit : ℕ → ℕ) (n : ℕ) where
+  abbrev Sound : Type 0
+  Sound = (p : ℕ) → 2 ≤ p → p ≤ n → faultyIn unit p ≡ false
+
+  next : Sound → (p : ℕ) → 1 ≤ p → p + 1 ≤ n → (unit p ≤ unit (p + 1)) × (eqb (unit (p + 1)) 0 ≡ eqb (unit p) 0)
+  next sound p h k =
       let e : p + 1 - 1 ≡ p = omega arith in
-      let f = both-false (ltb (unit (p + 1)) (unit p)) (xor (eqb (unit (p + 1)) 0) (eqb (unit p) 0)) (rw e at (fine (p + 1) (omega arith) k)) in
+      let f = both-false (ltb (unit (p + 1)) (unit p)) (xor (eqb (unit (p + 1)) 0) (eqb (unit p) 0)) (rw e at (sound (p + 1) (omega arith) k)) in
       (ltb-false (unit (p + 1)) (unit p) (f .0), xor-false (eqb (unit (p + 1)) 0) (eqb (unit p) 0) (f .1))
 
   -- from p up by d positions
-  rises : (d p : ℕ) → 1 ≤ p → p + d ≤ n → (unit p ≤ unit (p + d)) × (eqb (unit (p + d)) 0 ≡ eqb (unit p) 0)
-  rises zero p h k = let e : p + 0 ≡ p = omega arith in rw e (omega arith, refl)
-  rises (suc d) p h k =
+  rises : Sound → (d p : ℕ) → 1 ≤ p → p + d ≤ n → (unit p ≤ unit (p + d)) × (eqb (unit (p + d)) 0 ≡ eqb (unit p) 0)
+  rises sound zero p h k = let e : p + 0 ≡ p = omega arith in rw e (omega arith, refl)
+  rises sound (suc d) p h k =
       let e : p + suc d ≡ p + d + 1 = omega arith in
-      let a = rises d p h (omega arith) in
-      let b = next (p + d) (omega arith) (omega arith) in
+      let a = rises sound d p h (omega arith) in
+      let b = next sound (p + d) (omega arith) (omega arith) in
       rw e (omega (arith, a .0, b .0), b .1 ∙ a .1)
 
-  pub steady : Steady unit n
-  steady = record { rising = rising; together = together }
+  pub reported : Sound → ReportedOrNot unit n
+  reported sound = at (unit 1) refl
     where
-      rising : (p q : ℕ) → 1 ≤ p → p ≤ q → q ≤ n → unit p ≤ unit q
-      rising p q h k l = let e : p + (q - p) ≡ q = omega arith in rw e at (rises (q - p) p h (omega arith) .0)
+      up : (p q : ℕ) → 1 ≤ p → p ≤ q → q ≤ n → (unit p ≤ unit q) × (eqb (unit q) 0 ≡ eqb (unit p) 0)
+      up p q h k l = let e : p + (q - p) ≡ q = omega arith in rw e at (rises sound (q - p) p h (omega arith))
 
-      alike : (q : ℕ) → 1 ≤ q → q ≤ n → eqb (unit q) 0 ≡ eqb (unit 1) 0
-      alike q h l = let e : 1 + (q - 1) ≡ q = omega arith in rw e at (rises (q - 1) 1 (omega arith) (omega arith) .1)
+      -- position 1 decides
+      at : (k : ℕ) → unit 1 ≡ k → ReportedOrNot unit n
+      at zero e = inl (λ p h l. eqb-true _ _ (up 1 p (omega arith) h l .1 ∙ eq-eqb _ _ e))
+      at (suc k) e = inr (record { nonzero = λ p h l. omega (arith, e, up 1 p (omega arith) h l .0); never-falling = λ p q h k l. up p q h k l .0 })
 
-      together : (p q : ℕ) → 1 ≤ p → p ≤ n → 1 ≤ q → q ≤ n → unit p ≡ 0 → unit q ≡ 0
-      together p q h k l m z = eqb-true _ _ (alike q l m ∙ sym (alike p h k) ∙ eq-eqb _ _ z)
+  pub sound : ReportedOrNot unit n → Sound
+  unfolding xor
+  sound (inl zeros) p h k = let z = zeros p (omega arith) k in let y = zeros (p - 1) (omega arith) (omega arith) in rw (z, y)
+  sound (inr r) p h k =
+      let some = r .nonzero p (omega arith) k in
+      let before = r .nonzero (p - 1) (omega arith) (omega arith) in
+      let falls = le-ltb (unit p) (unit (p - 1)) (r .never-falling (p - 1) p (omega arith) (omega arith) k) in
+      rw (falls, ne-eqb (unit p) 0 (λ z. omega arith), ne-eqb (unit (p - 1)) 0 (λ z. omega arith))
+
+-- Refusal 2 falls on no section whose sentence and paragraph numbers are reported or not, and on every other.
+pub faultyPosition-none : (section : List ℕ)
+    → (faultyPosition section ≡ none) ↔ (ReportedOrNot (sentenceAt section) (size section) × ReportedOrNot (paragraphAt section) (size section))
+unfolding faultyPosition faultyAt
+faultyPosition-none section = (there, back)
+  where
+    there : first (faultyAt section) (fromTo 2 (size section)) ≡ none
+        → ReportedOrNot (sentenceAt section) (size section) × ReportedOrNot (paragraphAt section) (size section)
+    there e =
+        let f : (p : ℕ) → 2 ≤ p → p ≤ size section → (faultyIn (sentenceAt section) p ≡ false) × (faultyIn (paragraphAt section) p ≡ false) =
+        λ p h k. both-false (faultyIn (sentenceAt section) p) (faultyIn (paragraphAt section) p) (first-range-none (faultyAt section) 2 (size section) e p h k) in
+        (reported (sentenceAt section) (size section) (λ p h k. f p h k .0), reported (paragraphAt section) (size section) (λ p h k. f p h k .1))
+
+    back : ReportedOrNot (sentenceAt section) (size section) × ReportedOrNot (paragraphAt section) (size section)
+        → first (faultyAt section) (fromTo 2 (size section)) ≡ none
+    back r =
+        range-first-none (faultyAt section) 2 (size section)
+        (λ p h k. let s = sound (sentenceAt section) (size section) (r .0) p h k in let q = sound (paragraphAt section) (size section) (r .1) p h k in rw (s, q))
 
 -- ---- sectionRefusal
 
 pub accepted-section : (section : List ℕ) → sectionRefusal section ≡ none → AcceptedSection section
-unfolding sectionRefusal wrongSection faultyPosition faultyAt
+unfolding sectionRefusal wrongSection
 accepted-section section h =
     let a = tried-cons _ _ section h in
     let b = tried-cons _ _ section (a .1) in
     let w = well-sized 0 maxTokens section (cond-none (wellSized 0 maxTokens section) 0 (a .0)) in
-    let f : (p : ℕ) → 2 ≤ p → p ≤ size section → (faultyIn (sentenceAt section) p ≡ false) × (faultyIn (paragraphAt section) p ≡ false) =
-    λ p h k. both-false (faultyIn (sentenceAt section) p) (faultyIn (paragraphAt section) p) (first-range-none (faultyAt section) 2 (size section) (b .0) p h k) in
-    record {
-      sized = w .long;
-      few = w .at-most;
-      sentences = steady (sentenceAt section) (size section) (λ p h k. f p h k .0);
-      paragraphs = steady (paragraphAt section) (size section) (λ p h k. f p h k .1);
-    }
+    let units = faultyPosition-none section .0 (b .0) in
+    record { sized = w .long; few = w .at-most; sentences = units .0; paragraphs = units .1 }
 
 -- ---- wrongSelection, unknownKind, wrongOperand
 

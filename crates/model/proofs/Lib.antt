@@ -1,7 +1,4 @@
--- The demands over the definitions ..
-pub mod Demand2
-pub mod Demand3
--- .. and the laws that they and the code rest on, a file for each module of specs/.
+-- The laws that the code and the demands rest on, a file for each module of specs/.
 pub mod TestsLaws
 pub mod ListsLaws
 pub mod EveryLaws

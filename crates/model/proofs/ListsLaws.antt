@@ -3,10 +3,10 @@ use Prim.Native.Nat.{ℕ, zero, suc, _+_, _-_, _≤_, _<_}
 use native.Mathlib.Nat.{eq-or-lt-of-le}
 use native.Mathlib.Omega.{arith}
 use mathlib.Core.Path.{_≡_, refl, ap, sym, _∙_}
-use mathlib.Core.Bool.{Bool, true, false, not, _&&_, _||_, cond, and-assoc, or-assoc, false≢true}
+use mathlib.Core.Bool.{Bool, true, false, _&&_, _||_, cond, and-assoc, or-assoc}
 use mathlib.Core.List.{List, [], _∷_, _++_, append-assoc, flatMap, Sublistᴰ, Sublistᴰ·slnil, Sublistᴰ·cons, Sublistᴰ·cons-cons, Sublistᴰ·nil-sublist}
-use mathlib.Core.Logic.{_↔_, ⊎-elim}
-use mathlib.Core.Option.{some, none, orElse, Option·none-ne-some, Option·some-ne-none}
+use mathlib.Core.Logic.{⊎-elim}
+use mathlib.Core.Option.{some, none, orElse, Option·some-ne-none}
 use lib.ListN.{length}
 use Rattle.model.specs.Lists.{allOf, anyOf, isEmpty, keep, first, upFrom, fromTo}
 use Rattle.model.proofs.TestsLaws.{both-true}
@@ -62,39 +62,7 @@ first-append p (x ∷ xs) ys = at (p x) (first-append p xs ys)
     at true e = refl
     at false e = e
 
--- x is the first element that passes: it does, and none before it
-pub record FirstIn {A : Type 0} (p : A → Bool) (xs : List A) (x : A) : Type 0 where
-  pub before : List A
-  pub after : List A
-  pub split : xs ≡ before ++ x ∷ after
-  pub none-before : allOf (λ y. not (p y)) before ≡ true
-  pub passes : p x ≡ true
-
 module _ {A : Type 0} (p : A → Bool) where
-  first-found : (xs : List A) (x : A) → first p xs ≡ some x → FirstIn p xs x
-  unfolding first allOf
-  first-found [] x e = absurd (Option·none-ne-some x e)
-  first-found (y ∷ xs) x e = at (p y) refl e (first-found xs x)
-    where
-      at : (b : Bool) → p y ≡ b → cond b (some y) (first p xs) ≡ some x → (first p xs ≡ some x → FirstIn p xs x) → FirstIn p (y ∷ xs) x
-      at true h e' later =
-          let same : y ≡ x = cc in
-          record { before = []; after = xs; split = ap (λ z. z ∷ xs) same; none-before = refl; passes = cc }
-      at false h e' later =
-          let f = later e' in
-          record { before = y ∷ f .before; after = f .after; split = ap (λ zs. y ∷ zs) (f .split); none-before = rw h (f .none-before); passes = f .passes }
-
-  first-is : (before after : List A) (x : A) → allOf (λ y. not (p y)) before ≡ true → p x ≡ true → first p (before ++ x ∷ after) ≡ some x
-  unfolding first allOf
-  first-is [] after x h e = rw e
-  first-is (y ∷ before) after x h e = at (p y) h (first-is before after x)
-    where
-      at : (b : Bool) → (not b && allOf (λ z. not (p z)) before) ≡ true
-          → (allOf (λ z. not (p z)) before ≡ true → p x ≡ true → first p (before ++ x ∷ after) ≡ some x)
-          → cond b (some y) (first p (before ++ x ∷ after)) ≡ some x
-      at true h' later = absurd (false≢true h')
-      at false h' later = later h' e
-
   pub first-none : (x : A) (xs : List A) → first p (x ∷ xs) ≡ none → (p x ≡ false) × (first p xs ≡ none)
   unfolding first
   first-none x xs e = at (p x) e
@@ -102,9 +70,6 @@ module _ {A : Type 0} (p : A → Bool) where
       at : (b : Bool) → cond b (some x) (first p xs) ≡ none → (b ≡ false) × (first p xs ≡ none)
       at true e' = absurd (Option·some-ne-none x e')
       at false e' = (refl, e')
-
-  pub first-some : (xs : List A) (x : A) → (first p xs ≡ some x) ↔ FirstIn p xs x
-  first-some xs x = (first-found xs x, λ f. ap (first p) (f .split) ∙ first-is (f .before) (f .after) x (f .none-before) (f .passes))
 
 -- ---- upFrom, range
 
@@ -159,6 +124,15 @@ module _ (p : ℕ → Bool) where
       go (suc n) a m e h =
           let here = none-here a b (omega arith) e in
           ⊎-elim (λ q. ap p (sym q) ∙ here) (λ q. go n (a + 1) (omega arith) (sym (first-range-later a b (omega arith) here) ∙ e) (omega arith)) (eq-or-lt-of-le h)
+
+  -- and where nothing passes, it finds nothing
+  pub range-first-none : (a b : ℕ) → ((i : ℕ) → a ≤ i → i ≤ b → p i ≡ false) → first p (fromTo a b) ≡ none
+  unfolding first fromTo upFrom
+  range-first-none a b h = go (b + 1 - a) a (λ i k l. h i k (omega arith))
+    where
+      go : (n a : ℕ) → ((i : ℕ) → a ≤ i → i < a + n → p i ≡ false) → first p (upFrom a n) ≡ none
+      go zero a h = refl
+      go (suc n) a h = let e = h a (omega arith) (omega arith) in rw e (go n (a + 1) (λ i k l. h i (omega arith) (omega arith)))
 
 -- ---- Sublistᴰ xs ys: xs is ys with some elements left out
 

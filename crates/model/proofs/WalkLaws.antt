@@ -1,24 +1,24 @@
--- The walk against what it says, builds and reaches. Its answer is decided by the first list too long among those that it builds; where none is,
+-- The walk against what it answers, builds and reaches. Its answer is decided by the first list too long among those that it builds; where none is,
 -- it says what the complete list says, for or, and, not turn on their operands' answers alone.
 use Prim.Native.Nat.{ℕ, _+_, _≤_}
 use native.Mathlib.Omega.{arith}
 use mathlib.Core.Path.{_≡_, refl, ap, ap₂, sym, _∙_}
 use mathlib.Core.Bool.{Bool, true, false, not, _&&_, _||_, cond}
 use mathlib.Core.List.{List, [], _∷_, _++_, Sublistᴰ, Sublistᴰ·slnil, Sublistᴰ·append, Sublistᴰ·nil-sublist, Sublistᴰ·refl, Sublistᴰ·trans}
-use mathlib.Core.Logic.{_↔_, _⊎_, inl, inr, Iff·trans}
-use mathlib.Core.Option.{Option, some, none, Option·map, orElse, map-eq-none-iff, map-eq-some-iff}
+use mathlib.Core.Logic.{_↔_, _⊎_, inl, inr}
+use mathlib.Core.Option.{Option, some, none, Option·map, orElse, map-eq-none-iff}
 use lib.ListN.{length, length-append}
 use Rattle.model.specs.declared.Pair.the-variants.{Or, And, MildNot}
 use Rattle.model.specs.declared.Quick.the-variants.{Answered, Refused}
 use Rattle.model.specs.AllMatches.{allMatches}
-use Rattle.model.specs.Demand3.{isTooLong, TooLongFirst}
 use Rattle.model.specs.Lists.{first}
 use Rattle.model.specs.Matches.{isYes, tooLong}
 use Rattle.model.specs.Section.{Section}
 use Rattle.model.specs.Trees.{Tree, phrase, pair, negation, filter, placeOf, parts}
-use Rattle.model.specs.Walk.{firstTooLong, unlessTooLong, build, turned, orWalk, andWalk, walk, says, built, reached}
+use Rattle.model.specs.Walk.{isTooLong, firstTooLong, unlessTooLong, build, turned, orWalk, andWalk, walk}
+use Rattle.model.specs.Walked.{walkAnswer, walkBuilds, walkReaches}
 use Rattle.model.proofs.YesLaws.{yes-phrase, yes-or, yes-and, yes-not}
-use Rattle.model.proofs.ListsLaws.{FirstIn, first-append, first-none, first-some, first-sublist, length-sublist, sublist-append}
+use Rattle.model.proofs.ListsLaws.{first-append, first-none, first-sublist, length-sublist, sublist-append}
 
 -- ---- parts
 
@@ -47,20 +47,6 @@ pub firstTooLong-sublist : (s : Section) {ts us : List Tree} → Sublistᴰ ts u
 unfolding firstTooLong
 firstTooLong-sublist s {ts} {us} d e =
     map-eq-none-iff placeOf (first (isTooLong s) ts) .1 (first-sublist (isTooLong s) d (map-eq-none-iff placeOf (first (isTooLong s) us) .0 e))
-
-pub firstTooLong-some : (s : Section) (ts : List Tree) (c : ℕ) → (firstTooLong s ts ≡ some c) ↔ TooLongFirst s ts c
-unfolding firstTooLong
-firstTooLong-some s ts c = Iff·trans (map-eq-some-iff placeOf (first (isTooLong s) ts)) (there, back)
-  where
-    there : ((t : Tree) × (first (isTooLong s) ts ≡ some t) × (placeOf t ≡ c)) → TooLongFirst s ts c
-    there w =
-        let f = first-some (isTooLong s) ts (w .0) .0 (w .1) in
-        record { before = f .before; code = w .0; after = f .after; order = f .split; others-fit = f .none-before; is-long = f .passes; place = w .2 }
-
-    back : TooLongFirst s ts c → (t : Tree) × (first (isTooLong s) ts ≡ some t) × (placeOf t ≡ c)
-    back l =
-        let f : FirstIn (isTooLong s) ts (l .code) = record { before = l .before; after = l .after; split = l .order; none-before = l .others-fit; passes = l .is-long } in
-        (l .code, first-some (isTooLong s) ts (l .code) .1 f, l .place)
 
 -- Where every code's list fits, so does the tree's own.
 pub firstTooLong-whole : (s : Section) (t : Tree) → firstTooLong s (parts t) ≡ none → tooLong (allMatches s t) ≡ false
@@ -126,32 +112,32 @@ not-walked none b n = refl
 not-walked (some c) b n = refl
 
 -- The walk refuses at the first list too long among those that it builds; where none is, it answers what it says, and counts what it reaches.
-pub walk-is : (s : Section) (t : Tree) → walk s t ≡ unlessTooLong (firstTooLong s (built s t)) (says s t) (length (reached s t))
-unfolding first firstTooLong walk build says built reached
+pub walk-is : (s : Section) (t : Tree) → walk s t ≡ unlessTooLong (firstTooLong s (walkBuilds s t)) (walkAnswer s t) (length (walkReaches s t))
+unfolding first firstTooLong walk build walkAnswer walkBuilds walkReaches
 walk-is s (phrase c rank ws) = refl
 walk-is s (pair Or c t u) =
-    rw (walk-is s t, walk-is s u, tooLong-sides s (built s t) (says s t) [] (built s u), length-sides (reached s t) (says s t) [] (reached s u) (pair Or c t u))
-    (or-walked (firstTooLong s (built s t)) (firstTooLong s (built s u)) (says s t) (says s u) (length (reached s t)) (length (reached s u)))
+    rw (walk-is s t, walk-is s u, tooLong-sides s (walkBuilds s t) (walkAnswer s t) [] (walkBuilds s u), length-sides (walkReaches s t) (walkAnswer s t) [] (walkReaches s u) (pair Or c t u))
+    (or-walked (firstTooLong s (walkBuilds s t)) (firstTooLong s (walkBuilds s u)) (walkAnswer s t) (walkAnswer s u) (length (walkReaches s t)) (length (walkReaches s u)))
 walk-is s (pair And c t u) =
-    rw (walk-is s t, walk-is s u, tooLong-sides s (built s t) (says s t) (built s u) [], length-sides (reached s t) (says s t) (reached s u) [] (pair And c t u))
-    (and-walked (firstTooLong s (built s t)) (firstTooLong s (built s u)) (says s t) (says s u) (length (reached s t)) (length (reached s u)))
+    rw (walk-is s t, walk-is s u, tooLong-sides s (walkBuilds s t) (walkAnswer s t) (walkBuilds s u) [], length-sides (walkReaches s t) (walkAnswer s t) (walkReaches s u) [] (pair And c t u))
+    (and-walked (firstTooLong s (walkBuilds s t)) (firstTooLong s (walkBuilds s u)) (walkAnswer s t) (walkAnswer s u) (length (walkReaches s t)) (length (walkReaches s u)))
 walk-is s (pair MildNot c t u) = refl
 walk-is s (negation c t) =
-    rw (walk-is s t, length-append (reached s t) (negation c t ∷ [])) (not-walked (firstTooLong s (built s t)) (says s t) (length (reached s t)))
+    rw (walk-is s t, length-append (walkReaches s t) (negation c t ∷ [])) (not-walked (firstTooLong s (walkBuilds s t)) (walkAnswer s t) (length (walkReaches s t)))
 walk-is s (filter f c t) = refl
 
--- ---- says
+-- ---- walkAnswer
 
-pub says-free : (s : Section) (t : Tree) → says s t ≡ isYes (allMatches s t)
-unfolding says allMatches
-says-free s (phrase c rank ws) = sym (yes-phrase s rank ws)
-says-free s (pair Or c t u) = ap₂ _||_ (says-free s t) (says-free s u) ∙ sym (yes-or (allMatches s t) (allMatches s u))
-says-free s (pair And c t u) = ap₂ _&&_ (says-free s t) (says-free s u) ∙ sym (yes-and (allMatches s t) (allMatches s u))
-says-free s (pair MildNot c t u) = refl
-says-free s (negation c t) = ap not (says-free s t) ∙ sym (yes-not (allMatches s t))
-says-free s (filter f c t) = refl
+pub walkAnswer-complete : (s : Section) (t : Tree) → walkAnswer s t ≡ isYes (allMatches s t)
+unfolding walkAnswer allMatches
+walkAnswer-complete s (phrase c rank ws) = sym (yes-phrase s rank ws)
+walkAnswer-complete s (pair Or c t u) = ap₂ _||_ (walkAnswer-complete s t) (walkAnswer-complete s u) ∙ sym (yes-or (allMatches s t) (allMatches s u))
+walkAnswer-complete s (pair And c t u) = ap₂ _&&_ (walkAnswer-complete s t) (walkAnswer-complete s u) ∙ sym (yes-and (allMatches s t) (allMatches s u))
+walkAnswer-complete s (pair MildNot c t u) = refl
+walkAnswer-complete s (negation c t) = ap not (walkAnswer-complete s t) ∙ sym (yes-not (allMatches s t))
+walkAnswer-complete s (filter f c t) = refl
 
--- ---- built, reached
+-- ---- walkBuilds, walkReaches
 
 cond-into : {A : Type 0} {xs ys zs : List A} (b : Bool) → Sublistᴰ xs zs → Sublistᴰ ys zs → Sublistᴰ (cond b xs ys) zs
 cond-into true d e = d
@@ -162,35 +148,35 @@ cond-both true d e = d
 cond-both false d e = e
 
 -- Every code that the walk builds it reaches, in the same order.
-pub built-reached : (s : Section) (t : Tree) → Sublistᴰ (built s t) (reached s t)
-unfolding built reached
-built-reached s (phrase c rank ws) = Sublistᴰ·nil-sublist (phrase c rank ws ∷ [])
-built-reached s (pair Or c t u) =
-    sublist-append (pair Or c t u ∷ []) (Sublistᴰ·append (built-reached s t) (cond-both (says s t) Sublistᴰ·slnil (built-reached s u)))
-built-reached s (pair And c t u) =
-    sublist-append (pair And c t u ∷ []) (Sublistᴰ·append (built-reached s t) (cond-both (says s t) (built-reached s u) Sublistᴰ·slnil))
-built-reached s (pair MildNot c t u) = Sublistᴰ·refl (parts (pair MildNot c t u))
-built-reached s (negation c t) = sublist-append (negation c t ∷ []) (built-reached s t)
-built-reached s (filter f c t) = Sublistᴰ·refl (parts (filter f c t))
+pub walkBuilds-reaches : (s : Section) (t : Tree) → Sublistᴰ (walkBuilds s t) (walkReaches s t)
+unfolding walkBuilds walkReaches
+walkBuilds-reaches s (phrase c rank ws) = Sublistᴰ·nil-sublist (phrase c rank ws ∷ [])
+walkBuilds-reaches s (pair Or c t u) =
+    sublist-append (pair Or c t u ∷ []) (Sublistᴰ·append (walkBuilds-reaches s t) (cond-both (walkAnswer s t) Sublistᴰ·slnil (walkBuilds-reaches s u)))
+walkBuilds-reaches s (pair And c t u) =
+    sublist-append (pair And c t u ∷ []) (Sublistᴰ·append (walkBuilds-reaches s t) (cond-both (walkAnswer s t) (walkBuilds-reaches s u) Sublistᴰ·slnil))
+walkBuilds-reaches s (pair MildNot c t u) = Sublistᴰ·refl (parts (pair MildNot c t u))
+walkBuilds-reaches s (negation c t) = sublist-append (negation c t ∷ []) (walkBuilds-reaches s t)
+walkBuilds-reaches s (filter f c t) = Sublistᴰ·refl (parts (filter f c t))
 
 -- Every code that it reaches is the tree's, in the same order: none counts twice.
-pub reached-parts : (s : Section) (t : Tree) → Sublistᴰ (reached s t) (parts t)
-unfolding reached parts
-reached-parts s (phrase c rank ws) = Sublistᴰ·refl (phrase c rank ws ∷ [])
-reached-parts s (pair Or c t u) =
-    Sublistᴰ·append (Sublistᴰ·append (reached-parts s t) (cond-into (says s t) (Sublistᴰ·nil-sublist (parts u)) (reached-parts s u))) (Sublistᴰ·refl (pair Or c t u ∷ []))
-reached-parts s (pair And c t u) =
-    Sublistᴰ·append (Sublistᴰ·append (reached-parts s t) (cond-into (says s t) (reached-parts s u) (Sublistᴰ·nil-sublist (parts u)))) (Sublistᴰ·refl (pair And c t u ∷ []))
-reached-parts s (pair MildNot c t u) = Sublistᴰ·refl (parts (pair MildNot c t u))
-reached-parts s (negation c t) = Sublistᴰ·append (reached-parts s t) (Sublistᴰ·refl (negation c t ∷ []))
-reached-parts s (filter f c t) = Sublistᴰ·refl (parts (filter f c t))
+pub walkReaches-parts : (s : Section) (t : Tree) → Sublistᴰ (walkReaches s t) (parts t)
+unfolding walkReaches parts
+walkReaches-parts s (phrase c rank ws) = Sublistᴰ·refl (phrase c rank ws ∷ [])
+walkReaches-parts s (pair Or c t u) =
+    Sublistᴰ·append (Sublistᴰ·append (walkReaches-parts s t) (cond-into (walkAnswer s t) (Sublistᴰ·nil-sublist (parts u)) (walkReaches-parts s u))) (Sublistᴰ·refl (pair Or c t u ∷ []))
+walkReaches-parts s (pair And c t u) =
+    Sublistᴰ·append (Sublistᴰ·append (walkReaches-parts s t) (cond-into (walkAnswer s t) (walkReaches-parts s u) (Sublistᴰ·nil-sublist (parts u)))) (Sublistᴰ·refl (pair And c t u ∷ []))
+walkReaches-parts s (pair MildNot c t u) = Sublistᴰ·refl (parts (pair MildNot c t u))
+walkReaches-parts s (negation c t) = Sublistᴰ·append (walkReaches-parts s t) (Sublistᴰ·refl (negation c t ∷ []))
+walkReaches-parts s (filter f c t) = Sublistᴰ·refl (parts (filter f c t))
 
-pub built-parts : (s : Section) (t : Tree) → Sublistᴰ (built s t) (parts t)
-built-parts s t = Sublistᴰ·trans (built-reached s t) (reached-parts s t)
+pub walkBuilds-parts : (s : Section) (t : Tree) → Sublistᴰ (walkBuilds s t) (parts t)
+walkBuilds-parts s t = Sublistᴰ·trans (walkBuilds-reaches s t) (walkReaches-parts s t)
 
-pub length-reached : (s : Section) (t : Tree) → length (reached s t) ≤ length (parts t)
-length-reached s t = length-sublist (reached-parts s t)
+pub length-walkReaches : (s : Section) (t : Tree) → length (walkReaches s t) ≤ length (parts t)
+length-walkReaches s t = length-sublist (walkReaches-parts s t)
 
 -- Where every code's list fits, so does every list that the walk builds.
-pub built-none : (s : Section) (t : Tree) → firstTooLong s (parts t) ≡ none → firstTooLong s (built s t) ≡ none
-built-none s t e = firstTooLong-sublist s (built-parts s t) e
+pub walkBuilds-fit : (s : Section) (t : Tree) → firstTooLong s (parts t) ≡ none → firstTooLong s (walkBuilds s t) ≡ none
+walkBuilds-fit s t e = firstTooLong-sublist s (walkBuilds-parts s t) e

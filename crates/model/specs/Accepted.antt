@@ -2,28 +2,36 @@
 use Prim.Native.Nat.{ℕ, _+_, _*_, _≤_}
 use mathlib.Core.Bool.{true}
 use mathlib.Core.List.{List}
+use mathlib.Core.Logic.{_⊎_}
 use mathlib.Core.Option.{none}
 use mathlib.Core.Path.{_≡_}
 use lib.ListN.{length}
 use Rattle.model.specs.AllStrings.{RanksUpTo}
-use Rattle.model.specs.Checks.{operandFits, mildOverNot}
-use Rattle.model.specs.Limits.{maxTokens, maxCodes}
+use Rattle.model.specs.Checks.{operandFits, mildOverNot, inputRefusal}
+use Rattle.model.specs.Limits.{maxTokens, maxCodes, workLength}
 use Rattle.model.specs.Lists.{first}
 use Rattle.model.specs.Parts.{postfix, placed, wellFormed}
 use Rattle.model.specs.Section.{size, sentenceAt, paragraphAt}
 use Rattle.model.specs.Selection.{kindAt, operandAt, codesOf}
 use Rattle.model.specs.Trees.{treeOf, parts}
 
--- "Sentence numbers are all zero (not reported) or all nonzero and never falling; paragraph numbers likewise."
-pub record Steady (unit : ℕ → ℕ) (n : ℕ) : Type 0 where
-  pub rising : (p q : ℕ) → 1 ≤ p → p ≤ q → q ≤ n → unit p ≤ unit q
-  pub together : (p q : ℕ) → 1 ≤ p → p ≤ n → 1 ≤ q → q ≤ n → unit p ≡ 0 → unit q ≡ 0
+-- "Sentence numbers are all zero (not reported) or all nonzero and never falling; paragraph numbers likewise." A unit is either, as the number at a
+-- position.
+abbrev pub NotReported : (ℕ → ℕ) → ℕ → Type 0
+NotReported unit n = (p : ℕ) → 1 ≤ p → p ≤ n → unit p ≡ 0
+
+pub record Reported (unit : ℕ → ℕ) (n : ℕ) : Type 0 where
+  pub nonzero : (p : ℕ) → 1 ≤ p → p ≤ n → 1 ≤ unit p
+  pub never-falling : (p q : ℕ) → 1 ≤ p → p ≤ q → q ≤ n → unit p ≤ unit q
+
+abbrev pub ReportedOrNot : (ℕ → ℕ) → ℕ → Type 0
+ReportedOrNot unit n = NotReported unit n ⊎ Reported unit n
 
 pub record AcceptedSection (section : List ℕ) : Type 0 where
   pub sized : length section ≡ 1 + 2 * size section
   pub few : size section ≤ maxTokens
-  pub sentences : Steady (sentenceAt section) (size section)
-  pub paragraphs : Steady (paragraphAt section) (size section)
+  pub sentences : ReportedOrNot (sentenceAt section) (size section)
+  pub paragraphs : ReportedOrNot (paragraphAt section) (size section)
 
 -- A phrase has a word and a code of its own, so there are at most half as many phrases as codes.
 abbrev pub maxPhrases : ℕ
@@ -40,3 +48,9 @@ pub record AcceptedSelection (selection : List ℕ) : Type 0 where
   pub numbered : placed 1 1 (treeOf selection) ≡ treeOf selection
   pub ranks : RanksUpTo maxPhrases (treeOf selection)
   pub no-not : first mildOverNot (parts (treeOf selection)) ≡ none
+
+-- "Section and selection pass the checks where no refusal other than 8 falls on them before any list is built. Working memory is enough from
+-- 12,800 u32."
+pub record Passes (section selection : List ℕ) (work : ℕ) : Type 0 where
+  pub checks : inputRefusal section selection ≡ none
+  pub enough : workLength ≤ work

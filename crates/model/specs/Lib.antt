@@ -18,4 +18,4 @@ pub mod Parts
 pub mod AllStrings
 pub mod Choices
 pub mod Accepted
-pub mod Demand3
+pub mod Walked

@@ -1,7 +1,7 @@
 -- "The quick answer": its walk from the last code.
 use Prim.Native.Nat.{ℕ, _+_}
-use mathlib.Core.Bool.{Bool, true, false, not, _&&_, _||_, cond}
-use mathlib.Core.List.{List, [], _∷_, _++_}
+use mathlib.Core.Bool.{Bool, true, false, not}
+use mathlib.Core.List.{List}
 use mathlib.Core.Option.{Option, some, none, Option·map}
 use lib.Dec.{leb}
 use lib.ListN.{length}
@@ -18,8 +18,11 @@ use Rattle.model.specs.Trees.{Tree, phrase, pair, negation, filter, plac
 
 -- 9, "the first such code built": "its list has over 256 matches or 512 strings". "Building makes one list for each code of the part but kind 0,
 -- in postfix order; a list is measured complete, and the steps inside a rule are not."
+abbrev pub isTooLong : Section → Tree → Bool
+isTooLong s t = tooLong (allMatches s t)
+
 unfoldable pub firstTooLong : Section → List Tree → Option ℕ
-firstTooLong s built = Option·map placeOf (first (λ t. tooLong (allMatches s t)) built)
+firstTooLong s codes = Option·map placeOf (first (isTooLong s) codes)
 
 -- "At kinds 5 to 15 it builds that code's whole part by the rules above, left to right, and looks for a match without excludes." "a built part,
 -- which is its code and every code below it, counts all its codes but those of kind 0."
@@ -57,33 +60,6 @@ walk s (pair Or c t u) = let right = walk s u in orWalk (walk s t) right
 walk s (pair And c t u) = let right = walk s u in andWalk (walk s t) right
 walk s (pair MildNot c t u) = build s (pair MildNot c t u)
 walk s (filter f c t) = build s (filter f c t)
-
--- What demand 3 holds the walk to: the answer that it comes to where no list is too long ..
-unfoldable pub says : Section → Tree → Bool
-says s (phrase c rank ws) = not (isEmpty (phraseList s rank ws))
-says s (negation c t) = not (says s t)
-says s (pair Or c t u) = says s t || says s u
-says s (pair And c t u) = says s t && says s u
-says s (pair MildNot c t u) = isYes (allMatches s (pair MildNot c t u))
-says s (filter f c t) = isYes (allMatches s (filter f c t))
-
--- .. the codes that it would build, were no list too long, in order ..
-unfoldable pub built : Section → Tree → List Tree
-built s (phrase c rank ws) = []
-built s (negation c t) = built s t
-built s (pair Or c t u) = built s t ++ cond (says s t) [] (built s u)
-built s (pair And c t u) = built s t ++ cond (says s t) (built s u) []
-built s (pair MildNot c t u) = parts (pair MildNot c t u)
-built s (filter f c t) = parts (filter f c t)
-
--- .. and the codes that it would walk or build.
-unfoldable pub reached : Section → Tree → List Tree
-reached s (phrase c rank ws) = phrase c rank ws ∷ []
-reached s (negation c t) = reached s t ++ negation c t ∷ []
-reached s (pair Or c t u) = reached s t ++ cond (says s t) [] (reached s u) ++ pair Or c t u ∷ []
-reached s (pair And c t u) = reached s t ++ cond (says s t) (reached s u) [] ++ pair And c t u ∷ []
-reached s (pair MildNot c t u) = parts (pair MildNot c t u)
-reached s (filter f c t) = parts (filter f c t)
 
 -- "The selection's own count is that of all its codes but those of kind 0."
 unfoldable pub ownCount : List ℕ → ℕ

@@ -22,12 +22,13 @@ use Rattle.model.specs.Rules.{phraseList}
 use Rattle.model.specs.Section.{Section, sectionOf, size}
 use Rattle.model.specs.Selection.{codeAt, upTo}
 use Rattle.model.specs.Trees.{Tree, phrase, pair, negation, filter, parts}
-use Rattle.model.specs.Walk.{firstTooLong, unlessTooLong, build, turned, orWalk, andWalk, walk, says, built, reached}
+use Rattle.model.specs.Walk.{firstTooLong, unlessTooLong, build, turned, orWalk, andWalk, walk}
+use Rattle.model.specs.Walked.{walkAnswer, walkBuilds, walkReaches}
 use Rattle.model.proofs.PartsLaws.{PairAt, WrapAt, pair-at, negation-at, filter-at, phrase-at, word-at, part-some, part-length}
 use Rattle.model.proofs.TestsLaws.{false-true}
 use Rattle.model.proofs.SelectionLaws.{length-upTo, upTo-front, ends}
 use Rattle.model.proofs.TreesLaws.{heads-le, length-parts}
-use Rattle.model.proofs.WalkLaws.{walk-is, length-reached}
+use Rattle.model.proofs.WalkLaws.{walk-is, length-walkReaches}
 use Rattle.selection.specs.Phrases.{phraseWords}
 use Rattle.building.proofs.WordsLaws.{Loose, phrase-words, one-behind}
 use Rattle.walking.specs.Steps.{isMildNot, decides, codesIn, passedUp}
@@ -42,8 +43,8 @@ codes-unless (some c) b n = omega arith
 -- a part's walk counts at most its codes
 pub codes-few : (s : Section) (t : Tree) → codesIn (walk s t) ≤ length (postfix t)
 codes-few s t =
-    let counts = codes-unless (firstTooLong s (built s t)) (says s t) (length (reached s t)) in
-    omega (arith, ap codesIn (walk-is s t), counts, length-reached s t, length-parts t, heads-le (postfix t))
+    let counts = codes-unless (firstTooLong s (walkBuilds s t)) (walkAnswer s t) (length (walkReaches s t)) in
+    omega (arith, ap codesIn (walk-is s t), counts, length-walkReaches s t, length-parts t, heads-le (postfix t))
 
 -- ---- passedUp
 

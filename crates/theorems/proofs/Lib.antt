@@ -1,0 +1,8 @@
+-- The demands, proved ..
+pub mod Demand1
+pub mod Demand2
+pub mod Demand3
+-- .. and the laws of their words.
+pub mod WordsLaws
+pub mod TableLaws
+pub mod NumbersLaws

@@ -1,0 +1,168 @@
+-- The first refusal of a table that falls, as a function, is what the calls' definitions come to: each is a chain of refusals, and a chain of chains is
+-- one chain of the rows of all.
+use Prim.Native.Nat.{ℕ, _≤_}
+use mathlib.Core.Path.{_≡_, refl, sym, ap, _∙_}
+use mathlib.Core.Bool.{Bool, true, false, _&&_, cond}
+use mathlib.Core.List.{List, [], _∷_, _++_}
+use mathlib.Core.Logic.{_↔_}
+use mathlib.Core.Option.{Option, some, none, Option·map, Option·none-ne-some, map-eq-none-iff}
+use lib.Dec.{leb}
+use lib.ListN.{length}
+use borrow.Author.Tests.{leb-true}
+use Rattle.model.specs.declared.Quick.the-variants.{Answered}
+use Rattle.model.specs.AllStrings.{Every}
+use Rattle.model.specs.Answers.{completeList, listingRefusal, walkUnless, quickAnswer}
+use Rattle.model.specs.Checks.{Refusal, refusal, otherwise, tried, wrongSection, faultyPosition, sectionRefusal, selectionRefusal, roomRefusal, inputRefusal, listingChecks, quickChecks}
+use Rattle.model.specs.Lists.{allOf}
+use Rattle.model.specs.Limits.{workLength, bufferLength}
+use Rattle.model.specs.Matches.{isYes}
+use Rattle.model.specs.Section.{sectionOf}
+use Rattle.model.specs.Trees.{Tree, treeOf, parts}
+use Rattle.model.specs.Walk.{firstTooLong, unlessTooLong}
+use Rattle.model.specs.Walked.{walkBuilds, walkReaches}
+use Rattle.model.proofs.ChecksLaws.{otherwise-none}
+use Rattle.model.proofs.ListsLaws.{all-split}
+use Rattle.model.proofs.TestsLaws.{both-true}
+use Rattle.model.proofs.WalkLaws.{walk-is, walkAnswer-complete}
+use Rattle.theorems.specs.Demands.{Row, row, Falls, inputRows, listRows, listingTable, quickTable, FirstToFall, NoneFalls, PassChecks}
+
+-- ---- the first that falls
+
+unfoldable pub firstFall : List Row → Option Refusal
+firstFall [] = none
+firstFall (w ∷ ws) = otherwise (Option·map (refusal (w .number)) (w .falls)) (firstFall ws)
+
+not-falls : (w : Row) → (w .falls ≡ none) ↔ (¬ Falls w)
+not-falls w = (λ e f. Option·none-ne-some (f .0) (sym e ∙ f .1), back (w .falls) refl)
+  where
+    back : (o : Option ℕ) → w .falls ≡ o → ¬ Falls w → w .falls ≡ none
+    back none e n = e
+    back (some c) e n = absurd (n (c, e))
+
+none-fall : (ws : List Row) → firstFall ws ≡ none → NoneFalls ws
+unfolding firstFall Every
+none-fall [] e = tt
+none-fall (w ∷ ws) e =
+    let both = otherwise-none (Option·map (refusal (w .number)) (w .falls)) (firstFall ws) e in
+    (not-falls w .0 (map-eq-none-iff (refusal (w .number)) (w .falls) .0 (both .0)), none-fall ws (both .1))
+
+fall-none : (ws : List Row) → NoneFalls ws → firstFall ws ≡ none
+unfolding firstFall Every
+fall-none [] n = refl
+fall-none (w ∷ ws) n = let e = not-falls w .1 (n .0) in rw e (fall-none ws (n .1))
+
+pub firstFall-none : (table : List Row) → (firstFall table ≡ none) ↔ NoneFalls table
+firstFall-none table = (none-fall table, fall-none table)
+
+otherwise-assoc : (a b c : Option Refusal) → otherwise (otherwise a b) c ≡ otherwise a (otherwise b c)
+otherwise-assoc none b c = refl
+otherwise-assoc (some r) b c = refl
+
+pub firstFall-append : (ws vs : List Row) → firstFall (ws ++ vs) ≡ otherwise (firstFall ws) (firstFall vs)
+unfolding firstFall
+firstFall-append [] vs = refl
+firstFall-append (w ∷ ws) vs =
+    let one = Option·map (refusal (w .number)) (w .falls) in
+    ap (otherwise one) (firstFall-append ws vs) ∙ sym (otherwise-assoc one (firstFall ws) (firstFall vs))
+
+some-fall : (ws : List Row) (r : Refusal) → firstFall ws ≡ some r → FirstToFall ws r
+unfolding firstFall Every
+some-fall [] r e = absurd (Option·none-ne-some r e)
+some-fall (w ∷ ws) r e = at (w .falls) refl e (some-fall ws r)
+  where
+    at : (o : Option ℕ) → w .falls ≡ o → otherwise (Option·map (refusal (w .number)) o) (firstFall ws) ≡ some r → (firstFall ws ≡ some r → FirstToFall ws r) → FirstToFall (w ∷ ws) r
+    at none h e' later =
+        let f = later e' in
+        record { before = w ∷ f .before; after = f .after; order = ap (λ vs. w ∷ vs) (f .order); none-before = (not-falls w .0 h, f .none-before); this = f .this }
+    at (some c) h e' later =
+        let same : refusal (w .number) c ≡ r = cc in
+        let is : w ≡ row (r .number) (some (r .place)) = ap (row (w .number)) h ∙ ap (λ (q : Refusal). row (q .number) (some (q .place))) same in
+        record { before = []; after = ws; order = ap (λ v. v ∷ ws) is; none-before = tt; this = (r .place, refl) }
+
+pub firstFall-some : (table : List Row) (r : Refusal) → (firstFall table ≡ some r) ↔ FirstToFall table r
+unfolding firstFall
+firstFall-some table r = (some-fall table r, back)
+  where
+    back : FirstToFall table r → firstFall table ≡ some r
+    back f =
+        let before = fall-none (f .before) (f .none-before) in
+        ap firstFall (f .order) ∙ firstFall-append (f .before) (row (r .number) (some (r .place)) ∷ f .after) ∙ rw before
+
+-- ---- numbers
+
+-- input, room and size: the tables of both calls
+abbrev rows : List ℕ → List ℕ → Bool → List Tree → List Row
+rows section selection enough built = inputRows section selection ++ listRows enough section built
+
+abbrev oneToNine : Row → Bool
+oneToNine w = leb 1 (w .number) && leb (w .number) 9
+
+rows-numbers : (section selection : List ℕ) (enough : Bool) (built : List Tree) → allOf oneToNine (rows section selection enough built) ≡ true
+unfolding allOf
+rows-numbers section selection enough built = refl
+
+-- a refusal of a table has the number of one of its rows
+pub firstFall-number : (section selection : List ℕ) (enough : Bool) (built : List Tree) (r : Refusal)
+    → firstFall (inputRows section selection ++ listRows enough section built) ≡ some r → (1 ≤ r .number) × (r .number ≤ 9)
+unfolding allOf
+firstFall-number section selection enough built r e =
+    let f = some-fall (rows section selection enough built) r e in
+    let falls = row (r .number) (some (r .place)) in
+    let tail = all-split oneToNine (f .before) (falls ∷ f .after) (sym (ap (allOf oneToNine) (f .order)) ∙ rows-numbers section selection enough built) .1 in
+    let both = both-true (leb 1 (r .number)) (leb (r .number) 9) (both-true (oneToNine falls) (allOf oneToNine (f .after)) tail .0) in
+    (leb-true 1 (r .number) (both .0), leb-true (r .number) 9 (both .1))
+
+-- ---- the calls' tables
+
+two-ahead : (a b c : Option Refusal) → otherwise (otherwise a (otherwise b none)) c ≡ otherwise a (otherwise b c)
+two-ahead (some r) b c = refl
+two-ahead none b c = otherwise-assoc b none c
+
+room-and-size : (o : Option Refusal) (enough : Bool) (long : Option ℕ)
+    → otherwise (otherwise o (roomRefusal enough)) (Option·map (refusal 9) long)
+    ≡ otherwise o (firstFall (row 8 (cond enough none (some 0)) ∷ row 9 long ∷ []))
+unfolding firstFall
+room-and-size (some r) enough long = refl
+room-and-size none false long = refl
+room-and-size none true none = refl
+room-and-size none true (some c) = refl
+
+module _ (section selection : List ℕ) where
+  input-rows : inputRefusal section selection ≡ firstFall (inputRows section selection)
+  unfolding inputRefusal sectionRefusal selectionRefusal tried firstFall
+  input-rows = two-ahead (Option·map (refusal 1) (wrongSection section)) (Option·map (refusal 2) (faultyPosition section)) _
+
+  pub pass-none : PassChecks section selection → inputRefusal section selection ≡ none
+  pass-none n = input-rows ∙ fall-none (inputRows section selection) n
+
+  all-rows : (enough : Bool) (built : List Tree)
+      → otherwise (otherwise (inputRefusal section selection) (roomRefusal enough)) (Option·map (refusal 9) (firstTooLong (sectionOf section) built))
+      ≡ firstFall (rows section selection enough built)
+  all-rows enough built =
+      room-and-size (inputRefusal section selection) enough (firstTooLong (sectionOf section) built)
+      ∙ ap (λ (o : Option Refusal). otherwise o (firstFall (listRows enough section built))) input-rows
+      ∙ sym (firstFall-append (inputRows section selection) (listRows enough section built))
+
+  pub listing-table : (work buffer : ℕ) → listingRefusal section selection work buffer ≡ firstFall (listingTable section selection work buffer)
+  unfolding listingRefusal listingChecks
+  listing-table work buffer = all-rows (leb workLength work && leb bufferLength buffer) (parts (treeOf selection))
+
+  walk-unless : (o : Option Refusal) (f : Option ℕ) (b : Bool) (n : ℕ)
+      → walkUnless o (unlessTooLong f b n) ≡ walkUnless (otherwise o (Option·map (refusal 9) f)) (Answered b n)
+  walk-unless (some r) f b n = refl
+  walk-unless none none b n = refl
+  walk-unless none (some c) b n = refl
+
+  -- The quick answer is the first refusal of its table that falls; where none does, whether the complete list has a match without excludes, with
+  -- how many codes its walk reaches.
+  pub quick-table : (work : ℕ)
+      → quickAnswer section selection work
+      ≡ walkUnless (firstFall (quickTable section selection work)) (Answered (isYes (completeList section selection)) (length (walkReaches (sectionOf section) (treeOf selection))))
+  unfolding quickAnswer quickChecks
+  quick-table work =
+      let s = sectionOf section in
+      let t = treeOf selection in
+      let answered = walkUnless (quickChecks section selection work) in
+      ap answered (walk-is s t ∙ ap (λ (b : Bool). unlessTooLong (firstTooLong s (walkBuilds s t)) b (length (walkReaches s t))) (walkAnswer-complete s t))
+      ∙ walk-unless (quickChecks section selection work) (firstTooLong s (walkBuilds s t)) (isYes (completeList section selection)) (length (walkReaches s t))
+      ∙ ap (λ (o : Option Refusal). walkUnless o (Answered (isYes (completeList section selection)) (length (walkReaches s t)))) (all-rows (leb workLength work) (walkBuilds s t))

@@ -1,0 +1,13 @@
+-- The function does nothing: what it ensures is each demand, proved in a file of its own.
+use Rattle.theorems.proofs.demands_hold.Statement.{statement}
+use Rattle.theorems.proofs.demands_hold.Tie as tie
+use Rattle.theorems.proofs.Demand1.{demand-1}
+use Rattle.theorems.proofs.Demand2.{demand-2}
+use Rattle.theorems.proofs.Demand3.{demand-3}
+
+-- src/lib.rt:4:1
+returns : tie.Need-returns
+returns c = (demand-1, (demand-2, demand-3))
+
+pub demands-hold-spec : {M : Type 1} → statement M
+demands-hold-spec = tie.close (tie.spec returns)
