@@ -1,3 +1,4 @@
 pub mod Products
 pub mod Appending
 pub mod Finds
+pub mod Blocks

@@ -31,6 +31,19 @@ pub record NextStart (s : Section) (words : List ℕ) (from p : ℕ) : Type 0 wh
   pub stands : p ≤ s .tokens → standFrom s words p ≡ true
   pub same : startsFrom s words from ≡ startsFrom s words p
 
+-- no start from `from` on lies before p
+pub record Passed (s : Section) (words : List ℕ) (from p : ℕ) : Type 0 where
+  pub not-before : from ≤ p
+  pub up-to : p ≤ s .tokens + 1
+  pub same : startsFrom s words from ≡ startsFrom s words p
+
+-- p is the first start from `from` on and before `to`, or `to`
+pub record StartBefore (s : Section) (words : List ℕ) (from to p : ℕ) : Type 0 where
+  pub not-before : from ≤ p
+  pub up-to : p ≤ to
+  pub stands : p < to → standFrom s words p ≡ true
+  pub same : startsFrom s words from ≡ startsFrom s words p
+
 -- in a memory of so many numbers, room at q for the find of k words at p, of a rank that a tag can hold
 pub record Findable (size q p k rank : ℕ) : Type 0 where
   pub room : q + 3 ≤ size

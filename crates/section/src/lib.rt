@@ -7,7 +7,8 @@ use model::Position;
 use model::RADIX;
 use model::Sentence;
 ghost use mathlib.Core.Path.{_≡_};
-ghost use mathlib.Core.Bool.{_||_, xor};
+ghost use mathlib.Core.Bool.{not, true, _&&_, _||_, xor};
+ghost use mathlib.Core.Option.{none};
 ghost use Prim.Native.Nat.{_+_, _*_, _≤_};
 ghost use lib.Dec.{eqb, ltb};
 ghost use lib.ListN.{length};
@@ -15,6 +16,7 @@ ghost use Rattle.model.specs.Answers.{checkedOf, faultOf, snippetOf};
 ghost use Rattle.model.specs.Checks.{faultyAt, faultyPosition, sectionRefusal};
 ghost use Rattle.model.specs.Limits.{maxTokens};
 ghost use Rattle.model.specs.Section.{paragraphAt, sentenceAt, size, wordAt};
+ghost use Rattle.section.specs.Rising.{Risen};
 
 // The word at a position.
 pub fn word_at(section: &[u32], p: Position) -> u32
@@ -61,12 +63,61 @@ fn is_faulty(section: &[u32], n: usize, p: usize) -> bool
     breaks_order(before / RADIX, here / RADIX)
 }
 
+// How far the paragraph numbers rise up to position n: each place less the one before it, modulo 2^32, and of that the upper half, summed.
+fn rise(section: &[u32], n: usize) -> u32
+    requires { ⌜ n ≡ size (now section) ⌝ }
+    requires { ⌜ (1 ≤ n) × (n ≤ maxTokens) × (length (now section) ≡ 1 + 2 * n) ⌝ }
+    ensures { λ r. ⌜ Risen (now (section .entry)) n r ⌝ }
+{
+    let mut sum: u32 = 0;
+    let mut p: usize = 1;
+    while p < n {
+        let step = std::num::wrapping_sub_u32(section[n + p + 1], section[n + p]);
+        sum += step / RADIX;
+        p += 1;
+    }
+    sum
+}
+
+// Is the last number reported and the first one not?
+fn begins(first: u32, last: u32) -> bool
+    ensures { λ r. ⌜ r ≡ (eqb first 0 && not (eqb last 0)) ⌝ }
+{
+    if first != 0 {
+        return false;
+    }
+    last != 0
+}
+
+// True only where no position is faulty: nothing falls from the first position to the last, and nothing begins.
+fn is_faultless(section: &[u32], n: usize) -> bool
+    requires { ⌜ n ≡ size (now section) ⌝ }
+    requires { ⌜ (n ≤ maxTokens) × (length (now section) ≡ 1 + 2 * n) ⌝ }
+    ensures { λ r. ⌜ (r ≡ true → faultyPosition (now (section .entry)) ≡ none) ⌝ }
+{
+    if n == 0 {
+        return true;
+    }
+    let first = section[n + 1];
+    let last = section[n + n];
+    if rise(section, n) + first / RADIX != last / RADIX {
+        return false;
+    }
+    if begins(first % RADIX, last % RADIX) {
+        return false;
+    }
+    !begins(first / RADIX, last / RADIX)
+}
+
 // The first faulty position.
 fn first_faulty(section: &[u32], n: usize) -> Fault
     requires { ⌜ n ≡ size (now section) ⌝ }
     requires { ⌜ (n ≤ maxTokens) × (length (now section) ≡ 1 + 2 * n) ⌝ }
     ensures { λ r. ⌜ r ≡ faultOf (faultyPosition (now (section .entry))) ⌝ }
 {
+    if is_faultless(section, n) {
+        return Fault::Nowhere;
+    }
     let mut p: usize = 2;
     while p <= n {
         if is_faulty(section, n, p) {
