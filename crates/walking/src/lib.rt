@@ -66,7 +66,7 @@ fn walk_phrase(section: &[u32], words: &[u32]) -> Quick
     requires { ⌜ AcceptedSection (now section) ⌝ }
     ensures { λ r. ⌜ ((rank : ℕ) → r ≡ Answered (not (isEmpty (phraseList (sectionOf (now (section .entry))) rank (now (words .entry))))) 1) ⌝ }
 {
-    let yes = combine::phrase::is_found(section, words);
+    let yes = phrase::is_found(section, words);
     Quick::Answered { yes, codes: 1 }
 }
 

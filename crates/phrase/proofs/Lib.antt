@@ -1,0 +1,2 @@
+pub mod FindsLaws
+pub mod BlocksLaws
