@@ -1,3 +1,3 @@
 pub mod Orders
 pub mod Checking
-pub mod RisingLaws
+pub mod RisesLaws

@@ -16,7 +16,7 @@ ghost use Rattle.model.specs.Answers.{checkedOf, faultOf, snippetOf};
 ghost use Rattle.model.specs.Checks.{faultyAt, faultyPosition, sectionRefusal};
 ghost use Rattle.model.specs.Limits.{maxTokens};
 ghost use Rattle.model.specs.Section.{paragraphAt, sentenceAt, size, wordAt};
-ghost use Rattle.section.specs.Rising.{Risen};
+ghost use Rattle.section.specs.Rises.{SummedRises};
 
 // The word at a position.
 pub fn word_at(section: &[u32], p: Position) -> u32
@@ -63,11 +63,12 @@ fn is_faulty(section: &[u32], n: usize, p: usize) -> bool
     breaks_order(before / RADIX, here / RADIX)
 }
 
-// How far the paragraph numbers rise up to position n: each place less the one before it, modulo 2^32, and of that the upper half, summed.
-fn rise(section: &[u32], n: usize) -> u32
+// How far the paragraph numbers rise up to position n: each place less the one before it, modulo 2^32, and of that the upper half, summed. No turn of the
+// loop depends on a fall, so that it becomes vector instructions.
+fn summed_rises(section: &[u32], n: usize) -> u32
     requires { ⌜ n ≡ size (now section) ⌝ }
     requires { ⌜ (1 ≤ n) × (n ≤ maxTokens) × (length (now section) ≡ 1 + 2 * n) ⌝ }
-    ensures { λ r. ⌜ Risen (now (section .entry)) n r ⌝ }
+    ensures { λ r. ⌜ SummedRises (now (section .entry)) n r ⌝ }
 {
     let mut sum: u32 = 0;
     let mut p: usize = 1;
@@ -79,8 +80,8 @@ fn rise(section: &[u32], n: usize) -> u32
     sum
 }
 
-// Is the last number reported and the first one not?
-fn begins(first: u32, last: u32) -> bool
+// Is the first number zero and the last one not?
+fn rises_from_zero(first: u32, last: u32) -> bool
     ensures { λ r. ⌜ r ≡ (eqb first 0 && not (eqb last 0)) ⌝ }
 {
     if first != 0 {
@@ -89,7 +90,9 @@ fn begins(first: u32, last: u32) -> bool
     last != 0
 }
 
-// True only where no position is faulty: nothing falls from the first position to the last, and nothing begins.
+// True only where no position is faulty. The sum is short by 1 for each fall of the sentence number and over by 65,536 for each fall of the place, and there
+// are fewer falls than 65,536: where it is the rise from first to last, nothing falls. Numbers that never fall are zero beside nonzero only if they rise
+// from zero.
 fn is_faultless(section: &[u32], n: usize) -> bool
     requires { ⌜ n ≡ size (now section) ⌝ }
     requires { ⌜ (n ≤ maxTokens) × (length (now section) ≡ 1 + 2 * n) ⌝ }
@@ -100,16 +103,16 @@ fn is_faultless(section: &[u32], n: usize) -> bool
     }
     let first = section[n + 1];
     let last = section[n + n];
-    if rise(section, n) + first / RADIX != last / RADIX {
+    if summed_rises(section, n) + first / RADIX != last / RADIX {
         return false;
     }
-    if begins(first % RADIX, last % RADIX) {
+    if rises_from_zero(first % RADIX, last % RADIX) {
         return false;
     }
-    !begins(first / RADIX, last / RADIX)
+    !rises_from_zero(first / RADIX, last / RADIX)
 }
 
-// The first faulty position.
+// The first faulty position, looked for one by one where there may be one.
 fn first_faulty(section: &[u32], n: usize) -> Fault
     requires { ⌜ n ≡ size (now section) ⌝ }
     requires { ⌜ (n ≤ maxTokens) × (length (now section) ≡ 1 + 2 * n) ⌝ }

@@ -4,19 +4,19 @@ use mathlib.Core.Path.{_≡_, subst}
 use Rattle.model.specs.Section.{size}
 use borrow.Author.Needs.{needs}
 use native.Mathlib.Omega.{arith}
-use Rattle.section.specs.Rising.{Risen}
-use Rattle.section.proofs.RisingLaws.{risen-one, risen-more}
-use Rattle.section.proofs.rise.Statement.{statement}
-use Rattle.section.proofs.rise.Tie as tie
+use Rattle.section.specs.Rises.{SummedRises}
+use Rattle.section.proofs.RisesLaws.{summed-one, summed-more}
+use Rattle.section.proofs.summed_rises.Statement.{statement}
+use Rattle.section.proofs.summed_rises.Tie as tie
 
 abbrev Inv-loop : tie.InvT-loop
-Inv-loop section n sum₀ p₀ sum p = (1 ≤ p) × (p ≤ n) × Risen section p sum
+Inv-loop section n sum₀ p₀ sum p = (1 ≤ p) × (p ≤ n) × SummedRises section p sum
 
 abbrev μ-loop : tie.MeasureT-loop
 μ-loop section n sum₀ p₀ sum p = n - p
 
 loop-holds : tie.Need-loop-holds Inv-loop μ-loop
-loop-holds c = (omega arith, omega arith, risen-one _)
+loop-holds c = (omega arith, omega arith, summed-one _)
 
 add-wrapping-sub-u32 : tie.Need-add-wrapping-sub-u32 Inv-loop μ-loop
 add-wrapping-sub-u32 c = search needs
@@ -59,17 +59,17 @@ loop-again c =
     let here : a .n + l .loop .p + 1 ≡ size s + (l .loop .p + 1) = omega arith in
     let before : a .n + l .loop .p ≡ size s + l .loop .p = omega arith in
     let d = c .wrapping-sub-u32 in
-    (omega arith, omega arith, risen-more s (l .loop .p) (l .loop .sum) (d .result) (l .loop .inv .0) (d .ok) (rw (← here, ← before) (d .ensures)) (l .loop .inv .2))
+    (omega arith, omega arith, summed-more s (l .loop .p) (l .loop .sum) (d .result) (d .ok) (rw (← here, ← before) (d .ensures)) (l .loop .inv .2))
 
 returns : tie.Need-returns Inv-loop μ-loop
 returns c =
     let l = c .before in
     let a = l .before .before .args in
     let e : l .loop .p ≡ a .n = omega arith in
-    subst (λ (p : ℕ). Risen (a .section .now) p (l .loop .sum)) e (l .loop .inv .2)
+    subst (λ (p : ℕ). SummedRises (a .section .now) p (l .loop .sum)) e (l .loop .inv .2)
 
-pub rise-spec : {M : Type 1} → statement M
-rise-spec =
+pub summed-rises-spec : {M : Type 1} → statement M
+summed-rises-spec =
     tie.close
     (tie.spec
     Inv-loop
