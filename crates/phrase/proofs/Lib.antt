@@ -1,2 +1,4 @@
-pub mod FindsLaws
+pub mod RowsLaws
+pub mod StartsLaws
 pub mod BlocksLaws
+pub mod FindsLaws

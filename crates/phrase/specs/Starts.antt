@@ -1,6 +1,6 @@
 -- Where the words of a phrase stand in a row.
 use Prim.Native.Nat.{ℕ, _+_, _≤_, _<_}
-use mathlib.Core.Bool.{true, false}
+use mathlib.Core.Bool.{true}
 use mathlib.Core.List.{List}
 use mathlib.Core.Path.{_≡_}
 use lib.ListN.{length}
@@ -19,30 +19,22 @@ pub record RowWithin (section words : List ℕ) (p : ℕ) : Type 0 where
   pub accepted : AcceptedSection section
   pub from-p : p + length words ≤ size section + 1
 
--- the word number i doesn't stand in its place in a row from p on
-pub record Misplaced (s : Section) (words : List ℕ) (p i : ℕ) : Type 0 where
-  pub is-word : i < length words
-  pub stands-not : standFrom s words p ≡ false
+-- in an accepted section the rows from each position of a range on, its end left out, lie within the section
+pub record SearchRange (section words : List ℕ) (from to : ℕ) : Type 0 where
+  pub accepted : AcceptedSection section
+  pub in-order : from ≤ to
+  pub rows-within : to + length words ≤ size section + 2
 
--- p is the first start from `from` on, or the position behind the last one
-pub record NextStart (s : Section) (words : List ℕ) (from p : ℕ) : Type 0 where
-  pub not-before : from ≤ p
-  pub up-to : p ≤ s .tokens + 1
-  pub stands : p ≤ s .tokens → standFrom s words p ≡ true
-  pub same : startsFrom s words from ≡ startsFrom s words p
-
--- no start from `from` on lies before p
-pub record Passed (s : Section) (words : List ℕ) (from p : ℕ) : Type 0 where
-  pub not-before : from ≤ p
-  pub up-to : p ≤ s .tokens + 1
-  pub same : startsFrom s words from ≡ startsFrom s words p
-
--- p is the first start from `from` on and before `to`, or `to`
-pub record StartBefore (s : Section) (words : List ℕ) (from to p : ℕ) : Type 0 where
+-- no start from `from` on lies before p, which isn't after `to`
+pub record Skipped (s : Section) (words : List ℕ) (from to p : ℕ) : Type 0 where
   pub not-before : from ≤ p
   pub up-to : p ≤ to
-  pub stands : p < to → standFrom s words p ≡ true
   pub same : startsFrom s words from ≡ startsFrom s words p
+
+-- p is the first start from `from` on and before `to`, or `to` where there is none
+pub record FirstStart (s : Section) (words : List ℕ) (from to p : ℕ) : Type 0 where
+  pub skipped : Skipped s words from to p
+  pub stands : p < to → standFrom s words p ≡ true
 
 -- in a memory of so many numbers, room at q for the find of k words at p, of a rank that a tag can hold
 pub record Findable (size q p k rank : ℕ) : Type 0 where

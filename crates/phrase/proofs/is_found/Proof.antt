@@ -1,5 +1,5 @@
--- There is a find exactly where the first start is no position behind the last (starts-some).
-use Rattle.phrase.proofs.FindsLaws.{starts-some}
+-- There is a find exactly where the first start is no position after the last (starts-some).
+use Rattle.phrase.proofs.StartsLaws.{starts-some}
 use borrow.Author.Needs.{needs}
 use Rattle.phrase.proofs.is_found.Statement.{statement}
 use Rattle.phrase.proofs.is_found.Tie as tie

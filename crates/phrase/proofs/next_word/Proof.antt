@@ -1,17 +1,35 @@
--- Past the blocks, and then to the word.
-use Rattle.phrase.proofs.BlocksLaws.{past-to}
+-- The blocks without the word are skipped, and then its first position is looked for.
+use native.Mathlib.Omega.{arith}
+use Rattle.phrase.proofs.StartsLaws.{first-on}
 use borrow.Author.Needs.{needs}
 use Rattle.phrase.proofs.next_word.Statement.{statement}
 use Rattle.phrase.proofs.next_word.Tie as tie
 
-pass-one-requires : tie.Need-pass-one-requires
-pass-one-requires c κs = search needs
+shared-slice-read-to : tie.Need-shared-slice-read-to
+shared-slice-read-to c = search needs
 
-word-from-requires : tie.Need-word-from-requires
-word-from-requires c κs = search needs
+cast-to : tie.Need-cast-to
+cast-to c = search needs
+
+add-to : tie.Need-add-to
+add-to c = search needs
+
+skip-without-word-requires : tie.Need-skip-without-word-requires
+skip-without-word-requires c κs = search needs
+
+first-start-requires : tie.Need-first-start-requires
+first-start-requires c κs = search needs
 
 returns : tie.Need-returns
-returns c = past-to _ _ (c .before .pass-one .ensures) (c .word-from .ensures)
+returns c = first-on (c .before .skip-without-word .ensures) (c .first-start .ensures) (c .first-start .ensures .skipped .up-to) (λ l. l)
 
 pub next-word-spec : {M : Type 1} → statement M
-next-word-spec = tie.close (tie.spec pass-one-requires word-from-requires returns)
+next-word-spec =
+    tie.close
+    (tie.spec
+    shared-slice-read-to
+    cast-to
+    add-to
+    skip-without-word-requires
+    first-start-requires
+    returns)

@@ -1,4 +1,4 @@
--- Invariant: the finds before the one at p, so many, are written behind the heads' place, up to q, and the starts left are those from p on. Measure: the positions
+-- Invariant: the finds before the one at p, so many, are written after the place of the heads, up to q, and the starts left are those from p on. Measure: the positions
 -- left. At most 256 finds of three numbers fit.
 use Prim.Native.Nat.{_+_, _-_, _≤_}
 use native.Mathlib.Omega.{arith}

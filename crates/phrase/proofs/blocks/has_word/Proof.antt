@@ -1,21 +1,21 @@
--- Invariant: where nothing is found, the word stands at no place passed. Measure: the places left.
-use Prim.Native.Nat.{ℕ, _+_, _-_, _≤_, _<_}
+-- Invariant: where nothing is found, the word stands at no offset passed. Measure: the offsets left.
+use Prim.Native.Nat.{_-_, _≤_}
 use native.Mathlib.Omega.{arith}
 use borrow.Author.Count.{below-more}
 use borrow.Author.Needs.{needs}
 use borrow.Author.Tests.{eqb-false}
 use mathlib.Core.Bool.{false}
 use mathlib.Core.Path.{_≡_}
-use lib.ListN.{getD}
 use Rattle.model.proofs.TestsLaws.{both-false}
-use Rattle.phrase.proofs.has_word.Statement.{statement}
-use Rattle.phrase.proofs.has_word.Tie as tie
+use Rattle.phrase.specs.Blocks.{Lacks, blockSize}
+use Rattle.phrase.proofs.blocks.has_word.Statement.{statement}
+use Rattle.phrase.proofs.blocks.has_word.Tie as tie
 
 abbrev Inv-loop : tie.InvT-loop
-Inv-loop section at word found₀ i₀ found i = (i ≤ 16) × (found ≡ false → (k : ℕ) → k < i → getD section (at + k) 0 ≡ word → ⊥)
+Inv-loop section at word found₀ i₀ found i = (i ≤ blockSize) × (found ≡ false → Lacks section at word i)
 
 abbrev μ-loop : tie.MeasureT-loop
-μ-loop section at word found₀ i₀ found i = 16 - i
+μ-loop section at word found₀ i₀ found i = blockSize - i
 
 loop-holds : tie.Need-loop-holds Inv-loop μ-loop
 loop-holds c = (omega arith, λ e k h. absurd (omega arith))
