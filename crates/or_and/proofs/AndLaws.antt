@@ -1,4 +1,4 @@
--- And, step by step: two copies are one; the includes of two matches and then their excludes, behind the sum of their headers, are the joined match; a left
+-- And, step by step: two copies are one; the includes of two matches and then their excludes, after the sum of their headers, are the joined match; a left
 -- match joined with each right one is a row, and the rows of the left matches are the product.
 use Prim.Native.Nat.{ℕ, _+_, _*_, _≤_, _<_}
 use native.Mathlib.Omega.{arith}

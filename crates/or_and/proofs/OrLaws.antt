@@ -1,4 +1,4 @@
--- Or: the right list's matches copied behind the left list's are both lists' matches, and the sums of the heads are their sizes.
+-- Or: the right list's matches copied after the left list's are both lists' matches, and the sums of the heads are their sizes.
 use Prim.Native.Nat.{ℕ, _+_, _-_, _≤_}
 use native.Mathlib.Omega.{arith}
 use mathlib.Core.Path.{_≡_, refl, sym, ap₂, _∙_, subst}

@@ -13,7 +13,7 @@ ghost use Rattle.store.specs.Put.{Put};
 ghost use Rattle.or_and.specs.Joining.{CopyBoth, JoinableAt, RowAt};
 ghost use Rattle.or_and.specs.TwoSlots.{TwoSlots};
 
-// Copies n numbers at a, and behind them k numbers at b, to a place above both.
+// Copies n numbers at a, and after them k numbers at b, to a place above both.
 fn copy_both(mem: &mut [u32], a: usize, n: usize, b: usize, k: usize, to: usize)
     requires { ⌜ CopyBoth (length (now mem)) a n b k to ⌝ }
     ensures { λ _. ⌜ now (mem .exit) ≡ sets (now (mem .entry)) to (take n (drop a (now (mem .entry))) ++ take k (drop b (now (mem .entry)))) ⌝ }

@@ -6,7 +6,7 @@ ghost use Rattle.store.specs.Layout.{slotSize};
 ghost use Rattle.store.specs.Outcome.{Outcome};
 ghost use Rattle.or_and.specs.TwoSlots.{TwoSlots};
 
-// Puts the matches of the list in the slot at r behind those of the list in the slot at l below it.
+// Puts the matches of the list in the slot at r after those of the list in the slot at l below it.
 pub fn or_list(mem: &mut [u32], l: usize, r: usize) -> Built
     requires { ⌜ TwoSlots (now mem) l r ⌝ }
     requires { ⌜ l + slotSize ≤ r ⌝ }

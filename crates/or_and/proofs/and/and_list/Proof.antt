@@ -1,4 +1,4 @@
--- Invariant: the rows of the left matches before number i are written behind the heads' place, up to q, and the others lie at p as they were. Measure: the
+-- Invariant: the rows of the left matches before number i are written after the place of the heads, up to q, and the others lie at p as they were. Measure: the
 -- matches left. The product is sized first, so there is room for all of it.
 use Prim.Native.Nat.{_+_, _-_, _≤_}
 use native.Mathlib.Omega.{arith}

@@ -1,4 +1,4 @@
--- The sums of the heads are the sizes (or-sizes). Where they are within the limits the right list's matches fit behind the left list's, below where they were.
+-- The sums of the heads are the sizes (or-sizes). Where they are within the limits the right list's matches fit after the left list's, below where they were.
 use Rattle.or_and.proofs.OrLaws.{or-sizes, or-copy, or-filled}
 use Rattle.store.proofs.Slots.{refused}
 use mathlib.Core.Path.{sym, ap, _∙_}
