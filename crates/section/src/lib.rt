@@ -67,7 +67,7 @@ fn is_faulty(section: &[u32], n: usize, p: usize) -> bool
 // loop depends on a fall, so that it becomes vector instructions.
 fn summed_rises(section: &[u32], n: usize) -> u32
     requires { ⌜ n ≡ size (now section) ⌝ }
-    requires { ⌜ (1 ≤ n) × (n ≤ maxTokens) × (length (now section) ≡ 1 + 2 * n) ⌝ }
+    requires { ⌜ (2 ≤ n) × (n ≤ maxTokens) × (length (now section) ≡ 1 + 2 * n) ⌝ }
     ensures { λ r. ⌜ SummedRises (now (section .entry)) n r ⌝ }
 {
     let mut sum: u32 = 0;
@@ -98,7 +98,7 @@ fn is_faultless(section: &[u32], n: usize) -> bool
     requires { ⌜ (n ≤ maxTokens) × (length (now section) ≡ 1 + 2 * n) ⌝ }
     ensures { λ r. ⌜ (r ≡ true → faultyPosition (now (section .entry)) ≡ none) ⌝ }
 {
-    if n == 0 {
+    if n < 2 {
         return true;
     }
     let first = section[n + 1];
