@@ -56,8 +56,7 @@ pub fn skip_without_word(section: &[u32], words: &[u32], from: usize, to: usize,
     p
 }
 
-// Skips the blocks in which the words number i and j of the phrase stand nowhere in one row. Two words tell more blocks apart than one does, and cost less
-// than the rows in a block that has only the one.
+// Skips the blocks in which the words number i and j of the phrase stand nowhere in one row.
 pub fn skip_without_pair(
     section: &[u32],
     words: &[u32],

@@ -1,5 +1,5 @@
 // Phrase: "one match per start where the k words stand in a row, ascending, holding one contiguous include. Its query position is its rank".
-mod blocks; // what passes over the section in blocks of sixteen positions
+mod blocks; // blocks of sixteen positions, skipped as a whole
 mod rows; // words in a row, position by position
 
 use model::MAX_MATCHES;
@@ -30,8 +30,9 @@ fn next_word(section: &[u32], words: &[u32], from: usize) -> usize
     rows::first_start(section, words, begin, to, 0)
 }
 
-// The first start from `from` on, or the position after the last one. Blocks are skipped by two words of the phrase, at first the last and the first, and
-// after each block that has both in one row and no start by the next two, so that one absent word is soon among them.
+// The first start from `from` on, or the position after the last one. `from` is tried by itself, since finds may follow each other. Then blocks are skipped by
+// two words of the phrase: at first by the last and the first, and after a block that has both in one row and no start by the next two, so that an absent word
+// is soon one of them.
 fn next_start(section: &[u32], words: &[u32], from: usize) -> usize
     requires { ⌜ AcceptedSection (now section) ⌝ }
     requires { ⌜ from ≤ size (now section) + 1 ⌝ }
