@@ -1,5 +1,5 @@
 -- Invariant: no start lies before p, and i is a word of the phrase. Measure: the positions left. From the end of the range on, too few tokens are left.
-use Prim.Native.Nat.{_+_, _-_, _<_, _%_}
+use Prim.Native.Nat.{_-_, _<_}
 use native.Mathlib.Nat.{mod-lt}
 use native.Mathlib.Omega.{arith}
 use mathlib.Core.Path.{sym, _∙_}
@@ -68,17 +68,21 @@ rem-j c = search needs
 
 skip-without-pair-requires : tie.Need-skip-without-pair-requires Inv-loop μ-loop
 skip-without-pair-requires c κs =
-    (record { accepted = c .before .before .before .before .before .before .before .before .before .pre .0; in-order = omega arith; rows-within = omega arith }, (c .before .loop .inv .0, mod-lt _ (omega arith)))
+    let l = c .before in
+    (record { accepted = l .before .before .before .before .before .before .before .before .pre .0; in-order = omega arith; rows-within = omega arith }, (l .loop .inv .0, mod-lt _ (omega arith)))
 
 block-end-requires : tie.Need-block-end-requires Inv-loop μ-loop
 block-end-requires c κs = search needs
 
 first-start-requires : tie.Need-first-start-requires Inv-loop μ-loop
-first-start-requires c κs = (record { accepted = c .before .before .before .before .before .before .before .before .before .before .before .pre .0; in-order = omega arith; rows-within = omega arith }, c .before .before .before .loop .inv .0)
+first-start-requires c κs =
+    let l = c .before .before .before in
+    (record { accepted = l .before .before .before .before .before .before .before .before .pre .0; in-order = omega arith; rows-within = omega arith }, l .loop .inv .0)
 
 returns-4 : tie.Need-returns-4 Inv-loop μ-loop
 returns-4 c =
-    let begin = skipped-on (c .before .before .before .before .before .loop .inv .1) (c .before .before .before .skip-without-pair .ensures) (c .before .before .before .skip-without-pair .ensures .up-to) in
+    let b = c .before .before .before in
+    let begin = skipped-on (b .before .before .loop .inv .1) (b .skip-without-pair .ensures) (b .skip-without-pair .ensures .up-to) in
     first-on begin (c .before .first-start .ensures) (omega arith) (λ l. c .if4 .taken)
 
 loop-less : tie.Need-loop-less Inv-loop μ-loop
@@ -86,7 +90,8 @@ loop-less c = search needs
 
 loop-again : tie.Need-loop-again Inv-loop μ-loop
 loop-again c =
-    let begin = skipped-on (c .before .before .before .before .before .loop .inv .1) (c .before .before .before .skip-without-pair .ensures) (c .before .before .before .skip-without-pair .ensures .up-to) in
+    let b = c .before .before .before in
+    let begin = skipped-on (b .before .before .loop .inv .1) (b .skip-without-pair .ensures) (b .skip-without-pair .ensures .up-to) in
     (mod-lt _ (omega arith), skipped-on begin (first-missed (c .before .first-start .ensures) (c .if4 .left)) (omega arith))
 
 add-result-2 : tie.Need-add-result-2 Inv-loop μ-loop

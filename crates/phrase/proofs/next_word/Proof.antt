@@ -1,5 +1,4 @@
 -- The blocks without the word are skipped, and then its first position is looked for.
-use native.Mathlib.Omega.{arith}
 use Rattle.phrase.proofs.StartsLaws.{first-on}
 use borrow.Author.Needs.{needs}
 use Rattle.phrase.proofs.next_word.Statement.{statement}

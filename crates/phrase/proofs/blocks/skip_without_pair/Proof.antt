@@ -1,6 +1,5 @@
 -- Invariant: no start lies before p. Measure: the positions left.
 use Prim.Native.Nat.{_-_}
-use native.Mathlib.Omega.{arith}
 use Rattle.model.specs.Section.{sectionOf}
 use Rattle.phrase.specs.Starts.{Skipped}
 use Rattle.phrase.proofs.BlocksLaws.{skip-block}
@@ -53,9 +52,9 @@ loop-less c = search needs
 
 loop-again : tie.Need-loop-again Inv-loop μ-loop
 loop-again c =
-    let a = c .before .before .before .before .before .before .before .before .args in
-    let within = c .before .before .before .before .before .before .before .before .pre .1 in
-    skip-block (c .before .before .before .before .before .before .before .before .pre .0) (c .before .before .before .loop .inv) (c .before .before .loop-test .taken) (a .i) (a .j) (within .0) (within .1) (c .before .has-pair .ensures (c .if1 .left))
+    let l = c .before .before .before in
+    let b = l .before .before .before .before .before in
+    skip-block (b .pre .0) (l .loop .inv) (c .before .before .loop-test .taken) (b .args .i) (b .args .j) (b .pre .1 .0) (b .pre .1 .1) (c .before .has-pair .ensures (c .if1 .left))
 
 returns-2 : tie.Need-returns-2 Inv-loop μ-loop
 returns-2 c = c .before .loop .inv

@@ -1,6 +1,5 @@
 -- Invariant: no start lies before p. Measure: the positions left. A block without the word is one without the word and itself in one row.
 use Prim.Native.Nat.{_-_}
-use native.Mathlib.Omega.{arith}
 use Rattle.model.specs.Section.{sectionOf}
 use Rattle.phrase.specs.Starts.{Skipped}
 use Rattle.phrase.proofs.BlocksLaws.{skip-block}
@@ -44,8 +43,9 @@ loop-less c = search needs
 
 loop-again : tie.Need-loop-again Inv-loop μ-loop
 loop-again c =
-    let i = c .before .before .before .before .before .before .before .args .i in
-    skip-block (c .before .before .before .before .before .before .before .pre .0) (c .before .before .before .loop .inv) (c .before .before .loop-test .taken) i i (c .before .before .before .before .before .before .before .pre .1) (c .before .before .before .before .before .before .before .pre .1) (λ q l e same. c .before .has-word .ensures (c .if1 .left) q l e)
+    let l = c .before .before .before in
+    let b = l .before .before .before .before in
+    skip-block (b .pre .0) (l .loop .inv) (c .before .before .loop-test .taken) (b .args .i) (b .args .i) (b .pre .1) (b .pre .1) (λ q h e same. c .before .has-word .ensures (c .if1 .left) q h e)
 
 returns-2 : tie.Need-returns-2 Inv-loop μ-loop
 returns-2 c = c .before .loop .inv

@@ -23,8 +23,9 @@ shared-slice-read-if1-2 c = search needs
 
 returns : tie.Need-returns
 returns c =
-    let a = c .before .before .before .before .before .args in
-    sym (stands-without (sectionOf (a .section .now)) (a .words .now) (a .p) (a .i) (c .before .before .before .before .before .pre .1) (c .before .before .before .before .before .pre .0 .from-p) (c .if1 .taken))
+    let b = c .before .before .before .before .before in
+    let a = b .args in
+    sym (stands-without (sectionOf (a .section .now)) (a .words .now) (a .p) (a .i) (b .pre .1) (b .pre .0 .from-p) (c .if1 .taken))
 
 stands-requires : tie.Need-stands-requires
 stands-requires c κs = search needs

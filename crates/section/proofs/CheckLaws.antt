@@ -1,29 +1,28 @@
 -- What a section's check comes to, case by case, and which snippet it leaves.
 use Prim.Native.Nat.{ℕ, _+_, _-_, _≤_, _<_}
-use native.Mathlib.Omega.{arith}
-use mathlib.Core.Path.{_≡_, refl, ap, sym, _∙_}
-use mathlib.Core.Bool.{Bool, true, false, _&&_, and-false}
+use mathlib.Core.Path.{_≡_}
+use mathlib.Core.Bool.{true, false}
 use mathlib.Core.List.{List, []}
-use mathlib.Core.Option.{Option, some, none}
-use lib.Dec.{leb}
+use mathlib.Core.Option.{some, none}
 use lib.ListN.{take, drop}
 use borrow.Author.Tests.{le-leb, lt-leb}
 use Rattle.model.specs.Answers.{isAccepted, snippetOf}
 use Rattle.model.specs.Checks.{refusal, tried, wrongSection, faultyPosition, sectionRefusal}
+use Rattle.model.specs.Limits.{maxTokens}
 use Rattle.model.specs.Section.{size, wellSized}
 
 -- ---- sectionRefusal
 
 module _ (section : List ℕ) where
-  pub wrong-size : wellSized 0 4096 section ≡ false → sectionRefusal section ≡ some (refusal 1 0)
+  pub wrong-size : wellSized 0 maxTokens section ≡ false → sectionRefusal section ≡ some (refusal 1 0)
   unfolding sectionRefusal tried wrongSection
   wrong-size e = rw e
 
-  pub wrong-order : wellSized 0 4096 section ≡ true → (place : ℕ) → faultyPosition section ≡ some place → sectionRefusal section ≡ some (refusal 2 place)
+  pub wrong-order : wellSized 0 maxTokens section ≡ true → (place : ℕ) → faultyPosition section ≡ some place → sectionRefusal section ≡ some (refusal 2 place)
   unfolding sectionRefusal tried wrongSection
   wrong-order e place f = rw (e, f)
 
-  pub right-order : wellSized 0 4096 section ≡ true → faultyPosition section ≡ none → sectionRefusal section ≡ none
+  pub right-order : wellSized 0 maxTokens section ≡ true → faultyPosition section ≡ none → sectionRefusal section ≡ none
   unfolding sectionRefusal tried wrongSection
   right-order e f = rw (e, f)
 
