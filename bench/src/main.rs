@@ -36,6 +36,11 @@ fn quick(engine: &dyn Engine, case: &Case, lent: &mut Lent) -> Quick {
     engine.quick(black_box(&case.section), black_box(&case.selection), &mut lent.work)
 }
 
+type Least = fn(&[u32], u32) -> Option<bool>;
+
+/// The word that the loops look for.
+const LOOKED_FOR: u32 = 9;
+
 /// Counted by callgrind: one call, whatever it is.
 #[no_mangle]
 #[inline(never)]
@@ -53,8 +58,10 @@ fn once() {
             counted(&mut || _ = black_box(quick(engine, &case, &mut lent)));
             println!("{}|{name}|quick", case.name);
         }
-        counted(&mut || _ = black_box(least::least(black_box(&case.section), black_box(9))));
-        println!("{}|least|loop", case.name);
+        for (name, least) in [("plain", least::plain as Least), ("vectorised", least::vectorised)] {
+            counted(&mut || _ = black_box(least(black_box(&case.section), black_box(LOOKED_FOR))));
+            println!("{}|loop|{name}", case.name);
+        }
     }
 }
 

@@ -28,7 +28,7 @@ use Rattle.store.specs.Slot.{SlotHolds, SlotAt}
 use Rattle.store.specs.Stack.{Stack}
 use Rattle.store.proofs.Slots.{answer-made, outcome-put, outcome-slot}
 use Rattle.store.proofs.StackLaws.{stack-last, stack-rest, stack-push, stack-built}
-use Rattle.combine.specs.TwoSlots.{TwoSlots}
+use Rattle.or_and.specs.TwoSlots.{TwoSlots}
 use Rattle.building.specs.Steps.{NoneTaken, OneTaken, TwoTaken, Fresh, Added}
 
 -- a list that a rule has put behind the rest waits there

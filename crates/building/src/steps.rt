@@ -42,7 +42,7 @@ fn build_phrase(section: &[u32], words: &[u32], rank: u32, mem: &mut [u32], list
         ⌜ ((w : NoneTaken (phraseList (sectionOf (now (section .entry))) rank (now (words .entry))) (now (mem .entry)) lists)
         → Added (phraseList (sectionOf (now (section .entry))) rank (now (words .entry))) (w .rest) (now (mem .exit)) r) ⌝ }
 {
-    combine::phrase::phrase_list(section, words, rank, mem, lists * store::SLOT)
+    phrase::phrase_list(section, words, rank, mem, lists * store::SLOT)
 }
 
 // Or, of the last two lists.
@@ -50,7 +50,7 @@ fn build_or(mem: &mut [u32], lists: usize) -> Built
     requires { ⌜ TwoTaken orList (now mem) lists ⌝ }
     ensures { λ r. ⌜ ((w : TwoTaken orList (now (mem .entry)) lists) → Added (orList (w .lefts) (w .rights)) (w .rest) (now (mem .exit)) r) ⌝ }
 {
-    combine::or::or_list(mem, (lists - 2) * store::SLOT, (lists - 1) * store::SLOT)
+    or_and::or::or_list(mem, (lists - 2) * store::SLOT, (lists - 1) * store::SLOT)
 }
 
 // And, of the last two lists.
@@ -60,7 +60,7 @@ fn build_and(mem: &mut [u32], lists: usize) -> Built
 {
     let l = (lists - 2) * store::SLOT;
     let r = (lists - 1) * store::SLOT;
-    let built = combine::and::and_list(mem, l, r, store::SCRATCH);
+    let built = or_and::and::and_list(mem, l, r, store::SCRATCH);
     settle(mem, built, l)
 }
 

@@ -1,2 +1,3 @@
-pub mod Orders
-pub mod Checking
+pub mod OrderLaws
+pub mod CheckLaws
+pub mod RisesLaws

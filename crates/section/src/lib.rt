@@ -7,7 +7,8 @@ use model::Position;
 use model::RADIX;
 use model::Sentence;
 ghost use mathlib.Core.Path.{_≡_};
-ghost use mathlib.Core.Bool.{_||_, xor};
+ghost use mathlib.Core.Bool.{not, true, _&&_, _||_, xor};
+ghost use mathlib.Core.Option.{none};
 ghost use Prim.Native.Nat.{_+_, _*_, _≤_};
 ghost use lib.Dec.{eqb, ltb};
 ghost use lib.ListN.{length};
@@ -15,6 +16,7 @@ ghost use Rattle.model.specs.Answers.{checkedOf, faultOf, snippetOf};
 ghost use Rattle.model.specs.Checks.{faultyAt, faultyPosition, sectionRefusal};
 ghost use Rattle.model.specs.Limits.{maxTokens};
 ghost use Rattle.model.specs.Section.{paragraphAt, sentenceAt, size, wordAt};
+ghost use Rattle.section.specs.Rises.{SummedRises};
 
 // The word at a position.
 pub fn word_at(section: &[u32], p: Position) -> u32
@@ -61,12 +63,64 @@ fn is_faulty(section: &[u32], n: usize, p: usize) -> bool
     breaks_order(before / RADIX, here / RADIX)
 }
 
-// The first faulty position.
+// How far the paragraph numbers rise up to position n: each place less the one before it, modulo 2^32, and of that the upper half, summed. No turn of the
+// loop depends on a fall, so that it becomes vector instructions.
+fn summed_rises(section: &[u32], n: usize) -> u32
+    requires { ⌜ n ≡ size (now section) ⌝ }
+    requires { ⌜ (2 ≤ n) × (n ≤ maxTokens) × (length (now section) ≡ 1 + 2 * n) ⌝ }
+    ensures { λ r. ⌜ SummedRises (now (section .entry)) n r ⌝ }
+{
+    let mut sum: u32 = 0;
+    let mut p: usize = 1;
+    while p < n {
+        let step = std::num::wrapping_sub_u32(section[n + p + 1], section[n + p]);
+        sum += step / RADIX;
+        p += 1;
+    }
+    sum
+}
+
+// Is the first number zero and the last one not?
+fn rises_from_zero(first: u32, last: u32) -> bool
+    ensures { λ r. ⌜ r ≡ (eqb first 0 && not (eqb last 0)) ⌝ }
+{
+    if first != 0 {
+        return false;
+    }
+    last != 0
+}
+
+// True only where no position is faulty. The sum is short by 1 for each fall of the sentence number and over by 65,536 for each fall of the place, and there
+// are fewer falls than 65,536: where it is the rise from first to last, nothing falls. Numbers that never fall are zero beside nonzero only if they rise
+// from zero.
+fn is_faultless(section: &[u32], n: usize) -> bool
+    requires { ⌜ n ≡ size (now section) ⌝ }
+    requires { ⌜ (n ≤ maxTokens) × (length (now section) ≡ 1 + 2 * n) ⌝ }
+    ensures { λ r. ⌜ (r ≡ true → faultyPosition (now (section .entry)) ≡ none) ⌝ }
+{
+    if n < 2 {
+        return true;
+    }
+    let first = section[n + 1];
+    let last = section[n + n];
+    if summed_rises(section, n) + first / RADIX != last / RADIX {
+        return false;
+    }
+    if rises_from_zero(first % RADIX, last % RADIX) {
+        return false;
+    }
+    !rises_from_zero(first / RADIX, last / RADIX)
+}
+
+// The first faulty position, looked for one by one where there may be one.
 fn first_faulty(section: &[u32], n: usize) -> Fault
     requires { ⌜ n ≡ size (now section) ⌝ }
     requires { ⌜ (n ≤ maxTokens) × (length (now section) ≡ 1 + 2 * n) ⌝ }
     ensures { λ r. ⌜ r ≡ faultOf (faultyPosition (now (section .entry))) ⌝ }
 {
+    if is_faultless(section, n) {
+        return Fault::Nowhere;
+    }
     let mut p: usize = 2;
     while p <= n {
         if is_faulty(section, n, p) {

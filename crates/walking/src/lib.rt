@@ -72,7 +72,7 @@ fn walk_part(section: &[u32], selection: &[u32], work: &mut [u32], hi: u32) -> u
             // "a phrase is yes if its list isn't empty": it stops at the first find
             Code::Phrase(_) => {
                 let words = selection::parts::phrase_words(selection, place);
-                let found = combine::phrase::is_found(section, words);
+                let found = phrase::is_found(section, words);
                 return answers::passed_up(answers::answered(found, 1), turned, codes);
             }
             Code::Filter(_) => {

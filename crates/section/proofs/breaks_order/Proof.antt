@@ -1,5 +1,5 @@
 -- Two cases, after a zero and after any other number (Orders).
-use Rattle.section.proofs.Orders.{after-zero, after-some}
+use Rattle.section.proofs.OrderLaws.{after-zero, after-some}
 use Rattle.section.proofs.breaks_order.Statement.{statement}
 use Rattle.section.proofs.breaks_order.Tie as tie
 

@@ -7,7 +7,7 @@ use Rattle.model.specs.Answers.{checkedOf}
 use Rattle.model.specs.Checks.{faultyPosition}
 use Rattle.model.proofs.SectionLaws.{well-sized}
 use Rattle.model.proofs.AnswersLaws.{fault-at, fault-nowhere}
-use Rattle.section.proofs.Checking.{wrong-size, wrong-order, right-order}
+use Rattle.section.proofs.CheckLaws.{wrong-size, wrong-order, right-order}
 use Rattle.section.proofs.check_section.Statement.{statement}
 use Rattle.section.proofs.check_section.Tie as tie
 

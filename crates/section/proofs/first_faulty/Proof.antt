@@ -17,6 +17,12 @@ Inv-loop section n p₀ p = (2 ≤ p) × (p ≤ 4098) × (first (faultyAt sectio
 abbrev μ-loop : tie.MeasureT-loop
 μ-loop section n p₀ p = n + 1 - p
 
+is-faultless-requires : tie.Need-is-faultless-requires Inv-loop μ-loop
+is-faultless-requires c κs = search needs
+
+returns : tie.Need-returns Inv-loop μ-loop
+returns c = ap faultOf (sym (c .before .is-faultless .ensures (c .if1 .taken)))
+
 loop-holds : tie.Need-loop-holds Inv-loop μ-loop
 unfolding faultyPosition
 loop-holds c = (omega arith, omega arith, refl)
@@ -24,15 +30,15 @@ loop-holds c = (omega arith, omega arith, refl)
 is-faulty-requires : tie.Need-is-faulty-requires Inv-loop μ-loop
 is-faulty-requires c κs = search needs
 
-cast-t6 : tie.Need-cast-t6 Inv-loop μ-loop
-cast-t6 c = search needs
+cast-t7 : tie.Need-cast-t7 Inv-loop μ-loop
+cast-t7 c = search needs
 
-returns : tie.Need-returns Inv-loop μ-loop
-returns c =
+returns-2 : tie.Need-returns-2 Inv-loop μ-loop
+returns-2 c =
     let l = c .before .before .before in
-    let s = l .before .before .args .section .now in
+    let s = l .before .before .before .before .args .section .now in
     let h : l .loop .p ≤ size s = omega arith in
-    ap faultOf (sym (first-range-here (faultyAt s) (l .loop .p) (size s) h (sym (c .before .is-faulty .ensures) ∙ c .if1 .taken)) ∙ l .loop .inv .2)
+    ap faultOf (sym (first-range-here (faultyAt s) (l .loop .p) (size s) h (sym (c .before .is-faulty .ensures) ∙ c .if2 .taken)) ∙ l .loop .inv .2)
 
 add-p : tie.Need-add-p Inv-loop μ-loop
 add-p c = search needs
@@ -43,14 +49,14 @@ loop-less c = search needs
 loop-again : tie.Need-loop-again Inv-loop μ-loop
 loop-again c =
     let l = c .before .before .before in
-    let s = l .before .before .args .section .now in
+    let s = l .before .before .before .before .args .section .now in
     let h : l .loop .p ≤ size s = omega arith in
-    (omega arith, omega arith, sym (first-range-later (faultyAt s) (l .loop .p) (size s) h (sym (c .before .is-faulty .ensures) ∙ c .if1 .left)) ∙ l .loop .inv .2)
+    (omega arith, omega arith, sym (first-range-later (faultyAt s) (l .loop .p) (size s) h (sym (c .before .is-faulty .ensures) ∙ c .if2 .left)) ∙ l .loop .inv .2)
 
-returns-2 : tie.Need-returns-2 Inv-loop μ-loop
-returns-2 c =
+returns-3 : tie.Need-returns-3 Inv-loop μ-loop
+returns-3 c =
     let l = c .before in
-    let s = l .before .before .args .section .now in
+    let s = l .before .before .before .before .args .section .now in
     let h : size s < l .loop .p = omega arith in
     ap faultOf (sym (first-range-empty (faultyAt s) (l .loop .p) (size s) h) ∙ l .loop .inv .2)
 
@@ -60,11 +66,13 @@ first-faulty-spec =
     (tie.spec
     Inv-loop
     μ-loop
+    is-faultless-requires
+    returns
     loop-holds
     is-faulty-requires
-    cast-t6
-    returns
+    cast-t7
+    returns-2
     add-p
     loop-less
     loop-again
-    returns-2)
+    returns-3)

@@ -5,7 +5,7 @@ use mathlib.Core.Path.{sym, _∙_}
 use Rattle.model.specs.Checks.{sectionRefusal}
 use Rattle.model.proofs.ChecksLaws.{accepted-section}
 use Rattle.model.proofs.AnswersLaws.{checked-accepted, checked-refused}
-use Rattle.section.proofs.Checking.{no-section, from-zero, to-below, to-beyond, the-words}
+use Rattle.section.proofs.CheckLaws.{no-section, from-zero, to-below, to-beyond, the-words}
 use Rattle.section.proofs.snippet.Statement.{statement}
 use Rattle.section.proofs.snippet.Tie as tie
 

@@ -23,7 +23,7 @@ use Rattle.walking.proofs.walk_part.Reads as walk-part
 use Rattle.walking.proofs.walk_part.Kinds as walk-part-kinds
 use Rattle.walking.proofs.+walk_part.Lts-walk_part as walk-part-lts
 use Rattle.codes.proofs.code_at.Reads as code-at-reads
-use Rattle.combine.proofs.phrase.is_found.Reads as is-found-reads
+use Rattle.phrase.proofs.is_found.Reads as is-found-reads
 use Rattle.selection.proofs.parts.part_start.Reads as part-start-reads
 use Rattle.selection.proofs.parts.phrase_words.Reads as phrase-words-reads
 use Rattle.walking.proofs.answers.answered.Reads as answered-reads

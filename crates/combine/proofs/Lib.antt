@@ -1,3 +1,0 @@
-pub mod Products
-pub mod Appending
-pub mod Finds

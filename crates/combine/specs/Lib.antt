@@ -1,3 +1,0 @@
-pub mod TwoSlots
-pub mod Finding
-pub mod Joining

@@ -1,0 +1,2 @@
+pub mod TwoSlots
+pub mod Joining

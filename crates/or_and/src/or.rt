@@ -1,0 +1,24 @@
+// Or: "L's matches, then R's."
+use store::Built;
+ghost use Prim.Native.Nat.{_+_, _≤_};
+ghost use Rattle.model.specs.Rules.{orList};
+ghost use Rattle.store.specs.Layout.{slotSize};
+ghost use Rattle.store.specs.Outcome.{Outcome};
+ghost use Rattle.or_and.specs.TwoSlots.{TwoSlots};
+
+// Puts the matches of the list in the slot at r after those of the list in the slot at l below it.
+pub fn or_list(mem: &mut [u32], l: usize, r: usize) -> Built
+    requires { ⌜ TwoSlots (now mem) l r ⌝ }
+    requires { ⌜ l + slotSize ≤ r ⌝ }
+    ensures { λ b. ⌜ ((w : TwoSlots (now (mem .entry)) l r) → Outcome (orList (w .lefts) (w .rights)) (now (mem .entry)) (now (mem .exit)) l b) ⌝ }
+{
+    let size = store::sized(mem[l] + mem[r], mem[l + 1] + mem[r + 1]);
+    let Built::Made { matches, strings } = size else {
+        return size;
+    };
+    let to = l + store::slot_length(mem, l);
+    let n = store::slot_length(mem, r) - 2;
+    store::copy_down(mem, r + 2, n, to);
+    store::put_heads(mem, l, matches, strings);
+    size
+}

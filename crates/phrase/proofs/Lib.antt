@@ -1,0 +1,4 @@
+pub mod RowsLaws
+pub mod StartsLaws
+pub mod BlocksLaws
+pub mod FindsLaws
