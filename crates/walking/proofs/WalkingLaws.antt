@@ -6,6 +6,10 @@ use mathlib.Core.Bool.{Bool, true, false, not, cond}
 use mathlib.Core.List.{List, [], _∷_, _++_, map, append-nil}
 use mathlib.Core.Option.{Option, some, none}
 use lib.ListN.{length, length-append}
+use types.Run.{OneOf, miss}
+use denote.Enum.Declared.{tagOf}
+use borrow.Author.Tests.{not-false}
+use Rattle.model.proofs.Code.{the-type}
 use lib.Seq.{append-snoc}
 use Rattle.model.specs.declared.Code.{Code}
 use Rattle.model.specs.declared.Code.the-variants.{Word, Phrase, Combine, Not, Filter as Filtered}
@@ -31,7 +35,7 @@ use Rattle.model.proofs.TreesLaws.{heads-le, length-parts}
 use Rattle.model.proofs.WalkLaws.{walk-is, length-walkReaches}
 use Rattle.selection.specs.Phrases.{phraseWords}
 use Rattle.building.proofs.WordsLaws.{Loose, phrase-words, one-behind}
-use Rattle.walking.specs.Steps.{isMildNot, decides, codesIn, passedUp}
+use Rattle.walking.specs.Steps.{isMildNot, goesInto, decides, codesIn, passedUp}
 use Rattle.walking.specs.Walkable.{Walkable}
 
 -- ---- counts
@@ -193,6 +197,23 @@ module _ {section sel mem : List ℕ} {hi : ℕ} (w : Walkable section sel mem h
   mild-walks {code} {k} e c m =
       let p = sides {mid = partStart (codeAt sel) (hi - 1)} e c refl in
       rw (p .is) (sym (mild-builds (sectionOf section) k hi (p .left .tree) (p .right .tree) m))
+
+  -- any other part that the walk does not go into
+  pub leaf-builds : (code : Code) → code ≡ codeAt sel hi → OneOf (0 ∷ 2 ∷ 3 ∷ 4 ∷ []) (tagOf the-type code) → goesInto code ≡ false
+      → build (sectionOf section) (w .part .tree) ≡ walk (sectionOf section) (w .part .tree)
+  leaf-builds (Word v) e o g = word-walks e refl
+  leaf-builds (Phrase k) e o g = absurd (miss (0 ∷ 2 ∷ 3 ∷ 4 ∷ []) 1 tt o)
+  leaf-builds (Combine k) e o g = mild-walks e refl (not-false (isMildNot k) g)
+  leaf-builds Not e o g = false-true (sym g)
+  leaf-builds (Filtered f) e o g = filter-walks e refl
+
+-- the codes of the arm that takes no not and no combination
+pub leaf-code : (code : Code) → OneOf (0 ∷ 1 ∷ 4 ∷ []) (tagOf the-type code) → goesInto code ≡ false
+leaf-code (Word v) o = refl
+leaf-code (Phrase k) o = refl
+leaf-code (Combine k) o = absurd (miss (0 ∷ 1 ∷ 4 ∷ []) 2 tt o)
+leaf-code Not o = absurd (miss (0 ∷ 1 ∷ 4 ∷ []) 3 tt o)
+leaf-code (Filtered f) o = refl
 
 -- ---- the loop: from a part to what is under its not, or to its right side
 

@@ -3,6 +3,8 @@
 use Prim.Native.Nat.{ℕ, _+_, _/_, _%_}
 use mathlib.Core.Bool.{Bool, true, false, not, cond}
 use lib.Dec.{leb, eqb}
+use Rattle.model.specs.declared.Code.{Code}
+use Rattle.model.specs.declared.Code.the-variants.{Word, Phrase, Combine, Not, Filter as Filtered}
 use Rattle.model.specs.declared.Pair.{Pair}
 use Rattle.model.specs.declared.Pair.the-variants.{Or, And, MildNot}
 use Rattle.model.specs.declared.Quick.{Quick}
@@ -16,6 +18,14 @@ abbrev pub isMildNot : Pair → Bool
 isMildNot Or = false
 isMildNot And = false
 isMildNot MildNot = true
+
+-- Does the walk go into the part of this code? Into that of a not, an or and an and.
+abbrev pub goesInto : Code → Bool
+goesInto (Word w) = false
+goesInto (Phrase k) = false
+goesInto (Combine k) = not (isMildNot k)
+goesInto Not = true
+goesInto (Filtered f) = false
 
 -- Does the left side's answer decide? An or's yes, an and's no, and every refusal.
 abbrev pub decides : Pair → Quick → Bool

@@ -4,13 +4,14 @@ mod answers; // a part's answer in one number, and what a code makes of its side
 use building::Part;
 use model::Code;
 use model::Quick;
+ghost use mathlib.Core.Bool.{false};
 ghost use mathlib.Core.Path.{_≡_};
 ghost use Prim.Native.Nat.{_+_, _≤_};
 ghost use Rattle.model.specs.Parts.{heads, headOf};
 ghost use Rattle.model.specs.Section.{sectionOf};
 ghost use Rattle.model.specs.Selection.{codeAt, upTo};
 ghost use Rattle.model.specs.Walk.{build as buildOf, walk as walkOf};
-ghost use Rattle.walking.specs.Steps.{answerOf};
+ghost use Rattle.walking.specs.Steps.{answerOf, goesInto};
 ghost use Rattle.walking.specs.Walkable.{Walkable};
 
 // One for every code other than a word.
@@ -57,6 +58,20 @@ fn build_part(section: &[u32], selection: &[u32], work: &mut [u32], hi: u32) -> 
     answers::answered(yes, codes)
 }
 
+// The answer of a part that the walk does not go into: "a phrase is yes if its list isn't empty", found at the first find; another part is built.
+fn answer_leaf(section: &[u32], selection: &[u32], work: &mut [u32], hi: u32) -> u64
+    requires { ⌜ Walkable (now section) (now selection) (now work) hi ⌝ }
+    ensures { λ r. ⌜ ((w : Walkable (now (section .entry)) (now (selection .entry)) (now (work .entry)) hi) → goesInto (codeAt (now (selection .entry)) hi) ≡ false → answerOf r ≡ walkOf (sectionOf (now (section .entry))) (w .part .tree)) ⌝ }
+{
+    let code = codes::code_at(selection, hi);
+    let Code::Phrase(_) = code else {
+        return build_part(section, selection, work, hi);
+    };
+    let words = selection::parts::phrase_words(selection, hi);
+    let found = phrase::is_found(section, words);
+    answers::answered(found, 1)
+}
+
 // The walk of the part that ends at hi. What is under a not, and the right side of an or or an and, is gone on with in the loop: its answer is the
 // part's own, turned round by each not, with the codes walked so far. So only left sides are walked by recursion.
 fn walk_part(section: &[u32], selection: &[u32], work: &mut [u32], hi: u32) -> u64
@@ -69,19 +84,14 @@ fn walk_part(section: &[u32], selection: &[u32], work: &mut [u32], hi: u32) -> u
     loop {
         let code = codes::code_at(selection, place);
         match code {
-            // "a phrase is yes if its list isn't empty": it stops at the first find
-            Code::Phrase(_) => {
-                let words = selection::parts::phrase_words(selection, place);
-                let found = phrase::is_found(section, words);
-                return answers::passed_up(answers::answered(found, 1), turned, codes);
-            }
-            Code::Filter(_) => {
-                let answer = build_part(section, selection, work, place);
-                return answers::passed_up(answer, turned, codes);
+            Code::Not => {
+                turned = !turned;
+                codes += 1;
+                place -= 1;
             }
             Code::Combine(pair) => {
                 if answers::is_mild_not(pair) {
-                    let answer = build_part(section, selection, work, place);
+                    let answer = answer_leaf(section, selection, work, place);
                     return answers::passed_up(answer, turned, codes);
                 }
                 codes += 1;
@@ -93,14 +103,9 @@ fn walk_part(section: &[u32], selection: &[u32], work: &mut [u32], hi: u32) -> u
                 codes += answers::codes_in(left);
                 place -= 1;
             }
-            Code::Not => {
-                turned = !turned;
-                codes += 1;
-                place -= 1;
-            }
-            // no part ends in a word
-            Code::Word(_) => {
-                return answers::too_long(place);
+            _ => {
+                let answer = answer_leaf(section, selection, work, place);
+                return answers::passed_up(answer, turned, codes);
             }
         }
     }

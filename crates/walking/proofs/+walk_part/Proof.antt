@@ -1,19 +1,18 @@
 -- Invariant: the walk of the part that ends at hi is that of the part in hand, passed up. By recursion on hi, and with the place in hand as the loop's
 -- measure: the code there says which tree ends there, and its sides are parts that end earlier.
 use native.Mathlib.Omega.{arith}
-use mathlib.Core.Bool.{Bool, false}
+use mathlib.Core.Bool.{false, not}
 use mathlib.Core.Path.{_≡_, refl, sym, ap, _∙_}
 use lib.ListN.{length}
 use Prim.Native.Nat.{_-_, _≤_}
 use Rattle.model.specs.declared.Pair.{Pair}
-use Rattle.model.specs.declared.Quick.the-variants.{Answered}
 use Rattle.model.specs.Section.{sectionOf}
 use Rattle.model.specs.Selection.{codeAt}
 use Rattle.model.specs.Walk.{walk}
 use Rattle.model.proofs.PartsLaws.{PairAt, start-le}
-use Rattle.walking.specs.Steps.{answerOf, isMildNot}
+use Rattle.walking.specs.Steps.{answerOf, goesInto, isMildNot}
 use Rattle.walking.specs.Walkable.{Walkable}
-use Rattle.walking.proofs.WalkingLaws.{below, some-codes, word-walks, phrase-walks, filter-walks, sides, mild-walks}
+use Rattle.walking.proofs.WalkingLaws.{below, leaf-code, some-codes, sides}
 use Rattle.walking.proofs.WalkingLaws.{Going, start, passes, passes-few, under-not, left-decides, left-few, right-side}
 use borrow.Author.Needs.{needs}
 use Prim.Native.Nat.{ℕ, _<_}
@@ -23,16 +22,12 @@ use Rattle.walking.proofs.walk_part.Reads as walk-part
 use Rattle.walking.proofs.walk_part.Kinds as walk-part-kinds
 use Rattle.walking.proofs.+walk_part.Lts-walk_part as walk-part-lts
 use Rattle.codes.proofs.code_at.Reads as code-at-reads
-use Rattle.phrase.proofs.is_found.Reads as is-found-reads
 use Rattle.selection.proofs.parts.part_start.Reads as part-start-reads
-use Rattle.selection.proofs.parts.phrase_words.Reads as phrase-words-reads
-use Rattle.walking.proofs.answers.answered.Reads as answered-reads
+use Rattle.walking.proofs.answer_leaf.Reads as answer-leaf-reads
 use Rattle.walking.proofs.answers.codes_in.Reads as codes-in-reads
 use Rattle.walking.proofs.answers.decides.Reads as decides-reads
 use Rattle.walking.proofs.answers.is_mild_not.Reads as is-mild-not-reads
 use Rattle.walking.proofs.answers.passed_up.Reads as passed-up-reads
-use Rattle.walking.proofs.answers.too_long.Reads as too-long-reads
-use Rattle.walking.proofs.build_part.Reads as build-part-reads
 use Rattle.walking.proofs.+walk_part.{statement}
 use Rattle.walking.proofs.+walk_part.Tie.{close}
 
@@ -50,18 +45,12 @@ abbrev claims : ℕ → walk-part-lts.Claims
 claims t = (
   code-at-reads.Asked,
   code-at-reads.Learnt,
-  phrase-words-reads.Asked,
-  phrase-words-reads.Learnt,
-  is-found-reads.Asked,
-  is-found-reads.Learnt,
-  answered-reads.Asked,
-  answered-reads.Learnt,
-  passed-up-reads.Asked,
-  passed-up-reads.Learnt,
-  build-part-reads.Asked,
-  build-part-reads.Learnt,
   is-mild-not-reads.Asked,
   is-mild-not-reads.Learnt,
+  answer-leaf-reads.Asked,
+  answer-leaf-reads.Learnt,
+  passed-up-reads.Asked,
+  passed-up-reads.Learnt,
   part-start-reads.Asked,
   part-start-reads.Learnt,
   walk-part-below t,
@@ -70,8 +59,6 @@ claims t = (
   decides-reads.Learnt,
   codes-in-reads.Asked,
   codes-in-reads.Learnt,
-  too-long-reads.Asked,
-  too-long-reads.Learnt,
 )
 
 abbrev Inv-loop : walk-part-lts.InvT-loop
@@ -99,24 +86,6 @@ module _ (t : ℕ) (a : walk-part-lts.After-code-at (claims t) (walk-part-at t) 
   abbrev Answers : ℕ → Type 0
   Answers r = (w : Whole) → answerOf r ≡ walk (sectionOf (entry .args .section .now)) (going w .here .part .tree)
 
--- a phrase
-found : (t : ℕ) (k : walk-part-lts.After-answered (claims t) (walk-part-at t) walk-part.Post Inv-loop μ-loop) → Answers t (k .before .before .before .before .before) (k .answered .result)
-found t k w =
-    let told = k .before .before .before in
-    phrase-walks
-    (going t (told .before .before) w .here)
-    (told .before .before .code-at .ensures)
-    (told .enum-told .given .1)
-    (k .before .before .phrase-words .ensures)
-    (λ rank. k .answered .ensures ∙ ap (λ (b : Bool). Answered b 1) (k .before .is-found .ensures rank))
-
--- a filter
-filtered : (t : ℕ) (k : walk-part-lts.After-build-part (claims t) (walk-part-at t) walk-part.Post Inv-loop μ-loop) → Answers t (k .before .before .before .before) (k .build-part .result)
-filtered t k w =
-    let told = k .before .before in
-    let here = going t (told .before .before) w .here in
-    k .build-part .ensures here ∙ filter-walks here (told .before .before .code-at .ensures) (told .enum-told2 .given .1)
-
 module _ (t : ℕ) (m : walk-part-lts.After-is-mild-not (claims t) (walk-part-at t) walk-part.Post Inv-loop μ-loop) where
   abbrev at-code : walk-part-lts.After-code-at (claims t) (walk-part-at t) walk-part.Post Inv-loop μ-loop
   at-code = m .before .before .before .before
@@ -125,12 +94,19 @@ module _ (t : ℕ) (m : walk-part-lts.After-is-mild-not (claims t) (walk-part-at
   combination = m .before .before .code .given .0 .0
 
 -- a mild not
-mild : (t : ℕ) (k : walk-part-lts.After-build-part2 (claims t) (walk-part-at t) walk-part.Post Inv-loop μ-loop) → Answers t (at-code t (k .before .before .before)) (k .build-part2 .result)
+mild : (t : ℕ) (k : walk-part-lts.After-answer-leaf (claims t) (walk-part-at t) walk-part.Post Inv-loop μ-loop)
+    → Answers t (at-code t (k .before .before .before)) (k .answer-leaf .result)
 mild t k w =
     let m = k .before .before .before in
-    let here = going t (at-code t m) w .here in
-    k .build-part2 .ensures here
-    ∙ mild-walks here (at-code t m .code-at .ensures) (m .before .before .code .given .1) (sym (m .is-mild-not .ensures) ∙ k .before .before .if1 .taken)
+    let code-is = sym (at-code t m .code-at .ensures) ∙ m .before .before .code .given .1 in
+    k .answer-leaf .ensures (going t (at-code t m) w .here) (ap goesInto code-is ∙ ap not (sym (m .is-mild-not .ensures) ∙ k .before .before .if1 .taken))
+
+-- a phrase, a filter
+other : (t : ℕ) (k : walk-part-lts.After-answer-leaf2 (claims t) (walk-part-at t) walk-part.Post Inv-loop μ-loop)
+    → Answers t (k .before .before .before) (k .answer-leaf2 .result)
+other t k w =
+    let m = k .before .before in
+    k .answer-leaf2 .ensures (going t (m .before) w .here) (ap goesInto (sym (m .before .code-at .ensures)) ∙ leaf-code (m .before .code-at .result) (m .match .keys3))
 
 -- the sides of an or, of an and
 module _ (t : ℕ) (p : walk-part-lts.After-part-start (claims t) (walk-part-at t) walk-part.Post Inv-loop μ-loop) where
@@ -167,47 +143,19 @@ walk-part-code-at-requires t c κs = search needs
 walk-part-enum-told : (t : ℕ) → walk-part-lts.Need-enum-told (claims t) (walk-part-at t) walk-part.Post Inv-loop μ-loop
 walk-part-enum-told t c = search needs
 
-walk-part-phrase-words-requires : (t : ℕ) → walk-part-lts.Need-phrase-words-requires (claims t) (walk-part-at t) walk-part.Post Inv-loop μ-loop
-walk-part-phrase-words-requires t c κs = search needs
+walk-part-add-codes : (t : ℕ) → walk-part-lts.Need-add-codes (claims t) (walk-part-at t) walk-part.Post Inv-loop μ-loop
+walk-part-add-codes t c = let a = c .before .before in omega (arith, going t a (own t a) .few)
 
-walk-part-is-found-requires : (t : ℕ) → walk-part-lts.Need-is-found-requires (claims t) (walk-part-at t) walk-part.Post Inv-loop μ-loop
-walk-part-is-found-requires t c κs = search needs
+walk-part-sub-place : (t : ℕ) → walk-part-lts.Need-sub-place (claims t) (walk-part-at t) walk-part.Post Inv-loop μ-loop
+walk-part-sub-place t c = let a = c .before .before in some-codes (going t a (own t a) .here)
 
-walk-part-answered-requires : (t : ℕ) → walk-part-lts.Need-answered-requires (claims t) (walk-part-at t) walk-part.Post Inv-loop μ-loop
-walk-part-answered-requires t c κs = search needs
+walk-part-loop-less : (t : ℕ) → walk-part-lts.Need-loop-less (claims t) (walk-part-at t) walk-part.Post Inv-loop μ-loop
+walk-part-loop-less t c = let a = c .before .before in omega (arith, some-codes (going t a (own t a) .here))
 
-walk-part-passed-up-requires : (t : ℕ) → walk-part-lts.Need-passed-up-requires (claims t) (walk-part-at t) walk-part.Post Inv-loop μ-loop
-walk-part-passed-up-requires t c κs =
-    let a = c .before .before .before .before .before in
-    passes-few (going t a (own t a)) (found t c (own t a))
-
-walk-part-same-length : (t : ℕ) → walk-part-lts.Need-same-length (claims t) (walk-part-at t) walk-part.Post Inv-loop μ-loop
-walk-part-same-length t c = c .before .before .before .before .before .before .before .loop .inv .0
-
-walk-part-returns : (t : ℕ) → walk-part-lts.Need-returns (claims t) (walk-part-at t) walk-part.Post Inv-loop μ-loop
-walk-part-returns t c w =
-    let k = c .before in
-    c .passed-up .ensures ∙ passes (going t (k .before .before .before .before .before) w) (found t k w)
-
-walk-part-enum-told-2 : (t : ℕ) → walk-part-lts.Need-enum-told-2 (claims t) (walk-part-at t) walk-part.Post Inv-loop μ-loop
-walk-part-enum-told-2 t c = search needs
-
-walk-part-build-part-requires : (t : ℕ) → walk-part-lts.Need-build-part-requires (claims t) (walk-part-at t) walk-part.Post Inv-loop μ-loop
-walk-part-build-part-requires t c κs = let a = c .before .before .before in going t a (own t a) .here
-
-walk-part-passed-up-requires-2 : (t : ℕ) → walk-part-lts.Need-passed-up-requires-2 (claims t) (walk-part-at t) walk-part.Post Inv-loop μ-loop
-walk-part-passed-up-requires-2 t c κs =
-    let k = c .before .before in
-    let a = k .before .before .before .before in
-    passes-few (going t a (own t a)) (filtered t k (own t a))
-
-walk-part-same-length-2 : (t : ℕ) → walk-part-lts.Need-same-length-2 (claims t) (walk-part-at t) walk-part.Post Inv-loop μ-loop
-walk-part-same-length-2 t c = let k = c .before .before .before in k .build-part .kept .1 .1 .0 ∙ k .before .before .before .before .before .loop .inv .0
-
-walk-part-returns-2 : (t : ℕ) → walk-part-lts.Need-returns-2 (claims t) (walk-part-at t) walk-part.Post Inv-loop μ-loop
-walk-part-returns-2 t c w =
-    let k = c .before .before .before in
-    c .passed-up2 .ensures ∙ passes (going t (k .before .before .before .before) w) (filtered t k w)
+walk-part-loop-again : (t : ℕ) → walk-part-lts.Need-loop-again (claims t) (walk-part-at t) walk-part.Post Inv-loop μ-loop
+walk-part-loop-again t c =
+    let a = c .before .before in
+    (a .before .loop .inv .0, λ w. under-not (going t a w) (a .code-at .ensures) (c .enum-told .given .1))
 
 walk-part-enum-known-code : (t : ℕ) → walk-part-lts.Need-enum-known-code (claims t) (walk-part-at t) walk-part.Post Inv-loop μ-loop
 walk-part-enum-known-code t c = search needs
@@ -215,25 +163,25 @@ walk-part-enum-known-code t c = search needs
 walk-part-is-mild-not-requires : (t : ℕ) → walk-part-lts.Need-is-mild-not-requires (claims t) (walk-part-at t) walk-part.Post Inv-loop μ-loop
 walk-part-is-mild-not-requires t c κs = search needs
 
-walk-part-build-part-requires-2 : (t : ℕ) → walk-part-lts.Need-build-part-requires-2 (claims t) (walk-part-at t) walk-part.Post Inv-loop μ-loop
-walk-part-build-part-requires-2 t c κs = let a = at-code t (c .before .before) in going t a (own t a) .here
+walk-part-answer-leaf-requires : (t : ℕ) → walk-part-lts.Need-answer-leaf-requires (claims t) (walk-part-at t) walk-part.Post Inv-loop μ-loop
+walk-part-answer-leaf-requires t c κs = let a = at-code t (c .before .before) in going t a (own t a) .here
 
-walk-part-passed-up-requires-3 : (t : ℕ) → walk-part-lts.Need-passed-up-requires-3 (claims t) (walk-part-at t) walk-part.Post Inv-loop μ-loop
-walk-part-passed-up-requires-3 t c κs =
+walk-part-passed-up-requires : (t : ℕ) → walk-part-lts.Need-passed-up-requires (claims t) (walk-part-at t) walk-part.Post Inv-loop μ-loop
+walk-part-passed-up-requires t c κs =
     let k = c .before .before in
     let a = at-code t (k .before .before .before) in
     passes-few (going t a (own t a)) (mild t k (own t a))
 
-walk-part-same-length-3 : (t : ℕ) → walk-part-lts.Need-same-length-3 (claims t) (walk-part-at t) walk-part.Post Inv-loop μ-loop
-walk-part-same-length-3 t c = let k = c .before .before .before in k .build-part2 .kept .1 .1 .0 ∙ at-code t (k .before .before .before) .before .loop .inv .0
+walk-part-same-length : (t : ℕ) → walk-part-lts.Need-same-length (claims t) (walk-part-at t) walk-part.Post Inv-loop μ-loop
+walk-part-same-length t c = let k = c .before .before .before in k .answer-leaf .kept .1 .1 .0 ∙ at-code t (k .before .before .before) .before .loop .inv .0
 
-walk-part-returns-3 : (t : ℕ) → walk-part-lts.Need-returns-3 (claims t) (walk-part-at t) walk-part.Post Inv-loop μ-loop
-walk-part-returns-3 t c w =
+walk-part-returns : (t : ℕ) → walk-part-lts.Need-returns (claims t) (walk-part-at t) walk-part.Post Inv-loop μ-loop
+walk-part-returns t c w =
     let k = c .before .before .before in
-    c .passed-up3 .ensures ∙ passes (going t (at-code t (k .before .before .before)) w) (mild t k w)
+    c .passed-up .ensures ∙ passes (going t (at-code t (k .before .before .before)) w) (mild t k w)
 
-walk-part-add-codes : (t : ℕ) → walk-part-lts.Need-add-codes (claims t) (walk-part-at t) walk-part.Post Inv-loop μ-loop
-walk-part-add-codes t c = let a = at-code t (c .before) in omega (arith, going t a (own t a) .few)
+walk-part-add-codes-2 : (t : ℕ) → walk-part-lts.Need-add-codes-2 (claims t) (walk-part-at t) walk-part.Post Inv-loop μ-loop
+walk-part-add-codes-2 t c = let a = at-code t (c .before) in omega (arith, going t a (own t a) .few)
 
 walk-part-sub-part-start : (t : ℕ) → walk-part-lts.Need-sub-part-start (claims t) (walk-part-at t) walk-part.Post Inv-loop μ-loop
 walk-part-sub-part-start t c = let a = at-code t (c .before) in some-codes (going t a (own t a) .here)
@@ -250,85 +198,69 @@ walk-part-walk-part-requires t c κs =
 walk-part-decides-requires : (t : ℕ) → walk-part-lts.Need-decides-requires (claims t) (walk-part-at t) walk-part.Post Inv-loop μ-loop
 walk-part-decides-requires t c κs = search needs
 
-walk-part-passed-up-requires-4 : (t : ℕ) → walk-part-lts.Need-passed-up-requires-4 (claims t) (walk-part-at t) walk-part.Post Inv-loop μ-loop
-walk-part-passed-up-requires-4 t c κs =
+walk-part-passed-up-requires-2 : (t : ℕ) → walk-part-lts.Need-passed-up-requires-2 (claims t) (walk-part-at t) walk-part.Post Inv-loop μ-loop
+walk-part-passed-up-requires-2 t c κs =
     let k = c .before .before .before .before in
     let p = k .before .before in
     let w = own t (code t p) in
     left-few (going t (code t p) w) (sides-of t p w) (plain t p) (left t k w)
 
-walk-part-same-length-4 : (t : ℕ) → walk-part-lts.Need-same-length-4 (claims t) (walk-part-at t) walk-part.Post Inv-loop μ-loop
-walk-part-same-length-4 t c = let k = c .before .before .before .before .before in k .walk-part .kept .1 .1 .0 ∙ code t (k .before .before) .before .loop .inv .0
+walk-part-same-length-2 : (t : ℕ) → walk-part-lts.Need-same-length-2 (claims t) (walk-part-at t) walk-part.Post Inv-loop μ-loop
+walk-part-same-length-2 t c = let k = c .before .before .before .before .before in k .walk-part .kept .1 .1 .0 ∙ code t (k .before .before) .before .loop .inv .0
 
-walk-part-returns-4 : (t : ℕ) → walk-part-lts.Need-returns-4 (claims t) (walk-part-at t) walk-part.Post Inv-loop μ-loop
-walk-part-returns-4 t c w =
+walk-part-returns-2 : (t : ℕ) → walk-part-lts.Need-returns-2 (claims t) (walk-part-at t) walk-part.Post Inv-loop μ-loop
+walk-part-returns-2 t c w =
     let d = c .before .before in
     let k = d .before .before .before in
     let p = k .before .before in
-    c .passed-up4 .ensures
-    ∙ left-decides (going t (code t p) w) (sides-of t p w) (plain t p) (left t k w) (sym (d .decides .ensures) ∙ c .before .if2 .taken)
+    c .passed-up2 .ensures ∙ left-decides (going t (code t p) w) (sides-of t p w) (plain t p) (left t k w) (sym (d .decides .ensures) ∙ c .before .if2 .taken)
 
 walk-part-codes-in-requires : (t : ℕ) → walk-part-lts.Need-codes-in-requires (claims t) (walk-part-at t) walk-part.Post Inv-loop μ-loop
 walk-part-codes-in-requires t c κs = search needs
 
-walk-part-add-codes-2 : (t : ℕ) → walk-part-lts.Need-add-codes-2 (claims t) (walk-part-at t) walk-part.Post Inv-loop μ-loop
-walk-part-add-codes-2 t c =
+walk-part-add-codes-3 : (t : ℕ) → walk-part-lts.Need-add-codes-3 (claims t) (walk-part-at t) walk-part.Post Inv-loop μ-loop
+walk-part-add-codes-3 t c =
     let k = c .before .before .before .before .before in
     let p = k .before .before in
     let w = own t (code t p) in
     omega (arith, c .codes-in .ensures, left-few (going t (code t p) w) (sides-of t p w) (plain t p) (left t k w))
 
-walk-part-sub-place : (t : ℕ) → walk-part-lts.Need-sub-place (claims t) (walk-part-at t) walk-part.Post Inv-loop μ-loop
-walk-part-sub-place t c =
+walk-part-sub-place-2 : (t : ℕ) → walk-part-lts.Need-sub-place-2 (claims t) (walk-part-at t) walk-part.Post Inv-loop μ-loop
+walk-part-sub-place-2 t c =
     let p = c .before .before .before .before .before .before .before in
     some-codes (going t (code t p) (own t (code t p)) .here)
 
-walk-part-loop-less : (t : ℕ) → walk-part-lts.Need-loop-less (claims t) (walk-part-at t) walk-part.Post Inv-loop μ-loop
-walk-part-loop-less t c =
+walk-part-loop-less-2 : (t : ℕ) → walk-part-lts.Need-loop-less-2 (claims t) (walk-part-at t) walk-part.Post Inv-loop μ-loop
+walk-part-loop-less-2 t c =
     let p = c .before .before .before .before .before .before .before in
     omega (arith, some-codes (going t (code t p) (own t (code t p)) .here))
 
-walk-part-loop-again : (t : ℕ) → walk-part-lts.Need-loop-again (claims t) (walk-part-at t) walk-part.Post Inv-loop μ-loop
-walk-part-loop-again t c =
+walk-part-loop-again-2 : (t : ℕ) → walk-part-lts.Need-loop-again-2 (claims t) (walk-part-at t) walk-part.Post Inv-loop μ-loop
+walk-part-loop-again-2 t c =
     let d = c .before .before in
     let k = d .before .before .before in
     let p = k .before .before in
     let same = k .walk-part .kept .1 .1 .0 in (
       same ∙ code t p .before .loop .inv .0,
-      λ w. rw (c .codes-in .ensures)
-          (right-side (going t (code t p) w) (sides-of t p w) (plain t p) (left t k w) (sym (d .decides .ensures) ∙ c .before .if2 .left) _ same),
+      λ w. rw (c .codes-in .ensures) (right-side (going t (code t p) w) (sides-of t p w) (plain t p) (left t k w) (sym (d .decides .ensures) ∙ c .before .if2 .left) _ same),
     )
 
-walk-part-enum-told-3 : (t : ℕ) → walk-part-lts.Need-enum-told-3 (claims t) (walk-part-at t) walk-part.Post Inv-loop μ-loop
-walk-part-enum-told-3 t c = search needs
+walk-part-answer-leaf-requires-2 : (t : ℕ) → walk-part-lts.Need-answer-leaf-requires-2 (claims t) (walk-part-at t) walk-part.Post Inv-loop μ-loop
+walk-part-answer-leaf-requires-2 t c κs = let a = c .before .before in going t a (own t a) .here
 
-walk-part-add-codes-3 : (t : ℕ) → walk-part-lts.Need-add-codes-3 (claims t) (walk-part-at t) walk-part.Post Inv-loop μ-loop
-walk-part-add-codes-3 t c = let a = c .before .before in omega (arith, going t a (own t a) .few)
+walk-part-passed-up-requires-3 : (t : ℕ) → walk-part-lts.Need-passed-up-requires-3 (claims t) (walk-part-at t) walk-part.Post Inv-loop μ-loop
+walk-part-passed-up-requires-3 t c κs =
+    let k = c .before .before in
+    let a = k .before .before .before in
+    passes-few (going t a (own t a)) (other t k (own t a))
 
-walk-part-sub-place-2 : (t : ℕ) → walk-part-lts.Need-sub-place-2 (claims t) (walk-part-at t) walk-part.Post Inv-loop μ-loop
-walk-part-sub-place-2 t c = let a = c .before .before in some-codes (going t a (own t a) .here)
+walk-part-same-length-3 : (t : ℕ) → walk-part-lts.Need-same-length-3 (claims t) (walk-part-at t) walk-part.Post Inv-loop μ-loop
+walk-part-same-length-3 t c = let k = c .before .before .before in k .answer-leaf2 .kept .1 .1 .0 ∙ k .before .before .before .before .loop .inv .0
 
-walk-part-loop-less-2 : (t : ℕ) → walk-part-lts.Need-loop-less-2 (claims t) (walk-part-at t) walk-part.Post Inv-loop μ-loop
-walk-part-loop-less-2 t c = let a = c .before .before in omega (arith, some-codes (going t a (own t a) .here))
-
-walk-part-loop-again-2 : (t : ℕ) → walk-part-lts.Need-loop-again-2 (claims t) (walk-part-at t) walk-part.Post Inv-loop μ-loop
-walk-part-loop-again-2 t c =
-    let a = c .before .before in
-    (a .before .loop .inv .0, λ w. under-not (going t a w) (a .code-at .ensures) (c .enum-told3 .given .1))
-
-walk-part-enum-told-4 : (t : ℕ) → walk-part-lts.Need-enum-told-4 (claims t) (walk-part-at t) walk-part.Post Inv-loop μ-loop
-walk-part-enum-told-4 t c = search needs
-
-walk-part-too-long-requires : (t : ℕ) → walk-part-lts.Need-too-long-requires (claims t) (walk-part-at t) walk-part.Post Inv-loop μ-loop
-walk-part-too-long-requires t c κs = search needs
-
-walk-part-same-length-5 : (t : ℕ) → walk-part-lts.Need-same-length-5 (claims t) (walk-part-at t) walk-part.Post Inv-loop μ-loop
-walk-part-same-length-5 t c = c .before .before .before .before .loop .inv .0
-
-walk-part-returns-5 : (t : ℕ) → walk-part-lts.Need-returns-5 (claims t) (walk-part-at t) walk-part.Post Inv-loop μ-loop
-walk-part-returns-5 t c w =
-    let told = c .before in
-    word-walks (going t (told .before .before) w .here) (told .before .before .code-at .ensures) (told .enum-told4 .given .1)
+walk-part-returns-3 : (t : ℕ) → walk-part-lts.Need-returns-3 (claims t) (walk-part-at t) walk-part.Post Inv-loop μ-loop
+walk-part-returns-3 t c w =
+    let k = c .before .before .before in
+    c .passed-up3 .ensures ∙ passes (going t (k .before .before .before) w) (other t k w)
 
 pub +walk-part-spec : {M : Type 1} → statement M
 +walk-part-spec = close μ-walk-part λ t. walk-part-lts.spec (claims t)
@@ -339,42 +271,30 @@ pub +walk-part-spec : {M : Type 1} → statement M
     (walk-part-loop-holds t)
     (walk-part-code-at-requires t)
     (walk-part-enum-told t)
-    (walk-part-phrase-words-requires t)
-    (walk-part-is-found-requires t)
-    (walk-part-answered-requires t)
+    (walk-part-add-codes t)
+    (walk-part-sub-place t)
+    (walk-part-loop-less t)
+    (walk-part-loop-again t)
+    (walk-part-enum-known-code t)
+    (walk-part-is-mild-not-requires t)
+    (walk-part-answer-leaf-requires t)
     (walk-part-passed-up-requires t)
     (walk-part-same-length t)
     (walk-part-returns t)
-    (walk-part-enum-told-2 t)
-    (walk-part-build-part-requires t)
-    (walk-part-passed-up-requires-2 t)
-    (walk-part-same-length-2 t)
-    (walk-part-returns-2 t)
-    (walk-part-enum-known-code t)
-    (walk-part-is-mild-not-requires t)
-    (walk-part-build-part-requires-2 t)
-    (walk-part-passed-up-requires-3 t)
-    (walk-part-same-length-3 t)
-    (walk-part-returns-3 t)
-    (walk-part-add-codes t)
+    (walk-part-add-codes-2 t)
     (walk-part-sub-part-start t)
     (walk-part-part-start-requires t)
     (walk-part-walk-part-requires t)
     (walk-part-decides-requires t)
-    (walk-part-passed-up-requires-4 t)
-    (walk-part-same-length-4 t)
-    (walk-part-returns-4 t)
+    (walk-part-passed-up-requires-2 t)
+    (walk-part-same-length-2 t)
+    (walk-part-returns-2 t)
     (walk-part-codes-in-requires t)
-    (walk-part-add-codes-2 t)
-    (walk-part-sub-place t)
-    (walk-part-loop-less t)
-    (walk-part-loop-again t)
-    (walk-part-enum-told-3 t)
     (walk-part-add-codes-3 t)
     (walk-part-sub-place-2 t)
     (walk-part-loop-less-2 t)
     (walk-part-loop-again-2 t)
-    (walk-part-enum-told-4 t)
-    (walk-part-too-long-requires t)
-    (walk-part-same-length-5 t)
-    (walk-part-returns-5 t)
+    (walk-part-answer-leaf-requires-2 t)
+    (walk-part-passed-up-requires-3 t)
+    (walk-part-same-length-3 t)
+    (walk-part-returns-3 t)
