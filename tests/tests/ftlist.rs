@@ -1,36 +1,12 @@
 //! The program `ftlist` as it is built, run on bytes, against what this engine says it prints for them.
 
+mod program;
 mod words;
 
+use program::printed;
 use second_engine::{gen, text};
-use std::io::{ErrorKind, Write};
-use std::path::{Path, PathBuf};
-use std::process::{Command, Stdio};
 use words::examples::examples;
 use words::*;
-
-fn program() -> PathBuf {
-    let path = Path::new(env!("CARGO_MANIFEST_DIR")).join("../target/bin/ftlist");
-    assert!(path.is_file(), "no program {}: `rt check ftlist` builds it", path.display());
-    path
-}
-
-/// What the program prints for an input.
-fn printed(input: &[u8]) -> String {
-    let mut child = Command::new(program())
-        .stdin(Stdio::piped())
-        .stdout(Stdio::piped())
-        .spawn()
-        .unwrap_or_else(|error| panic!("{}: {error}", program().display()));
-    // it reads no more than it needs to see that an input is too long, and may have ended before the rest is written
-    match child.stdin.take().unwrap().write_all(input) {
-        Err(error) if error.kind() != ErrorKind::BrokenPipe => panic!("{error}"),
-        _ => {}
-    }
-    let output = child.wait_with_output().unwrap();
-    assert!(output.status.success(), "{}", output.status);
-    String::from_utf8(output.stdout).unwrap()
-}
 
 /// The program prints for an input what this engine says.
 fn agrees(input: &[u8], name: &str) -> String {

@@ -6,20 +6,11 @@ mod words;
 use second_engine::{quick, text, Quick, WORK};
 use std::fs;
 use words::examples::{examples, Example};
+use words::numbers;
 
 fn file(name: &str) -> String {
     let path = format!("{}/../crates/six_tokens/{name}", env!("CARGO_MANIFEST_DIR"));
     fs::read_to_string(&path).unwrap_or_else(|error| panic!("{path}: {error}"))
-}
-
-/// The numbers of a line, in which `300*7` is 300 numbers 7.
-fn numbers(line: &str) -> Vec<u32> {
-    let number = |word: &str| word.parse().unwrap_or_else(|_| panic!("{word:?} in {line:?}"));
-    let several = |word: &str| match word.split_once('*') {
-        None => vec![number(word)],
-        Some((times, value)) => vec![number(value); number(times) as usize],
-    };
-    line.split(' ').flat_map(several).collect()
 }
 
 /// The listing's text, of one with over 20 matches its first line; the quick answer.

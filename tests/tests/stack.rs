@@ -11,6 +11,7 @@ use proved::exported;
 use second_engine::{cases, BUFFER, WORK};
 use std::arch::asm;
 use words::examples::examples;
+use words::header::stated;
 use words::*;
 
 const PAINT: u64 = 0x5AA5_5AA5_5AA5_5AA5;
@@ -98,13 +99,6 @@ impl Most {
     }
 }
 
-/// A number that the header defines.
-fn stated(name: &str) -> usize {
-    let header = include_str!("../../include/jullpinay.h");
-    let line = header.lines().find_map(|line| line.strip_prefix("#define ")?.strip_prefix(name)?.strip_prefix(' '));
-    line.unwrap_or_else(|| panic!("the header defines no {name}")).parse().unwrap()
-}
-
 /// What the walk builds or looks for: a phrase, every filter over one word and over two, a mild not.
 fn leaves() -> Vec<Selection> {
     let mut leaves = vec![word(10), phrase(&[10, 20]), word(10).mild_not(phrase(&[10, 20]))];
@@ -151,7 +145,7 @@ fn each_call_stays_within_the_stack_that_the_header_states() {
         most.of(&mut stack, &case.section, &case.selection);
     }
     for (name, most) in [("LISTING", most.listing), ("QUICK", most.quick), ("SNIPPET", most.snippet)] {
-        let stated = stated(&format!("JULLPINAY_{name}_STACK"));
+        let stated = stated(&format!("{name}_STACK"));
         println!("{name}: {most} bytes of stack, {stated} stated");
         assert!(most <= stated, "{name} takes {most} bytes of stack, the header states {stated}");
         assert!(stated < most + 512, "{name} takes {most} bytes of stack, the header states as much as {stated}");

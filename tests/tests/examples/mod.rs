@@ -7,7 +7,7 @@ mod refusals;
 mod rules;
 
 pub use crate::words::*;
-use second_engine::{compare, engine as second, text, unlimited, Case, Engine, Listing, Match, Quick, BUFFER, WORK};
+use second_engine::{compare, engine as second, text, unlimited, Case, Engine, Listing, Quick, BUFFER, WORK};
 
 /// What lent memory holds before a call.
 const NOISE: u32 = 0xEEEE_EEEE;
@@ -60,32 +60,6 @@ pub fn lines(section: &[u32], selection: &Selection) -> Vec<String> {
     lines.insert(0, head);
     assert_eq!(printed.lines().collect::<Vec<&str>>(), lines);
     lines
-}
-
-/// The matches that a listing buffer holds.
-pub fn decode(buffer: &[u32]) -> Vec<Match> {
-    let (m, s) = (buffer[0] as usize, buffer[1] as usize);
-    let counts = &buffer[2..2 + m];
-    let spans = &buffer[2 + m..2 + m + s];
-    let tags = &buffer[2 + m + s..2 + m + 2 * s];
-    let mut strings = spans.iter().zip(tags);
-    let mut list = vec![];
-    for &count in counts {
-        let mut one = Match::default();
-        for (span, tag) in strings.by_ref().take(count as usize) {
-            let (start, end, query) = (span / 65_536, span % 65_536, tag / 4);
-            let string = second_engine::Str { start, end, query, contiguous: tag & 2 != 0 };
-            if tag & 1 == 0 {
-                assert!(one.excludes.is_empty(), "includes stand before excludes");
-                one.includes.push(string);
-            } else {
-                one.excludes.push(string);
-            }
-        }
-        list.push(one);
-    }
-    assert!(strings.next().is_none());
-    list
 }
 
 /// Yes or no, from the listing and from the quick answer alike.

@@ -3,9 +3,11 @@
 #![allow(dead_code)]
 
 pub mod examples;
+pub mod header;
 
 use second_engine::section::Section;
 use second_engine::selection::{self, Code};
+use second_engine::{Match, Str};
 
 /// A selection in the making: its codes.
 #[derive(Clone, Debug)]
@@ -109,4 +111,40 @@ pub fn plain(words: &[u32]) -> Vec<u32> {
 /// "Words 10 20 30 10 40 20; sentences 1 1 1 2 2 2; paragraph 1."
 pub fn six_tokens() -> Vec<u32> {
     section(&[10, 20, 30, 10, 40, 20], &[1, 1, 1, 2, 2, 2], &[1; 6])
+}
+
+/// The numbers of a line, in which `300*7` is 300 numbers 7.
+pub fn numbers(line: &str) -> Vec<u32> {
+    let number = |word: &str| word.parse().unwrap_or_else(|_| panic!("{word:?} in {line:?}"));
+    let several = |word: &str| match word.split_once('*') {
+        None => vec![number(word)],
+        Some((times, value)) => vec![number(value); number(times) as usize],
+    };
+    line.split_whitespace().flat_map(several).collect()
+}
+
+/// The matches that a listing buffer holds.
+pub fn decode(buffer: &[u32]) -> Vec<Match> {
+    let (m, s) = (buffer[0] as usize, buffer[1] as usize);
+    let counts = &buffer[2..2 + m];
+    let spans = &buffer[2 + m..2 + m + s];
+    let tags = &buffer[2 + m + s..2 + m + 2 * s];
+    let mut strings = spans.iter().zip(tags);
+    let mut list = vec![];
+    for &count in counts {
+        let mut one = Match::default();
+        for (span, tag) in strings.by_ref().take(count as usize) {
+            let (start, end, query) = (span / 65_536, span % 65_536, tag / 4);
+            let string = Str { start, end, query, contiguous: tag & 2 != 0 };
+            if tag & 1 == 0 {
+                assert!(one.excludes.is_empty(), "includes stand before excludes");
+                one.includes.push(string);
+            } else {
+                one.excludes.push(string);
+            }
+        }
+        list.push(one);
+    }
+    assert!(strings.next().is_none());
+    list
 }
