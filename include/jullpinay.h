@@ -1,7 +1,7 @@
 /* The engine's three calls. Each has an answer for every slice of every length: a result, or one refusal by number and place.
  *
- * A slice is a pointer and a count of numbers. `section`, `selection` and `buffer` are laid out as document 01 says; `work` is free to the call and
- * may end holding anything. Nothing that a call writes, `answer` included, may overlap anything else that is passed. No pointer may be null, also
+ * A slice is a pointer and a count of numbers. `section`, `selection` and `buffer` are laid out as docs/REFERENCE.md says; `work` is free to the call
+ * and may end holding anything. Nothing that a call writes, `answer` included, may overlap anything else that is passed. No pointer may be null, also
  * where its count is 0. Nothing is kept between calls, and nothing else is touched.
  *
  * Link with the archive that `rt staticlib boundary` writes, target/staticlib/libboundary.a. */
