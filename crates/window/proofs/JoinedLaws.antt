@@ -14,7 +14,7 @@ use Rattle.model.specs.Rules.{join, window, windowEnds}
 use Rattle.model.proofs.RulesLaws.{length-none, start-leastStart, window-none}
 use Rattle.strings.specs.Strings.{strsAt, strsOf}
 use Rattle.joining.specs.Joined.{joined}
-use Rattle.joining.proofs.JoiningLaws.{end-bound, strsOf-join}
+use Rattle.joining.proofs.JoiningLaws.{end-bound, join-some, strsOf-join}
 use Rattle.store.specs.Fine.{Fine}
 use Rattle.store.specs.Layout.{includesIn}
 use Rattle.store.specs.Stream.{MatchHolds}
@@ -31,11 +31,6 @@ unfolding joined join Every
 start-some [] f = omega arith
 start-some (s ∷ ss) f = omega (arith, start-leastStart s ss .0, f .0 .in-order, f .0 .end-up-to)
 
-length-join-some : (ss : List Str) → (length ss ≡ 0 → ⊥) → length (join ss) ≡ 1
-unfolding join
-length-join-some [] h = absurd (h refl)
-length-join-some (s ∷ ss) h = refl
-
 -- a match at p, its includes counted
 module _ {mem : List ℕ} {p : ℕ} {m : Match} (r : MatchHolds mem p m) {i : ℕ} (e : i ≡ includesIn (getD mem p 0)) where
   pub window-dropped : (n : ℕ) → i ≡ 0 → window n m ≡ []
@@ -47,7 +42,7 @@ module _ {mem : List ℕ} {p : ℕ} {m : Match} (r : MatchHolds mem p m) {i : �
     some-includes z = some (e ∙ includes-held r ∙ z)
 
     pub length-join-one : length (join (m .includes)) ≡ 1
-    length-join-one = length-join-some (m .includes) some-includes
+    length-join-one = ap length (join-some (m .includes) some-includes)
 
     abbrev pub part : List ℕ
     part = take (p + 1 + 2 * i - (p + 1)) (drop (p + 1) mem)
