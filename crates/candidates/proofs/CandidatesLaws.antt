@@ -35,7 +35,7 @@ covers-touches range p w s e =
     let both = both-true (leb (s .start) p) (leb p (s .end)) e in
     let a = leb-true (s .start) p (both .0) in
     let b = leb-true p (s .end) (both .1) in
-    and-join (le-leb (s .start) (range .hi) (omega arith)) (le-leb (range .lo) (s .end) (omega arith))
+    and-join (le-leb (s .start) (range .hi .0) (omega arith)) (le-leb (range .lo .0) (s .end) (omega arith))
 
 covered-touched : (range : Range) (p : ℕ) → Within range p → (ss : List Str) → covered ss p ≡ true → touched range ss ≡ true
 unfolding anyOf

@@ -12,6 +12,7 @@ use Rattle.model.specs.AllStrings.{AllStrs, Every}
 use Rattle.model.specs.Limits.{radix}
 use Rattle.model.specs.Lists.{anyOf, isEmpty}
 use Rattle.model.specs.Matches.{Str, Match}
+use Rattle.model.specs.declared.Position.{Position}
 use Rattle.model.specs.Rules.{covered, covers}
 use Rattle.model.proofs.TestsLaws.{both-true}
 use Rattle.strings.specs.Strings.{strOf, strsAt}
@@ -23,7 +24,7 @@ use Rattle.store.proofs.Walking.{next, none-left}
 use Rattle.candidates.specs.declared.edges.Edges.{Edges}
 use Rattle.candidates.specs.declared.edges.Range.{Range}
 use Rattle.candidates.specs.declared.edges.Ranges.{Ranges}
-use Rattle.candidates.specs.Edges.{ahead, contain, edgesOf, isWithin, lastOf, rangesAt, widened, withMatch, withMatches, Contains, MatchAt, Within}
+use Rattle.candidates.specs.Edges.{ahead, contain, edgesOf, isWithin, lastOf, position, rangesAt, widened, withMatch, withMatches, Contains, MatchAt, Within}
 
 -- ---- edges
 
@@ -37,17 +38,17 @@ last-read x y (z ∷ w ∷ l) =
     let further : suc (suc i) ≡ length (x ∷ y ∷ z ∷ w ∷ l) / 2 * 2 - 2 = omega arith in
     last-read z w l ∙ ap (λ k. getD (x ∷ y ∷ z ∷ w ∷ l) k 0 % radix) further
 
-pub edges-none : (l : List ℕ) → length l < 2 → edgesOf (strsAt l) ≡ record { start = 0; end = 0 }
+pub edges-none : (l : List ℕ) → length l < 2 → edgesOf (strsAt l) ≡ record { start = position 0; end = position 0 }
 unfolding strsAt
 edges-none [] h = refl
 edges-none (x ∷ []) h = refl
 edges-none (x ∷ y ∷ l) h = absurd (omega arith)
 
-pub edges-read : (l : List ℕ) → 2 ≤ length l → edgesOf (strsAt l) ≡ record { start = getD l 0 0 / radix; end = getD l (length l / 2 * 2 - 2) 0 % radix }
+pub edges-read : (l : List ℕ) → 2 ≤ length l → edgesOf (strsAt l) ≡ record { start = position (getD l 0 0 / radix); end = position (getD l (length l / 2 * 2 - 2) 0 % radix) }
 unfolding strsAt
 edges-read [] h = absurd (omega arith)
 edges-read (x ∷ []) h = absurd (omega arith)
-edges-read (x ∷ y ∷ l) h = ap (λ k. record { start = x / radix; end = k }) (last-read x y l)
+edges-read (x ∷ y ∷ l) h = ap (λ k. record { start = position (x / radix); end = position k }) (last-read x y l)
 
 -- fine strings cover their edges
 last-covered : (s : Str) (ss : List Str) → AllStrs Fine (s ∷ ss) → covered (s ∷ ss) (lastOf s ss .end) ≡ true
@@ -55,12 +56,12 @@ unfolding lastOf Every anyOf
 last-covered s [] f = rw (le-leb (s .start) (s .end) (f .0 .in-order), le-leb (s .end) (s .end) (omega arith))
 last-covered s (t ∷ ts) f = rw (last-covered t ts (f .1)) (or-true (covers s (lastOf t ts .end)))
 
-pub start-covered : (ss : List Str) → AllStrs Fine ss → 0 < length ss → covered ss (edgesOf ss .start) ≡ true
+pub start-covered : (ss : List Str) → AllStrs Fine ss → 0 < length ss → covered ss (edgesOf ss .start .0) ≡ true
 unfolding Every anyOf
 start-covered [] f k = absurd (omega arith)
 start-covered (s ∷ ss) f k = rw (le-leb (s .start) (s .start) (omega arith), le-leb (s .start) (s .end) (f .0 .in-order))
 
-pub end-covered : (ss : List Str) → AllStrs Fine ss → 0 < length ss → covered ss (edgesOf ss .end) ≡ true
+pub end-covered : (ss : List Str) → AllStrs Fine ss → 0 < length ss → covered ss (edgesOf ss .end .0) ≡ true
 end-covered [] f k = absurd (omega arith)
 end-covered (s ∷ ss) f k = last-covered s ss f
 
@@ -68,21 +69,21 @@ end-covered (s ∷ ss) f k = last-covered s ss f
 
 within-true : (range : Range) (p : ℕ) → isWithin range p ≡ true → Within range p
 within-true range p e =
-    let both = both-true (leb (range .lo) p) (leb p (range .hi)) e in
-    (leb-true (range .lo) p (both .0), leb-true p (range .hi) (both .1))
+    let both = both-true (leb (range .lo .0) p) (leb p (range .hi .0)) e in
+    (leb-true (range .lo .0) p (both .0), leb-true p (range .hi .0) (both .1))
 
 pub contain-contains : (ranges : Ranges) (edges : Edges) → contain ranges edges ≡ true → Contains ranges edges
 contain-contains ranges edges e =
-    let both = both-true (isWithin (ranges .start) (edges .start)) (isWithin (ranges .end) (edges .end)) e in
-    (within-true (ranges .start) (edges .start) (both .0), within-true (ranges .end) (edges .end) (both .1))
+    let both = both-true (isWithin (ranges .start) (edges .start .0)) (isWithin (ranges .end) (edges .end .0)) e in
+    (within-true (ranges .start) (edges .start .0) (both .0), within-true (ranges .end) (edges .end .0) (both .1))
 
 -- what lies within a range lies within it widened
-within-widened : (range : Range) (p q : ℕ) → Within range q → Within (widened range p) q
-within-widened range p q w = at (ltb p (range .lo)) refl (ltb (range .hi) p) refl
+within-widened : (range : Range) (p : Position) (q : ℕ) → Within range q → Within (widened range p) q
+within-widened range p q w = at (ltb (p .0) (range .lo .0)) refl (ltb (range .hi .0) (p .0)) refl
   where
-    at : (s : Bool) → ltb p (range .lo) ≡ s → (t : Bool) → ltb (range .hi) p ≡ t → Within (widened range p) q
-    at true e t f = let below = ltb-true p (range .lo) e in rw e (omega arith)
-    at false e true f = let above = ltb-true (range .hi) p f in rw (e, f) (omega arith)
+    at : (s : Bool) → ltb (p .0) (range .lo .0) ≡ s → (t : Bool) → ltb (range .hi .0) (p .0) ≡ t → Within (widened range p) q
+    at true e t f = let below = ltb-true (p .0) (range .lo .0) e in rw e (omega arith)
+    at false e true f = let above = ltb-true (range .hi .0) (p .0) f in rw (e, f) (omega arith)
     at false e false f = rw (e, f) w
 
 with-contains : (ranges : Ranges) (m : Match) (edges : Edges) → Contains ranges edges → Contains (withMatch ranges m) edges
@@ -92,7 +93,7 @@ with-contains ranges m edges c = at (isEmpty (m .includes)) refl
     at true e = rw e c
     at false e =
         let edgesOfM = edgesOf (m .includes) in
-        rw e (within-widened (ranges .start) (edgesOfM .start) (edges .start) (c .0), within-widened (ranges .end) (edgesOfM .end) (edges .end) (c .1))
+        rw e (within-widened (ranges .start) (edgesOfM .start) (edges .start .0) (c .0), within-widened (ranges .end) (edgesOfM .end) (edges .end .0) (c .1))
 
 matches-contain : (ranges : Ranges) (ms : List Match) (edges : Edges) → Contains ranges edges → Contains (withMatches ranges ms) edges
 unfolding withMatches

@@ -8,7 +8,7 @@ use Rattle.candidates.specs.declared.edges.Range.{Range}
 use Rattle.candidates.specs.declared.edges.Ranges.{Ranges}
 
 abbrev pub touches : Range → Str → Bool
-touches range s = leb (s .start) (range .hi) && leb (range .lo) (s .end)
+touches range s = leb (s .start) (range .hi .0) && leb (range .lo .0) (s .end)
 
 abbrev pub touched : Range → List Str → Bool
 touched range ss = anyOf (touches range) ss

@@ -1,5 +1,6 @@
 // The edges of a match of L, the start of its first include and the end of its last one, and the ranges of the edges of several. Includes stand in the
 // selection's order, so that the edges need not be the least and the greatest position.
+use model::Position;
 use strings::end_of;
 use strings::start_of;
 ghost use mathlib.Core.Path.{_≡_};
@@ -13,14 +14,14 @@ const AHEAD: usize = 16;
 
 // The start of a match's first include, and the end of its last one.
 pub struct Edges {
-    pub start: u32,
-    pub end: u32,
+    pub start: Position,
+    pub end: Position,
 }
 
 // The positions from lo to hi.
 pub struct Range {
-    pub lo: u32,
-    pub hi: u32,
+    pub lo: Position,
+    pub hi: Position,
 }
 
 // The edges of several matches: all starts, and all ends.
@@ -34,7 +35,10 @@ pub fn edges_of(strs: &[u32]) -> Edges
     ensures { λ r. ⌜ r ≡ edgesOf (strsAt (now (strs .entry))) ⌝ }
 {
     if strs.len() < 2 {
-        return Edges { start: 0, end: 0 };
+        return Edges {
+            start: Position(0),
+            end: Position(0),
+        };
     }
     let last = strs.len() / 2 * 2 - 2;
     Edges {
@@ -44,13 +48,13 @@ pub fn edges_of(strs: &[u32]) -> Edges
 }
 
 // Is a position within the range?
-fn is_within(range: Range, p: u32) -> bool
-    ensures { λ r. ⌜ r ≡ isWithin range p ⌝ }
+fn is_within(range: Range, p: Position) -> bool
+    ensures { λ r. ⌜ r ≡ isWithin range (p .0) ⌝ }
 {
-    if p < range.lo {
+    if p.0 < range.lo.0 {
         return false;
     }
-    p <= range.hi
+    p.0 <= range.hi.0
 }
 
 // Are the edges within the ranges?
@@ -64,20 +68,16 @@ pub fn contain(ranges: Ranges, edges: Edges) -> bool
 }
 
 // The range, widened to a position.
-fn widened(range: Range, p: u32) -> Range
+fn widened(range: Range, p: Position) -> Range
     ensures { λ r. ⌜ r ≡ widened range p ⌝ }
 {
-    if p < range.lo {
-        return Range {
-            lo: p,
-            hi: range.hi,
-        };
+    let lo = range.lo;
+    let hi = range.hi;
+    if p.0 < lo.0 {
+        return Range { lo: p, hi };
     }
-    if range.hi < p {
-        return Range {
-            lo: range.lo,
-            hi: p,
-        };
+    if hi.0 < p.0 {
+        return Range { lo, hi: p };
     }
     range
 }
@@ -105,15 +105,14 @@ pub fn ranges_ahead(mem: &[u32], p: usize, n: usize, edges: Edges) -> Ranges
     requires { ⌜ StreamAt (now mem) p n ⌝ }
     ensures { λ r. ⌜ ((w : StreamAt (now (mem .entry)) p n) → r ≡ withMatches (rangesAt edges) (take ahead (w .list))) ⌝ }
 {
+    let start = edges.start;
+    let end = edges.end;
     let mut ranges = Ranges {
         start: Range {
-            lo: edges.start,
-            hi: edges.start,
+            lo: start,
+            hi: start,
         },
-        end: Range {
-            lo: edges.end,
-            hi: edges.end,
-        },
+        end: Range { lo: end, hi: end },
     };
     let mut at = p;
     let mut i = 0;

@@ -9,6 +9,7 @@ use edges::Ranges;
 use edges::contain;
 pub use edges::edges_of;
 use edges::ranges_ahead;
+use model::Position;
 use touching::behind_touching;
 use touching::first_touching;
 ghost use Rattle.store.specs.Slot.{SlotAt};
@@ -28,7 +29,10 @@ pub fn all_of(mem: &[u32], r: usize) -> Candidates
     ensures { λ b. ⌜ ((w : SlotAt (now (mem .entry)) r) → CandidatesAre (w .list) (now (mem .entry)) r b) ⌝ }
 {
     // positions run from 1
-    let none = Range { lo: 0, hi: 0 };
+    let none = Range {
+        lo: Position(0),
+        hi: Position(0),
+    };
     Candidates {
         ranges: Ranges {
             start: none,

@@ -12,10 +12,10 @@ ghost use Rattle.candidates.specs.Touching.{touchBoth, touched, touches}
 fn touches(span: u32, range: Range) -> bool
     ensures { λ r. ⌜ r ≡ touches range (strOf span 0) ⌝ }
 {
-    if range.hi < start_of(span) {
+    if range.hi.0 < start_of(span).0 {
         return false;
     }
-    range.lo <= end_of(span)
+    range.lo.0 <= end_of(span).0
 }
 
 // Does any of the strings have a position in the range?

@@ -1,6 +1,5 @@
 // How far strings lie apart.
 use strings::end_of;
-use strings::numbers::lesser;
 use strings::start_of;
 ghost use mathlib.Core.Path.{_≡_};
 ghost use mathlib.Core.Bool.{_||_};
@@ -19,10 +18,10 @@ fn between(first: u32, second: u32) -> u32
 {
     let end = end_of(first);
     let start = start_of(second);
-    if start <= end {
+    if start.0 <= end.0 {
         return 0;
     }
-    start - end - 1
+    start.0 - end.0 - 1
 }
 
 // Distance "of two spans, sorted by start then end".
@@ -70,7 +69,10 @@ fn nearer(span: u32, a: u32, b: u32) -> u32
     if b <= span {
         return a;
     }
-    lesser(a, b)
+    if a <= b {
+        return a;
+    }
+    b
 }
 
 // Does a span's distance to the least above it lie in `least` to `most`? Where `above` isn't above it, none is, and it passes.

@@ -1,4 +1,4 @@
--- What is written of a match that is kept: its includes or their join, behind them the excludes that stay, and the header in front.
+-- What is written of a match that is kept: its includes or their join, after them the excludes that stay, and the header in front.
 use Prim.Native.Nat.{ℕ, suc, _+_, _-_, _*_, _/_, _≤_, _<_, min}
 use native.Mathlib.Omega.{arith}
 use mathlib.Core.Path.{_≡_, refl, sym, ap, ap₂, _∙_, subst}
@@ -16,7 +16,8 @@ use Rattle.model.specs.Rules.{join}
 use Rattle.model.specs.Section.{Section}
 use Rattle.model.proofs.ListsLaws.{length-keep}
 use Rattle.strings.specs.Strings.{strOf, strsOf, strsAt}
-use Rattle.strings.proofs.StringsLaws.{strsAt-cons, strsAt-none}
+use Rattle.strings.proofs.StringsLaws.{length-strsAt, strsAt-none}
+use Rattle.joining.specs.Joined.{joined}
 use Rattle.joining.proofs.JoiningLaws.{strsOf-join}
 use Rattle.store.specs.Each.{OneAt}
 use Rattle.store.specs.Fine.{Fine}
@@ -48,15 +49,12 @@ module _ (mem : List ℕ) {a e q : ℕ} (j : Join (length mem) a e q) where
   unfolding part join strsOf
   put-no-join h = let none = strsAt-none part 0 (omega (arith, length-part)) in subst (λ ss. Put mem mem q (strsOf 0 (join ss)) q) (sym none) (put-none mem q)
 
-  pub put-one-join : 2 ≤ e - a → {span tag : ℕ}
-      → ((s : Str) (ss : List Str) → strsIn mem a e ≡ s ∷ ss → map spanOf (join (s ∷ ss)) ≡ span ∷ [])
-      → ((s : Str) (ss : List Str) → strsIn mem a e ≡ s ∷ ss → map (tagOf 0) (join (s ∷ ss)) ≡ tag ∷ [])
+  pub put-one-join : 2 ≤ e - a → {span tag : ℕ} → span ≡ spanOf (joined (strsIn mem a e)) → tag ≡ tagOf 0 (joined (strsIn mem a e))
       → {mem' : List ℕ} {next : ℕ} → Put mem mem' q (span ∷ tag ∷ []) next → Put mem mem' q (strsOf 0 (join (strsIn mem a e))) next
   unfolding part
   put-one-join h {span} {tag} f g {mem'} {next} v =
-      let some = strsAt-cons part 0 (omega (arith, length-part)) in
-      let numbers = strsOf-join _ _ span tag (f _ _ some) (g _ _ some) ∙ ap (λ ss. strsOf 0 (join ss)) (sym some) in
-      subst (λ xs. Put mem mem' q xs next) numbers v
+      let some : length (strsAt part) ≡ 0 → ⊥ = λ z. omega (arith, length-part, length-strsAt part) in
+      subst (λ xs. Put mem mem' q xs next) (ap₂ (λ x y. x ∷ y ∷ []) f g ∙ sym (strsOf-join (strsAt part) some)) v
 
 join-numbers : (ss : List Str) → length (strsOf 0 (join ss)) ≡ min (2 * length ss) 2
 unfolding join strsOf
@@ -71,19 +69,19 @@ module _ (f : Filter) {mem : List ℕ} {p q : ℕ} (w : RoomAt (includesNumbers 
 
   -- a filter that gives the join ..
   module _ (j : joinsOf f ≡ true) where
-    joined : includesNumbers f (w .item) ≡ strsOf 0 (join (w .item .includes))
-    joined = rw j
+    join-kept : includesNumbers f (w .item) ≡ strsOf 0 (join (w .item .includes))
+    join-kept = rw j
 
     pub join-fits : Join (length mem) (p + 1) (p + 1 + 2 * n) q
     join-fits =
-        let room : q + length (strsOf 0 (join (w .item .includes))) ≤ length mem = subst (λ xs. q + length xs ≤ length mem) joined (w .room) in
+        let room : q + length (strsOf 0 (join (w .item .includes))) ≤ length mem = subst (λ xs. q + length xs ≤ length mem) join-kept (w .room) in
         omega (arith, join-numbers (w .item .includes), count, w .held .header)
 
     pub put-joined : {mem' : List ℕ} {next : ℕ} → Put mem mem' q (strsOf 0 (join (strsIn mem (p + 1) (p + 1 + 2 * n)))) next
         → Put mem mem' q (includesNumbers f (w .item)) next
     put-joined {mem'} {next} v =
         let read = includes-read (w .held) (p + 1) (p + 1 + 2 * n) refl (omega arith) in
-        subst (λ xs. Put mem mem' q xs next) (ap (λ ss. strsOf 0 (join ss)) read ∙ sym joined) v
+        subst (λ xs. Put mem mem' q xs next) (ap (λ ss. strsOf 0 (join ss)) read ∙ sym join-kept) v
 
   -- .. and one that leaves the includes as they are
   module _ (j : joinsOf f ≡ false) where

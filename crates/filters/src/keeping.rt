@@ -45,7 +45,12 @@ pub fn keeps(section: &[u32], filter: Filter, includes: &[u32]) -> bool
         Filter::DifferentParagraph => all_differ(section, Unit::Paragraph, includes),
         Filter::AtStart => at_position(section, includes, Position(1)),
         Filter::AtEnd => at_position(section, includes, Position(number_at(section, 0))),
-        Filter::EntireContent => run_covered(includes, 1, number_at(section, 0), true),
+        Filter::EntireContent => run_covered(
+            includes,
+            Position(1),
+            Position(number_at(section, 0)),
+            true,
+        ),
     }
 }
 

@@ -1,52 +1,47 @@
-// The join of the strings of a part, as the two numbers of one string. Of no strings the start, end, span and tag given here are 0, and mean nothing.
+// The join of the strings of a part, as the two numbers of one string. Of no strings it is the string of zeros (`joined`).
+use model::Position;
 use strings::covering::run_covered;
 use strings::end_of;
 use strings::is_contiguous;
-use strings::numbers::greater;
-use strings::numbers::lesser;
+use strings::positions::earlier;
+use strings::positions::later;
 use strings::query_of;
 use strings::span_of;
 use strings::start_of;
 use strings::tag_of;
 ghost use mathlib.Core.Path.{_≡_};
-ghost use mathlib.Core.List.{List, [], _∷_, map};
-ghost use Prim.Native.Nat.{_<_};
 ghost use Rattle.model.specs.Answers.{spanOf, tagOf};
-ghost use Rattle.model.specs.Limits.{radix};
 ghost use Rattle.model.specs.Lists.{allOf};
-ghost use Rattle.model.specs.Matches.{Str};
-ghost use Rattle.model.specs.Rules.{greatestEnd, join, leastStart};
+ghost use Rattle.joining.specs.Joined.{joined};
 ghost use Rattle.strings.specs.Strings.{strsAt};
 
 // "least start"
-pub fn least_start(strs: &[u32]) -> u32
-    ensures { λ r. ⌜ ((s : Str) (ss : List Str) → strsAt (now (strs .entry)) ≡ s ∷ ss → r ≡ leastStart s ss) ⌝ }
-    ensures { λ r. ⌜ r < radix ⌝ }
+pub fn least_start(strs: &[u32]) -> Position
+    ensures { λ r. ⌜ r .0 ≡ joined (strsAt (now (strs .entry))) .start ⌝ }
 {
     if strs.len() < 2 {
-        return 0;
+        return Position(0);
     }
     let mut least = start_of(strs[0]);
     let mut i = 2;
     while i + 1 < strs.len() {
-        least = lesser(least, start_of(strs[i]));
+        least = earlier(least, start_of(strs[i]));
         i += 2;
     }
     least
 }
 
 // "greatest end"
-pub fn greatest_end(strs: &[u32]) -> u32
-    ensures { λ r. ⌜ ((s : Str) (ss : List Str) → strsAt (now (strs .entry)) ≡ s ∷ ss → r ≡ greatestEnd s ss) ⌝ }
-    ensures { λ r. ⌜ r < radix ⌝ }
+pub fn greatest_end(strs: &[u32]) -> Position
+    ensures { λ r. ⌜ r .0 ≡ joined (strsAt (now (strs .entry))) .end ⌝ }
 {
     if strs.len() < 2 {
-        return 0;
+        return Position(0);
     }
     let mut greatest = end_of(strs[0]);
     let mut i = 2;
     while i + 1 < strs.len() {
-        greatest = greater(greatest, end_of(strs[i]));
+        greatest = later(greatest, end_of(strs[i]));
         i += 2;
     }
     greatest
@@ -68,14 +63,14 @@ pub fn all_contiguous(strs: &[u32]) -> bool
 
 // The span of the join: "one include from least start to greatest end".
 pub fn join_span(strs: &[u32]) -> u32
-    ensures { λ r. ⌜ ((s : Str) (ss : List Str) → strsAt (now (strs .entry)) ≡ s ∷ ss → map spanOf (join (s ∷ ss)) ≡ r ∷ []) ⌝ }
+    ensures { λ r. ⌜ r ≡ spanOf (joined (strsAt (now (strs .entry)))) ⌝ }
 {
     span_of(least_start(strs), greatest_end(strs))
 }
 
 // "contiguous if every position in it is covered and all were contiguous"
 fn joins_contiguous(strs: &[u32]) -> bool
-    ensures { λ r. ⌜ ((s : Str) (ss : List Str) → strsAt (now (strs .entry)) ≡ s ∷ ss → map (λ t. t .contiguous) (join (s ∷ ss)) ≡ r ∷ []) ⌝ }
+    ensures { λ r. ⌜ r ≡ joined (strsAt (now (strs .entry))) .contiguous ⌝ }
 {
     if !all_contiguous(strs) {
         return false;
@@ -85,7 +80,7 @@ fn joins_contiguous(strs: &[u32]) -> bool
 
 // The tag of the join, an include's: "with the first include's query position".
 pub fn join_tag(strs: &[u32]) -> u32
-    ensures { λ r. ⌜ ((s : Str) (ss : List Str) → strsAt (now (strs .entry)) ≡ s ∷ ss → map (tagOf 0) (join (s ∷ ss)) ≡ r ∷ []) ⌝ }
+    ensures { λ r. ⌜ r ≡ tagOf 0 (joined (strsAt (now (strs .entry)))) ⌝ }
 {
     if strs.len() < 2 {
         return 0;

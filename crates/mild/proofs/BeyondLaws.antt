@@ -8,6 +8,7 @@ use borrow.Author.Tests.{le-leb, lt-ltb}
 use lib.ListN.{length, drop}
 use Rattle.model.specs.Lists.{allOf, anyOf, fromTo}
 use Rattle.model.specs.Matches.{Str, Match, strings}
+use Rattle.model.specs.declared.Position.{Position}
 use Rattle.model.specs.Rules.{covered, covers, keptIf, mildNotList, positions, reachesBeyond}
 use Rattle.model.proofs.RulesLaws.{AtMostOne}
 use Rattle.strings.specs.Covering.{RunEnd}
@@ -63,21 +64,23 @@ pub search-start : (lefts : List ℕ) (rights : List Str) → Searching lefts ri
 search-start lefts rights = record { left = Strs.left-start _ lefts; among = λ p e. e }
 
 module _ {lefts : List ℕ} {rights : List Str} {i : ℕ} (g : Searching lefts rights i) where
-  module _ (more : i + 1 < length lefts) {start end p : ℕ} (e : start ≡ strAt lefts i .start) (f : end ≡ strAt lefts i .end) (r : RunEnd rights start end p) where
+  module _ (more : i + 1 < length lefts) {start end : ℕ} {p : Position} (e : start ≡ strAt lefts i .start) (f : end ≡ strAt lefts i .end)
+      (r : RunEnd rights start end (p .0)) where
     -- the run of the string in hand stops being covered within it
-    pub search-found : p ≤ end → FoundBeyond (strsAt lefts) rights (At p)
+    pub search-found : p .0 ≤ end → FoundBeyond (strsAt lefts) rights (At p)
     unfolding anyOf
     search-found h =
         let s = strAt lefts i in
-        let here : covered (s ∷ strsAt (drop (i + 2) lefts)) p ≡ true = rw (le-leb (s .start) p (omega (arith, r .not-before)), le-leb p (s .end) (omega arith)) in
-        (g .among p (ap (λ ss. covered ss p) (strsAt-cons lefts i more) ∙ here), r .uncovered h)
+        let here : covered (s ∷ strsAt (drop (i + 2) lefts)) (p .0) ≡ true =
+        rw (le-leb (s .start) (p .0) (omega (arith, r .not-before)), le-leb (p .0) (s .end) (omega arith)) in
+        (g .among (p .0) (ap (λ ss. covered ss (p .0)) (strsAt-cons lefts i more) ∙ here), r .uncovered h)
 
     -- it is covered all through
-    pub search-on : end < p → Searching lefts rights (i + 2)
+    pub search-on : end < p .0 → Searching lefts rights (i + 2)
     unfolding anyOf
     search-on h =
         let s = strAt lefts i in
-        let all : allOf (covered rights) (positions s) ≡ true = ap₂ (λ x y. allOf (covered rights) (fromTo x y)) (sym e) (sym f) ∙ r .same ∙ lt-ltb end p h in
+        let all : allOf (covered rights) (positions s) ≡ true = ap₂ (λ x y. allOf (covered rights) (fromTo x y)) (sym e) (sym f) ∙ r .same ∙ lt-ltb end (p .0) h in
         let none : anyOf (λ x. not (covered rights x)) (positions s) ≡ false = any-not (covered rights) (positions s) ∙ ap not all in
         record {
           left = Strs.left-next (g .left) more (λ ss. beyond ss rights) (rw none);

@@ -10,6 +10,7 @@ use lib.Dec.{eqb, ltb}
 use lib.ListN.{length, take, drop, getD}
 use Rattle.model.specs.Lists.{allOf, anyOf}
 use Rattle.model.specs.Matches.{Match}
+use Rattle.model.specs.declared.Position.{Position}
 use Rattle.model.specs.Rules.{covered, keptIf, mildNotList, reachesBeyond}
 use Rattle.model.proofs.RulesLaws.{length-none}
 use Rattle.strings.specs.Strings.{strsAt}
@@ -48,11 +49,11 @@ pub record Seeking (l : Match) (all : List Match) (mem : List ℕ) (at end last 
 
 module _ {mem : List ℕ} {p from end : ℕ} (w : SearchAt mem p from end) where
   -- before the first match of R that covers the edges
-  pub seek : {at : ℕ} {edges : Edges} → edges ≡ edgesOf (w .item .includes) → Rest (fromFirst (coverBoth (edges .end) (edges .start)) (w .todo)) mem at end
-      → Seeking (w .item) (w .todo) mem at end (edges .start)
+  pub seek : {at : ℕ} {edges : Edges} → edges ≡ edgesOf (w .item .includes) → Rest (fromFirst (coverBoth (edges .end .0) (edges .start .0)) (w .todo)) mem at end
+      → Seeking (w .item) (w .todo) mem at end (edges .start .0)
   seek e rest =
-      let a = subst (λ g. covered (w .item .includes) (g .end) ≡ true) (sym e) (end-covered (w .item .includes) (w .held .fine .includes) (omega (arith, w .some, includes-held (w .held)))) in
-      let b = subst (λ g. covered (w .item .includes) (g .start) ≡ true) (sym e) (start-covered (w .item .includes) (w .held .fine .includes) (omega (arith, w .some, includes-held (w .held)))) in
+      let a = subst (λ g. covered (w .item .includes) (g .end .0) ≡ true) (sym e) (end-covered (w .item .includes) (w .held .fine .includes) (omega (arith, w .some, includes-held (w .held)))) in
+      let b = subst (λ g. covered (w .item .includes) (g .start .0) ≡ true) (sym e) (start-covered (w .item .includes) (w .held .fine .includes) (omega (arith, w .some, includes-held (w .held)))) in
       record { todo = _; rest = rest; same = all-fromFirst (w .item) _ (uncovered-beyond (w .item) _ _ a b) (w .todo); within = b }
 
   module _ {at last : ℕ} (g : Seeking (w .item) (w .todo) mem at end last) where
@@ -72,17 +73,18 @@ module _ {mem : List ℕ} {p from end : ℕ} (w : SearchAt mem p from end) where
           let covered-first : reachesBeyond (w .item) (N .first) ≡ false = subst (FoundBeyond (w .item .includes) (N .first .includes)) none found-beyond in
           sym (sym (g .same) ∙ ap (allOf (reachesBeyond (w .item))) (N .is) ∙ rw covered-first)
 
-      pub passed : {q at' : ℕ} → found ≡ At q → Rest (fromFirst (coverBoth q last) (rest-next (g .rest) h .rest)) mem at' end → Seeking (w .item) (w .todo) mem at' end q
+      pub passed : {q : Position} {at' : ℕ} → found ≡ At q → Rest (fromFirst (coverBoth (q .0) last) (rest-next (g .rest) h .rest)) mem at' end
+          → Seeking (w .item) (w .todo) mem at' end (q .0)
       unfolding allOf
       passed {q} some rest =
           let N = rest-next (g .rest) h in
           let at-q = subst (FoundBeyond (w .item .includes) (N .first .includes)) some found-beyond in
-          let beyond-first : reachesBeyond (w .item) (N .first) ≡ true = beyond-at (w .item .includes) (N .first .includes) q (at-q .0) (at-q .1) in
+          let beyond-first : reachesBeyond (w .item) (N .first) ≡ true = beyond-at (w .item .includes) (N .first .includes) (q .0) (at-q .0) (at-q .1) in
           let one-more : allOf (reachesBeyond (w .item)) (N .first ∷ N .rest) ≡ allOf (reachesBeyond (w .item)) (N .rest) = rw beyond-first in
           record {
             todo = _;
             rest = rest;
-            same = all-fromFirst (w .item) _ (uncovered-beyond (w .item) q last (at-q .0) (g .within)) (N .rest) ∙ sym one-more ∙ ap (allOf (reachesBeyond (w .item))) (sym (N .is)) ∙ g .same;
+            same = all-fromFirst (w .item) _ (uncovered-beyond (w .item) (q .0) last (at-q .0) (g .within)) (N .rest) ∙ sym one-more ∙ ap (allOf (reachesBeyond (w .item))) (sym (N .is)) ∙ g .same;
             within = at-q .0;
           }
 

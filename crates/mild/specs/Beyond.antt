@@ -16,7 +16,7 @@ mildNot rights l = keptIf (allOf (reachesBeyond l) rights) l
 
 -- a position found that lefts cover and rights don't, or that there is none
 abbrev pub FoundBeyond : List Str → List Str → Found → Type 0
-FoundBeyond lefts rights (At p) = (covered lefts p ≡ true) × (covered rights p ≡ false)
+FoundBeyond lefts rights (At p) = (covered lefts (p .0) ≡ true) × (covered rights (p .0) ≡ false)
 FoundBeyond lefts rights Nothing = beyond lefts rights ≡ false
 
 abbrev pub coverBoth : ℕ → ℕ → List Str → Bool

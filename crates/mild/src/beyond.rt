@@ -1,4 +1,5 @@
 // Positions that includes of L cover and those of R don't: one is looked for, and two that are found are held against the matches of R.
+use model::Position;
 use strings::covering::run_end;
 use strings::end_of;
 use strings::start_of;
@@ -14,7 +15,7 @@ ghost use Rattle.candidates.specs.Rest.{fromFirst, Passing, Rest, RestAt};
 
 // A position that includes of a left match cover, and those of a right match don't.
 pub enum Found {
-    At(u32),
+    At(Position),
     Nothing,
 }
 
@@ -27,7 +28,7 @@ pub fn find_beyond(lefts: &[u32], rights: &[u32]) -> Found
         let span = lefts[i];
         let end = end_of(span);
         let p = run_end(rights, start_of(span), end, false);
-        if p <= end {
+        if p.0 <= end.0 {
             return Found::At(p);
         }
         i += 2;
@@ -35,21 +36,21 @@ pub fn find_beyond(lefts: &[u32], rights: &[u32]) -> Found
     Found::Nothing
 }
 
-// Does a string of this span cover a position? Its start isn't behind its end, so one comparison is enough: the position's distance from the start is at most
+// Does a string of this span cover a position? Its start isn't after its end, so one comparison is enough: the position's distance from the start is at most
 // the end's. Before the start it wraps, and is greater than any.
-fn covers(span: u32, p: u32) -> bool
+fn covers(span: u32, p: Position) -> bool
     requires { ⌜ span / radix ≤ span % radix ⌝ }
-    ensures { λ r. ⌜ r ≡ covers (strOf span 0) p ⌝ }
+    ensures { λ r. ⌜ r ≡ covers (strOf span 0) (p .0) ⌝ }
 {
-    let start = start_of(span);
-    let most = end_of(span) - start;
-    std::num::wrapping_sub_u32(p, start) <= most
+    let start = start_of(span).0;
+    let most = end_of(span).0 - start;
+    std::num::wrapping_sub_u32(p.0, start) <= most
 }
 
 // Do the strings cover a position?
-fn is_covered(strs: &[u32], p: u32) -> bool
+fn is_covered(strs: &[u32], p: Position) -> bool
     requires { ⌜ AllStrs Fine (strsAt (now strs)) ⌝ }
-    ensures { λ r. ⌜ r ≡ covered (strsAt (now (strs .entry))) p ⌝ }
+    ensures { λ r. ⌜ r ≡ covered (strsAt (now (strs .entry))) (p .0) ⌝ }
 {
     let mut i = 0;
     while i + 1 < strs.len() {
@@ -62,9 +63,9 @@ fn is_covered(strs: &[u32], p: u32) -> bool
 }
 
 // Do the strings cover both positions?
-fn cover_both(strs: &[u32], p: u32, q: u32) -> bool
+fn cover_both(strs: &[u32], p: Position, q: Position) -> bool
     requires { ⌜ AllStrs Fine (strsAt (now strs)) ⌝ }
-    ensures { λ r. ⌜ r ≡ coverBoth p q (strsAt (now (strs .entry))) ⌝ }
+    ensures { λ r. ⌜ r ≡ coverBoth (p .0) (q .0) (strsAt (now (strs .entry))) ⌝ }
 {
     if !is_covered(strs, p) {
         return false;
@@ -74,10 +75,10 @@ fn cover_both(strs: &[u32], p: u32, q: u32) -> bool
 
 // Skips the matches of R from the one at `from` on that have this header and whose includes don't cover both positions; gives the place of the first other
 // match, or the end. Equal headers mean equal lengths, so the place of the next match is known before its header is read.
-fn skip_alike(mem: &[u32], from: usize, end: usize, header: u32, p: u32, q: u32) -> usize
+fn skip_alike(mem: &[u32], from: usize, end: usize, header: u32, p: Position, q: Position) -> usize
     requires { ⌜ RestAt (now mem) from end ⌝ }
     ensures { λ r. ⌜ from ≤ r ⌝ }
-    ensures { λ r. ⌜ ((w : RestAt (now (mem .entry)) from end) → Passing (coverBoth p q) (w .todo) (now (mem .entry)) r end) ⌝ }
+    ensures { λ r. ⌜ ((w : RestAt (now (mem .entry)) from end) → Passing (coverBoth (p .0) (q .0)) (w .todo) (now (mem .entry)) r end) ⌝ }
 {
     let size = 2 * store::includes_in(header);
     let length = store::match_length(header);
@@ -97,10 +98,10 @@ fn skip_alike(mem: &[u32], from: usize, end: usize, header: u32, p: u32, q: u32)
 }
 
 // The first match of R, from the one at `from` on, whose includes cover both positions: where it lies, or the end.
-pub fn next_covering(mem: &[u32], from: usize, end: usize, p: u32, q: u32) -> usize
+pub fn next_covering(mem: &[u32], from: usize, end: usize, p: Position, q: Position) -> usize
     requires { ⌜ RestAt (now mem) from end ⌝ }
     ensures { λ r. ⌜ from ≤ r ⌝ }
-    ensures { λ r. ⌜ ((w : RestAt (now (mem .entry)) from end) → Rest (fromFirst (coverBoth p q) (w .todo)) (now (mem .entry)) r end) ⌝ }
+    ensures { λ r. ⌜ ((w : RestAt (now (mem .entry)) from end) → Rest (fromFirst (coverBoth (p .0) (q .0)) (w .todo)) (now (mem .entry)) r end) ⌝ }
 {
     let mut at = from;
     while at < end {

@@ -6,7 +6,7 @@ use native.Mathlib.Numerals.{towards-suc}
 use native.Mathlib.Omega.{arith}
 use mathlib.Core.Bool.{Bool, true, false, not}
 use mathlib.Core.List.{List, [], _∷_}
-use mathlib.Core.Path.{_≡_, refl, ap, ap₂, sym, _∙_}
+use mathlib.Core.Path.{_≡_, refl, ap, sym, _∙_}
 use lib.ListN.{length, take, drop, getD, length-drop}
 use lib.Seq.{drop-cons, take-all}
 use Rattle.model.specs.AllStrings.{AllStrs, Every}
@@ -53,18 +53,6 @@ end-strsAt [] = tt
 end-strsAt (x ∷ []) = tt
 end-strsAt (x ∷ y ∷ r) = (omega arith, end-strsAt r)
 
--- a part that holds strings has the first one at its start
-module _ (l : List ℕ) {s : Str} {ss : List Str} (e : strsAt l ≡ s ∷ ss) where
-  pub some-string : length l ≤ 1 → ⊥
-  some-string h = let none : [] ≡ s ∷ ss = sym (strsAt-short l h) ∙ e in let z : _≡_ {A = ℕ} 0 1 = cc in omega arith
-
-  pub first-string : {A : Type 0} (g : Str → List Str → A) → 1 < length l → g (strAt l 0) (strsAt (drop 2 l)) ≡ g s ss
-  first-string g h =
-      let z : strAt l 0 ∷ strsAt (drop 2 l) ≡ s ∷ ss = sym (strsAt-cons l 0 h) ∙ e in
-      let z₁ : strAt l 0 ≡ s = cc in
-      let z₂ : strsAt (drop 2 l) ≡ ss = cc in
-      ap₂ g z₁ z₂
-
 pub length-strsAt : (l : List ℕ) → length (strsAt l) ≡ length l / 2
 unfolding strsAt
 length-strsAt [] = refl
@@ -99,7 +87,7 @@ drop-whole l i = take-all (length l - i) (drop i l) (simp length-drop (omega ari
 
 -- ---- loops that decide
 
--- D says b of strings of which one has a test that gives b, and else the contrary; the test is of a string and those behind it
+-- D says b of strings of which one has a test that gives b, and else the contrary; the test is of a string and those after it
 pub record Decides (b : Bool) (test : Str → List Str → Bool) (D : List Str → Bool) : Type 0 where
   pub never : not b ≡ D []
   pub here : (s : Str) (ss : List Str) → test s ss ≡ b → b ≡ D (s ∷ ss)

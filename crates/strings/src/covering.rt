@@ -10,13 +10,13 @@ ghost use Rattle.strings.specs.Strings.{strOf, strsAt};
 ghost use Rattle.strings.specs.Covering.{advanced, chosen, isChosen, passed, RunEnd};
 
 // Does a string of this span cover a position?
-pub fn covers(span: u32, p: u32) -> bool
-    ensures { λ r. ⌜ r ≡ covers (strOf span 0) p ⌝ }
+pub fn covers(span: u32, p: Position) -> bool
+    ensures { λ r. ⌜ r ≡ covers (strOf span 0) (p .0) ⌝ }
 {
-    if p < start_of(span) {
+    if p.0 < start_of(span).0 {
         return false;
     }
-    p <= end_of(span)
+    p.0 <= end_of(span).0
 }
 
 // "some include covers position"
@@ -25,7 +25,7 @@ pub fn covered(strs: &[u32], p: Position) -> bool
 {
     let mut i = 0;
     while i + 1 < strs.len() {
-        if covers(strs[i], p.0) {
+        if covers(strs[i], p) {
             return true;
         }
         i += 2;
@@ -43,9 +43,9 @@ fn is_chosen(tag: u32, only_contiguous: bool) -> bool
     is_contiguous(tag)
 }
 
-// A position, moved behind a chosen string that covers it.
-fn passed(span: u32, tag: u32, p: u32, only_contiguous: bool) -> u32
-    ensures { λ r. ⌜ r ≡ passed «only_contiguous» p (strOf span tag) ⌝ }
+// A position, moved to the one after a chosen string that covers it.
+fn passed(span: u32, tag: u32, p: Position, only_contiguous: bool) -> Position
+    ensures { λ r. ⌜ r .0 ≡ passed «only_contiguous» (p .0) (strOf span tag) ⌝ }
 {
     if !is_chosen(tag, only_contiguous) {
         return p;
@@ -53,12 +53,12 @@ fn passed(span: u32, tag: u32, p: u32, only_contiguous: bool) -> u32
     if !covers(span, p) {
         return p;
     }
-    end_of(span) + 1
+    Position(end_of(span).0 + 1)
 }
 
-// A position, moved behind each chosen string in turn that covers it.
-pub fn advance(strs: &[u32], p: u32, only_contiguous: bool) -> u32
-    ensures { λ r. ⌜ r ≡ advanced p (chosen «only_contiguous» (strsAt (now (strs .entry)))) ⌝ }
+// A position, moved past each chosen string in turn that covers it.
+pub fn advance(strs: &[u32], p: Position, only_contiguous: bool) -> Position
+    ensures { λ r. ⌜ r .0 ≡ advanced (p .0) (chosen «only_contiguous» (strsAt (now (strs .entry)))) ⌝ }
 {
     let mut at = p;
     let mut i = 0;
@@ -69,14 +69,14 @@ pub fn advance(strs: &[u32], p: u32, only_contiguous: bool) -> u32
     at
 }
 
-// Where a run of positions stops being covered: at the first that no chosen string covers, or behind its last.
-pub fn run_end(strs: &[u32], from: u32, to: u32, only_contiguous: bool) -> u32
-    ensures { λ r. ⌜ RunEnd (chosen «only_contiguous» (strsAt (now (strs .entry)))) from to r ⌝ }
+// Where a run of positions stops being covered: at the first that no chosen string covers, or after its last.
+pub fn run_end(strs: &[u32], from: Position, to: Position, only_contiguous: bool) -> Position
+    ensures { λ r. ⌜ RunEnd (chosen «only_contiguous» (strsAt (now (strs .entry)))) (from .0) (to .0) (r .0) ⌝ }
 {
     let mut p = from;
-    while p <= to {
+    while p.0 <= to.0 {
         let next = advance(strs, p, only_contiguous);
-        if next == p {
+        if next.0 == p.0 {
             return p;
         }
         p = next;
@@ -85,8 +85,8 @@ pub fn run_end(strs: &[u32], from: u32, to: u32, only_contiguous: bool) -> u32
 }
 
 // "every position in it is covered"; with `only_contiguous`, "by some contiguous include"
-pub fn run_covered(strs: &[u32], from: u32, to: u32, only_contiguous: bool) -> bool
-    ensures { λ r. ⌜ r ≡ allOf (covered (chosen «only_contiguous» (strsAt (now (strs .entry))))) (fromTo from to) ⌝ }
+pub fn run_covered(strs: &[u32], from: Position, to: Position, only_contiguous: bool) -> bool
+    ensures { λ r. ⌜ r ≡ allOf (covered (chosen «only_contiguous» (strsAt (now (strs .entry))))) (fromTo (from .0) (to .0)) ⌝ }
 {
-    to < run_end(strs, from, to, only_contiguous)
+    to.0 < run_end(strs, from, to, only_contiguous).0
 }

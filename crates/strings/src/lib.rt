@@ -1,8 +1,8 @@
 // Strings in lent memory: each is two numbers, its span (start × 65,536 + end) and its tag (query position × 4, plus 2 if contiguous, plus 1 if an
-// exclude), as in document 01's listing. A part `&[u32]` holds strings one behind the other; the functions here read such parts, whatever they hold.
+// exclude), as in document 01's listing. A part `&[u32]` holds strings one after the other; the functions here read such parts, whatever they hold.
 pub mod covering;
-pub mod numbers;
 pub mod ordering;
+pub mod positions;
 pub mod spans;
 
 pub use spans::end_of;

@@ -14,7 +14,7 @@ ghost use Rattle.strings.specs.Strings.{strOf, strsAt};
 fn neither_falls(span: u32, tag: u32, other_span: u32, other_tag: u32) -> bool
     ensures { λ r. ⌜ r ≡ (leb (span / radix) («other_span» / radix) && leb (tag / 4) («other_tag» / 4)) ⌝ }
 {
-    if start_of(other_span) < start_of(span) {
+    if start_of(other_span).0 < start_of(span).0 {
         return false;
     }
     query_of(tag) <= query_of(other_tag)

@@ -1,4 +1,5 @@
 // The two numbers of a string, taken apart and put together.
+use model::Position;
 use model::RADIX;
 ghost use mathlib.Core.Path.{_≡_};
 ghost use mathlib.Core.Bool.{cond};
@@ -7,25 +8,25 @@ ghost use lib.Dec.{eqb};
 ghost use Rattle.model.specs.Limits.{radix};
 
 // The start of a span.
-pub fn start_of(span: u32) -> u32
-    ensures { λ r. ⌜ r ≡ span / radix ⌝ }
+pub fn start_of(span: u32) -> Position
+    ensures { λ r. ⌜ r .0 ≡ span / radix ⌝ }
 {
-    span / RADIX
+    Position(span / RADIX)
 }
 
 // The end of a span.
-pub fn end_of(span: u32) -> u32
-    ensures { λ r. ⌜ r ≡ span % radix ⌝ }
+pub fn end_of(span: u32) -> Position
+    ensures { λ r. ⌜ r .0 ≡ span % radix ⌝ }
 {
-    span % RADIX
+    Position(span % RADIX)
 }
 
 // The span of a start and an end.
-pub fn span_of(start: u32, end: u32) -> u32
-    requires { ⌜ (start < radix) × (end < radix) ⌝ }
-    ensures { λ r. ⌜ r ≡ start * radix + end ⌝ }
+pub fn span_of(start: Position, end: Position) -> u32
+    requires { ⌜ (start .0 < radix) × (end .0 < radix) ⌝ }
+    ensures { λ r. ⌜ r ≡ start .0 * radix + end .0 ⌝ }
 {
-    start * RADIX + end
+    start.0 * RADIX + end.0
 }
 
 // The query position of a tag.

@@ -36,9 +36,9 @@ fn put_span(span: u32, text: &mut [u8], at: usize) -> usize
     requires { ⌜ at + length (spanText (span / radix) (span % radix)) ≤ length (now text) ⌝ }
     ensures { λ r. ⌜ Put (now (text .entry)) (now (text .exit)) at (spanText (span / radix) (span % radix)) r ⌝ }
 {
-    let dash = put_decimal(strings::start_of(span), text, at);
+    let dash = put_decimal(strings::start_of(span).0, text, at);
     let end = put_byte(b'-', text, dash);
-    put_decimal(strings::end_of(span), text, end)
+    put_decimal(strings::end_of(span).0, text, end)
 }
 
 // "query position, c contiguous or n not"

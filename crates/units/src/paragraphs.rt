@@ -1,7 +1,6 @@
 // Paragraphs of spans, read and compared: no other number is taken for one.
 use super::ranges;
 use model::Paragraph;
-use model::Position;
 ghost use mathlib.Core.Path.{_≡_};
 ghost use Prim.Native.Nat.{_/_, _%_};
 ghost use Rattle.model.specs.Limits.{radix};
@@ -19,8 +18,8 @@ pub fn paragraphs_of(section: &[u32], span: u32) -> Paragraphs
     ensures { λ r. ⌜ r .first .0 ≡ paragraphAt (now (section .entry)) (span / radix) ⌝ }
     ensures { λ r. ⌜ r .last .0 ≡ paragraphAt (now (section .entry)) (span % radix) ⌝ }
 {
-    let first = section::paragraph_at(section, Position(strings::start_of(span)));
-    let last = section::paragraph_at(section, Position(strings::end_of(span)));
+    let first = section::paragraph_at(section, strings::start_of(span));
+    let last = section::paragraph_at(section, strings::end_of(span));
     Paragraphs { first, last }
 }
 

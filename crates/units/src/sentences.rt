@@ -1,6 +1,5 @@
 // Sentences of spans, read and compared: no other number is taken for one.
 use super::ranges;
-use model::Position;
 use model::Sentence;
 ghost use mathlib.Core.Path.{_≡_};
 ghost use Prim.Native.Nat.{_/_, _%_};
@@ -19,8 +18,8 @@ pub fn sentences_of(section: &[u32], span: u32) -> Sentences
     ensures { λ r. ⌜ r .first .0 ≡ sentenceAt (now (section .entry)) (span / radix) ⌝ }
     ensures { λ r. ⌜ r .last .0 ≡ sentenceAt (now (section .entry)) (span % radix) ⌝ }
 {
-    let first = section::sentence_at(section, Position(strings::start_of(span)));
-    let last = section::sentence_at(section, Position(strings::end_of(span)));
+    let first = section::sentence_at(section, strings::start_of(span));
+    let last = section::sentence_at(section, strings::end_of(span));
     Sentences { first, last }
 }
 

@@ -1,5 +1,5 @@
 -- The sizes of windows. A window more holds the strings inside it once more, so the strings inside all windows are, string by string, as many as there are
--- windows around it and the join. The sizes of a list only grow by what comes behind, so a list is too long where a first part of it is.
+-- windows around it and the join. The sizes of a list only grow by what comes after, so a list is too long where a first part of it is.
 use Prim.Native.Nat.{ℕ, zero, suc, _+_, _-_, _*_, _/_, _%_, _≤_, _<_, min, max}
 use native.Mathlib.Omega.{arith}
 use mathlib.Core.Path.{_≡_, refl, sym, ap, ap₂, _∙_}
@@ -8,13 +8,13 @@ use mathlib.Core.List.{List, [], _∷_, _++_, append-assoc, append-nil, flatMap,
 use borrow.Author.Tests.{leb-true, leb-false, ltb-true, ltb-false}
 use lib.Dec.{leb, ltb}
 use lib.ListN.{length, take, drop, getD, length-append, length-map}
-use Rattle.model.specs.Answers.{spanOf}
-use Rattle.model.specs.Limits.{maxMatches, maxStrings, radix}
+use Rattle.model.specs.Limits.{maxMatches, maxStrings, maxWindow, radix}
 use Rattle.model.specs.Lists.{fromTo, keep, upFrom}
 use Rattle.model.specs.Matches.{Match, Str, strings, tooLong}
 use Rattle.model.specs.Rules.{insideWindow, join, window, windowEnds, windowTo}
 use Rattle.model.proofs.ListsLaws.{length-range}
 use Rattle.model.proofs.RulesLaws.{strings-append}
+use Rattle.joining.specs.Joined.{joined}
 use Rattle.strings.specs.Strings.{strsAt}
 use Rattle.strings.proofs.StringsLaws.{Left as StringsLeft, left-next, left-none, length-strsAt}
 use Rattle.store.specs.declared.Built.{Built}
@@ -28,14 +28,7 @@ use Rattle.store.proofs.Slots.{answer-long, answer-made, built-made, not-long, 
 use Rattle.store.proofs.Walking.{Next, next, none-left}
 use Rattle.window.specs.Inside.{WindowSize}
 use Rattle.window.specs.Sizes.{SizeAt, timesInside, windowsAround}
-use Rattle.window.proofs.JoinedLaws.{ends-are, Gives, length-join-one, part, window-dropped}
-
--- ---- windowsAround
-
--- around two strings of one span
-pub around-span : (n span : ℕ) {windows : ℕ} → windows ≡ windowsAround n (min (span / radix) (span / radix)) (max (span % radix) (span % radix))
-    → windows ≡ windowsAround n (span / radix) (span % radix)
-around-span n span e = omega arith
+use Rattle.window.proofs.JoinedLaws.{ends-are, length-join-one, part, window-dropped}
 
 -- ---- timesInside
 
@@ -50,7 +43,7 @@ unfolding timesInside
 times-none n start last [] h = refl
 times-none n start last (s ∷ ss) h = omega (arith, times-none n start last ss h)
 
--- the strings inside the first window, and those inside the windows behind it
+-- the strings inside the first window, and those inside the windows after it
 times-next : (n start last : ℕ) (ss : List Str) → last < start + n
     → length (keep (insideWindow n last) ss) + timesInside n start (last + 1) ss ≡ timesInside n start last ss
 unfolding keep timesInside
@@ -66,6 +59,10 @@ times-next n start last (s ∷ ss) h = at (ltb last (s .start + n)) (leb (s .end
 
 -- ---- count_inside
 
+-- what one string adds
+pub count-more : {n start first more : ℕ} (s last : ℕ) → WindowSize n → start < radix → first ≡ min start s → more ≡ windowsAround n first last → more ≤ radix + maxWindow
+count-more s last size low f e = omega (arith, size .up-to)
+
 -- at index i of the loop: the count so far and what the strings left add to it
 pub record Counted (n start end : ℕ) (strs : List ℕ) (count i : ℕ) : Type 0 where
   pub left : StringsLeft (timesInside n start end (strsAt strs)) (λ ss. count + timesInside n start end ss) strs i
@@ -77,10 +74,11 @@ module _ {n start end count i : ℕ} {strs : List ℕ} (g : Counted n start end 
   pub count-most : windowsAround n start end ≤ maxMatches → length strs ≤ 2 * maxStrings → count ≤ maxMatches * maxStrings
   count-most h k = omega (arith, g .left .same, times-most n start end (strsAt strs) h, length-strsAt strs)
 
-  pub count-next : i + 1 < length strs → {more : ℕ} → more ≡ windowsAround n (min start (getD strs i 0 / radix)) (max end (getD strs i 0 % radix))
-      → Counted n start end strs (count + more) (i + 2)
+  -- the string in hand, from s to t, is taken in with the join
+  pub count-next : i + 1 < length strs → {s t first last more : ℕ} → s ≡ getD strs i 0 / radix → t ≡ getD strs i 0 % radix
+      → first ≡ min start s → last ≡ max end t → more ≡ windowsAround n first last → Counted n start end strs (count + more) (i + 2)
   unfolding timesInside
-  count-next h {more} e = record { left = left-next (g .left) h (λ ss. count + more + timesInside n start end ss) (omega arith) }
+  count-next h {more = more} a b c d e = record { left = left-next (g .left) h (λ ss. count + more + timesInside n start end ss) (omega arith) }
 
   pub count-end : length strs ≤ i + 1 → count ≡ timesInside n start end (strsAt strs)
   unfolding timesInside
@@ -96,20 +94,20 @@ strings-from n start m j zero last e = omega (arith, times-none n start last (m 
 strings-from n start m j (suc k) last e =
     omega (arith, times-next n start last (m .excludes) (omega arith), strings-from n start m j k (last + 1) (omega arith))
 
--- their sizes, by the span of the join
-module _ {n : ℕ} (span : ℕ) (m : Match) (size : WindowSize n) (ends : windowEnds n (m .includes) ≡ fromTo (span % radix) (span / radix + n - 1))
+-- their sizes, by the start and the end of the join
+module _ {n : ℕ} (start end : ℕ) (m : Match) (size : WindowSize n) (ends : windowEnds n (m .includes) ≡ fromTo end (start + n - 1))
     (j : length (join (m .includes)) ≡ 1) where
-  length-windows : length (window n m) ≡ windowsAround n (span / radix) (span % radix)
+  length-windows : length (window n m) ≡ windowsAround n start end
   unfolding window
   length-windows =
-      omega (arith, length-map (windowEnds n (m .includes)) (windowTo n m), ap length ends, length-range (span % radix) (span / radix + n - 1), size .from-one)
+      omega (arith, length-map (windowEnds n (m .includes)) (windowTo n m), ap length ends, length-range end (start + n - 1), size .from-one)
 
-  strings-windows : strings (window n m) ≡ windowsAround n (span / radix) (span % radix) + timesInside n (span / radix) (span % radix) (m .excludes)
+  strings-windows : strings (window n m) ≡ windowsAround n start end + timesInside n start end (m .excludes)
   unfolding window fromTo
   strings-windows =
-      let k : ℕ = windowsAround n (span / radix) (span % radix) in
-      let many : span / radix + n - 1 + 1 - span % radix ≡ k = omega (arith, size .from-one) in
-      ap (λ lasts. strings (map (windowTo n m) lasts)) (ends ∙ ap (upFrom (span % radix)) many) ∙ strings-from n (span / radix) m j k (span % radix) refl
+      let k : ℕ = windowsAround n start end in
+      let many : start + n - 1 + 1 - end ≡ k = omega (arith, size .from-one) in
+      ap (λ lasts. strings (map (windowTo n m) lasts)) (ends ∙ ap (upFrom end) many) ∙ strings-from n start m j k end refl
 
 -- ---- size_with
 
@@ -122,24 +120,23 @@ module _ {n : ℕ} {mem : List ℕ} {p matches strs : ℕ} (w : SizeAt n mem p m
       let same : longer ≡ w .list = ap (λ ms. w .list ++ ms) (window-dropped (w .held) e n z) ∙ append-nil (w .list) in
       built-made (w .list) (w .matches-are) (w .strings-are) (omega (arith, w .matches-are, w .strings-are, w .few-matches, w .few-strings)) ∙ ap builtOf (sym same)
 
-  -- what the span of the join and the excludes tell of the windows is so
-  pub size-counted : (some : i ≡ 0 → ⊥) {span : ℕ} → Gives spanOf (strsAt (part (w .held) e some)) span → {x : ℕ} → x ≡ excludesIn (getD mem p 0)
-      → {built : Built}
-      → built ≡ sizedAs (matches + windowsAround n (span / radix) (span % radix))
-      (strs + (windowsAround n (span / radix) (span % radix)
-      + timesInside n (span / radix) (span % radix) (strsAt (take (p + 1 + 2 * i + 2 * x - (p + 1 + 2 * i)) (drop (p + 1 + 2 * i) mem)))))
+  -- what the join and the excludes tell of the windows is so
+  pub size-counted : (some : i ≡ 0 → ⊥) {start end : ℕ} → start ≡ joined (strsAt (part (w .held) e some)) .start → end ≡ joined (strsAt (part (w .held) e some)) .end
+      → {x : ℕ} → x ≡ excludesIn (getD mem p 0) → {built : Built}
+      → built ≡ sizedAs (matches + windowsAround n start end)
+      (strs + (windowsAround n start end + timesInside n start end (strsAt (take (p + 1 + 2 * i + 2 * x - (p + 1 + 2 * i)) (drop (p + 1 + 2 * i) mem)))))
       → built ≡ builtOf (w .list ++ window n (w .item))
-  size-counted some {span} spans {x} f b =
+  size-counted some {start} {end} from to {x} f b =
       let m = w .item in
       let held = w .held in
-      let ends = ends-are held e some spans n in
+      let ends = ends-are held e some n from to in
       let one = length-join-one held e some in
-      let windows : ℕ = windowsAround n (span / radix) (span % radix) in
-      let times : List Str → ℕ = timesInside n (span / radix) (span % radix) in
+      let windows : ℕ = windowsAround n start end in
+      let times : List Str → ℕ = timesInside n start end in
       let matches-now : matches + windows ≡ length longer =
-      omega (arith, length-append (w .list) (window n m), w .matches-are, length-windows span m (w .size) ends one) in
+      omega (arith, length-append (w .list) (window n m), w .matches-are, length-windows start end m (w .size) ends one) in
       let strings-now : strs + (windows + times (m .excludes)) ≡ strings longer =
-      omega (arith, strings-append (w .list) (window n m), w .strings-are, strings-windows span m (w .size) ends one) in
+      omega (arith, strings-append (w .list) (window n m), w .strings-are, strings-windows start end m (w .size) ends one) in
       let read = excludes-read held (p + 1 + 2 * i) (p + 1 + 2 * i + 2 * x) (omega arith) (omega arith) in
       b ∙ ap₂ sizedAs matches-now (ap (λ ss. strs + (windows + times ss)) read ∙ strings-now)
 

@@ -1,5 +1,5 @@
 -- The windows of a match, written one by one: each is its header, the join and the excludes inside it, and has one string more than those excludes.
-use Prim.Native.Nat.{ℕ, suc, _+_, _-_, _*_, _/_, _%_, _≤_, _<_, min, max}
+use Prim.Native.Nat.{ℕ, suc, _+_, _-_, _*_, _/_, _%_, _≤_, _<_}
 use native.Mathlib.Omega.{arith}
 use mathlib.Core.Path.{_≡_, refl, sym, ap, ap₂, _∙_, subst}
 use mathlib.Core.List.{List, [], _∷_, _++_, flatMap, map}
@@ -10,6 +10,7 @@ use Rattle.model.specs.Lists.{keep, fromTo}
 use Rattle.model.specs.Matches.{Match, Str}
 use Rattle.model.specs.Rules.{insideWindow, join, window, windowEnds, windowTo}
 use Rattle.model.proofs.ListsLaws.{length-keep, range-cons, range-empty}
+use Rattle.joining.specs.Joined.{joined}
 use Rattle.strings.specs.Strings.{strsAt, strsOf}
 use Rattle.store.specs.Each.{OneAt}
 use Rattle.store.specs.Layout.{excludesIn, headerOf, includesIn, matchNumbers, matchesNumbers}
@@ -22,8 +23,7 @@ use Rattle.store.proofs.Rows.{Rows, rows-start, rows-room, rows-step, rows-fini
 use Rattle.window.specs.Inside.{ExcludesAt, WindowSize}
 use Rattle.window.specs.Sizes.{windowsAround}
 use Rattle.window.specs.Windows.{Source, WindowAt, WindowsAt}
-use Rattle.window.proofs.JoinedLaws.{ends-are, Gives, joins-are, part, window-dropped}
-use Rattle.window.proofs.SizesLaws.{around-span}
+use Rattle.window.proofs.JoinedLaws.{ends-by-span, joins-are, part, window-dropped}
 
 -- ---- windowTo
 
@@ -143,16 +143,16 @@ module _ (n : ℕ) {mem : List ℕ} {p q : ℕ} (w : OneAt (window n) mem p q) {
   pub dropped : i ≡ 0 → Put mem mem q (matchesNumbers (window n (w .item))) q
   dropped z = none-put (window-dropped (w .one .held) e n z)
 
-  module _ (size : WindowSize n) (some : i ≡ 0 → ⊥) {span : ℕ} (spans : Gives spanOf (strsAt (part (w .one .held) e some)) span) where
+  module _ (size : WindowSize n) (some : i ≡ 0 → ⊥) {span : ℕ} (s : span ≡ spanOf (joined (strsAt (part (w .one .held) e some)))) where
     -- a join that is wider than the windows
-    pub too-wide : {windows : ℕ} → windows ≡ windowsAround n (min (span / radix) (span / radix)) (max (span % radix) (span % radix)) → windows ≡ 0
+    pub too-wide : {start end windows : ℕ} → start ≡ span / radix → end ≡ span % radix → windows ≡ windowsAround n start end → windows ≡ 0
         → Put mem mem q (matchesNumbers (window n (w .item))) q
     unfolding window
-    too-wide f z =
-        let none = range-empty (span % radix) (span / radix + n - 1) (omega (arith, around-span n span f, size .from-one)) in
-        none-put (ap (map (windowTo n (w .item))) (ends-are (w .one .held) e some spans n ∙ none))
+    too-wide a b f z =
+        let none = range-empty (span % radix) (span / radix + n - 1) (omega (arith, size .from-one)) in
+        none-put (ap (map (windowTo n (w .item))) (ends-by-span (w .one .held) e some s n ∙ none))
 
-    module _ {tag x : ℕ} (tags : Gives (tagOf 0) (strsAt (part (w .one .held) e some)) tag) (f : x ≡ excludesIn (getD mem p 0)) where
+    module _ {tag x : ℕ} (t : tag ≡ tagOf 0 (joined (strsAt (part (w .one .held) e some)))) (f : x ≡ excludesIn (getD mem p 0)) where
       pub windows-at : WindowsAt n mem (p + 1 + 2 * i) (p + 1 + 2 * i + 2 * x) q span tag
       windows-at =
           let held = w .one .held in
@@ -165,9 +165,9 @@ module _ (n : ℕ) {mem : List ℕ} {p q : ℕ} (w : OneAt (window n) mem p q) {
               few = omega (arith, held .few);
               end-is = omega (arith, excludes-held held);
               below = omega (arith, w .one .below);
-              joins = joins-are held e some spans tags;
+              joins = joins-are held e some s t;
             };
-            ends = ends-are held e some spans n;
+            ends = ends-by-span held e some s n;
             room = w .one .room;
           }
 

@@ -14,13 +14,13 @@ fn is_inside(n: u32, last: Position, span: u32) -> bool
     requires { ⌜ WindowSize n ⌝ }
     ensures { λ r. ⌜ r ≡ insideWindow n (last .0) (strOf span 0) ⌝ }
 {
-    if strings::start_of(span) + n <= last.0 {
+    if strings::start_of(span).0 + n <= last.0 {
         return false;
     }
-    strings::end_of(span) <= last.0
+    strings::end_of(span).0 <= last.0
 }
 
-// Puts the string at i to q if it lies inside the window; gives the place behind it.
+// Puts the string at i to q if it lies inside the window; gives the place after it.
 fn put_if_inside(mem: &mut [u32], n: u32, last: Position, i: usize, q: usize) -> usize
     requires { ⌜ StringAt n (last .0) (now mem) i q ⌝ }
     ensures { λ r. ⌜ Put (now (mem .entry)) (now (mem .exit)) q (insideNumbers n (last .0) (getD (now (mem .entry)) i 0) (getD (now (mem .entry)) (i + 1) 0)) r ⌝ }
@@ -35,7 +35,7 @@ fn put_if_inside(mem: &mut [u32], n: u32, last: Position, i: usize, q: usize) ->
     q + 2
 }
 
-// Puts those strings from a to e that lie inside the window, from q on; gives the place behind them.
+// Puts those strings from a to e that lie inside the window, from q on; gives the place after them.
 pub fn put_inside(mem: &mut [u32], n: u32, last: Position, a: usize, e: usize, q: usize) -> usize
     requires { ⌜ ExcludesAt n (last .0) (now mem) a e q ⌝ }
     ensures { λ r.

@@ -20,7 +20,7 @@ ghost use Rattle.store.specs.Slot.{SlotAt};
 ghost use Rattle.window.specs.Inside.{WindowSize};
 ghost use Rattle.window.specs.Windows.{WindowAt, WindowsAt};
 
-// "one match: the join, and the excludes inside W to W + N − 1", of the excludes from x to e, put to q; like the functions below it gives the place behind.
+// "one match: the join, and the excludes inside W to W + N − 1", of the excludes from x to e, put to q; like the functions below it gives the place after.
 fn put_window(
     mem: &mut [u32],
     n: u32,
@@ -51,12 +51,12 @@ fn put_each(mem: &mut [u32], n: u32, x: usize, e: usize, q: usize, span: u32, ta
         ⌜ ((w : WindowsAt n (now (mem .entry)) x e q span tag)
         → Put (now (mem .entry)) (now (mem .exit)) q (matchesNumbers (window n (w .item))) r) ⌝ }
 {
-    let end = strings::start_of(span) + n;
+    let end = strings::start_of(span).0 + n;
     let mut last = strings::end_of(span);
     let mut next = q;
-    while last < end {
-        next = put_window(mem, n, Position(last), x, e, next, span, tag);
-        last += 1;
+    while last.0 < end {
+        next = put_window(mem, n, last, x, e, next, span, tag);
+        last = Position(last.0 + 1);
     }
     next
 }
@@ -78,7 +78,7 @@ fn put_windows(mem: &mut [u32], n: u32, p: usize, q: usize) -> usize
     let x = a + 2 * includes;
     let span = join_span(&mem[a..x]);
     // the join is wider than a window
-    if sizes::count_around(n, span, span) == 0 {
+    if sizes::count_around(n, strings::start_of(span), strings::end_of(span)) == 0 {
         return q;
     }
     let tag = join_tag(&mem[a..x]);

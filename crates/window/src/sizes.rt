@@ -1,12 +1,16 @@
 // How many matches and strings the windows of a list have, counted before any is written.
-use joining::join_span;
+use joining::greatest_end;
+use joining::least_start;
 use model::MAX_MATCHES;
+use model::Position;
 use store::Built;
-use strings::numbers::greater;
-use strings::numbers::lesser;
+use strings::end_of;
+use strings::positions::earlier;
+use strings::positions::later;
+use strings::start_of;
 ghost use mathlib.Core.List.{flatMap, _++_};
 ghost use mathlib.Core.Path.{_≡_};
-ghost use Prim.Native.Nat.{_+_, _*_, _/_, _%_, _≤_, min, max};
+ghost use Prim.Native.Nat.{_+_, _*_, _≤_, _<_};
 ghost use lib.ListN.{length};
 ghost use Rattle.model.specs.Limits.{maxMatches, maxStrings, radix};
 ghost use Rattle.model.specs.Rules.{window};
@@ -16,51 +20,63 @@ ghost use Rattle.store.specs.Slot.{SlotAt};
 ghost use Rattle.window.specs.Inside.{WindowSize};
 ghost use Rattle.window.specs.Sizes.{SizeAt, timesInside, windowsAround};
 
-// How many windows there are around two strings of these spans: "each W from (greatest end − N + 1) up to least start".
-pub fn count_around(n: u32, a: u32, b: u32) -> u32
+// How many windows of n positions there are around those from `start` to `end`: "each W from (greatest end − N + 1) up to least start".
+pub fn count_around(n: u32, start: Position, end: Position) -> u32
     requires { ⌜ WindowSize n ⌝ }
-    ensures { λ r. ⌜ r ≡ windowsAround n (min (a / radix) (b / radix)) (max (a % radix) (b % radix)) ⌝ }
+    requires { ⌜ start .0 < radix ⌝ }
+    ensures { λ r. ⌜ r ≡ windowsAround n (start .0) (end .0) ⌝ }
 {
-    let before = lesser(strings::start_of(a), strings::start_of(b)) + n;
-    let end = greater(strings::end_of(a), strings::end_of(b));
-    if before <= end {
+    let before = start.0 + n;
+    if before <= end.0 {
         return 0;
     }
-    before - end
+    before - end.0
 }
 
-// How often strings of a part lie inside the windows around a join of this span, summed over the windows: each as often as there are windows around it and
-// the join.
-fn count_inside(n: u32, span: u32, strs: &[u32]) -> u32
+// How often strings of a part lie inside the windows around a join from `start` to `end`, summed over the windows: each as often as there are windows around
+// it and the join.
+fn count_inside(n: u32, start: Position, end: Position, strs: &[u32]) -> u32
     requires { ⌜ WindowSize n ⌝ }
-    requires { ⌜ windowsAround n (span / radix) (span % radix) ≤ maxMatches ⌝ }
+    requires { ⌜ start .0 < radix ⌝ }
+    requires { ⌜ windowsAround n (start .0) (end .0) ≤ maxMatches ⌝ }
     requires { ⌜ length (now strs) ≤ 2 * maxStrings ⌝ }
-    ensures { λ r. ⌜ r ≡ timesInside n (span / radix) (span % radix) (strsAt (now (strs .entry))) ⌝ }
+    ensures { λ r. ⌜ r ≡ timesInside n (start .0) (end .0) (strsAt (now (strs .entry))) ⌝ }
     ensures { λ r. ⌜ r ≤ maxMatches * maxStrings ⌝ }
 {
     let mut count = 0;
     let mut i = 0;
     while i + 1 < strs.len() {
-        count += count_around(n, span, strs[i]);
+        let first = earlier(start, start_of(strs[i]));
+        let last = later(end, end_of(strs[i]));
+        count += count_around(n, first, last);
         i += 2;
     }
     count
 }
 
-// The sizes of a list of so many matches and strings after the windows around a join of this span, with these excludes, are added, or that it is too long.
-fn size_around(n: u32, span: u32, excludes: &[u32], matches: u32, strings: u32) -> Built
+// The sizes of a list of so many matches and strings after the windows around a join from `start` to `end`, with these excludes, are added, or that it is too
+// long.
+fn size_around(
+    n: u32,
+    start: Position,
+    end: Position,
+    excludes: &[u32],
+    matches: u32,
+    strings: u32,
+) -> Built
     requires { ⌜ WindowSize n ⌝ }
+    requires { ⌜ start .0 < radix ⌝ }
     requires { ⌜ (matches ≤ maxMatches) × (strings ≤ maxStrings) ⌝ }
     requires { ⌜ length (now excludes) ≤ 2 * maxStrings ⌝ }
     ensures { λ r.
-        ⌜ r ≡ sizedAs (matches + windowsAround n (span / radix) (span % radix))
-        (strings + (windowsAround n (span / radix) (span % radix) + timesInside n (span / radix) (span % radix) (strsAt (now (excludes .entry))))) ⌝ }
+        ⌜ r ≡ sizedAs (matches + windowsAround n (start .0) (end .0))
+        (strings + (windowsAround n (start .0) (end .0) + timesInside n (start .0) (end .0) (strsAt (now (excludes .entry))))) ⌝ }
 {
-    let windows = count_around(n, span, span);
+    let windows = count_around(n, start, end);
     if MAX_MATCHES < matches + windows {
         return Built::TooLong;
     }
-    let more = windows + count_inside(n, span, excludes);
+    let more = windows + count_inside(n, start, end, excludes);
     store::sized(matches + windows, strings + more)
 }
 
@@ -77,8 +93,9 @@ fn size_with(mem: &[u32], n: u32, p: usize, matches: u32, strings: u32) -> Built
     let a = p + 1;
     let x = a + 2 * includes;
     let e = x + 2 * store::excludes_in(header);
-    let span = join_span(&mem[a..x]);
-    size_around(n, span, &mem[x..e], matches, strings)
+    let start = least_start(&mem[a..x]);
+    let end = greatest_end(&mem[a..x]);
+    size_around(n, start, end, &mem[x..e], matches, strings)
 }
 
 // The sizes of the windows of the list in the slot at src, or that it is too long.

@@ -6,17 +6,17 @@ use native.Mathlib.Omega.{arith}
 use Rattle.candidates.proofs.all_of.Statement.{statement}
 use Rattle.candidates.proofs.all_of.Tie as tie
 
-add-t5 : tie.Need-add-t5
-add-t5 c = search needs
+add-t7 : tie.Need-add-t7
+add-t7 c = search needs
 
 slot-length-requires : tie.Need-slot-length-requires
 slot-length-requires c κs = search needs
 
-add-t7 : tie.Need-add-t7
-add-t7 c = search needs
+add-t9 : tie.Need-add-t9
+add-t9 c = search needs
 
 returns : tie.Need-returns
 returns c w = candidates-all (w .slot) refl (omega (arith, c .slot-length .ensures))
 
 pub all-of-spec : {M : Type 1} → statement M
-all-of-spec = tie.close (tie.spec add-t5 slot-length-requires add-t7 returns)
+all-of-spec = tie.close (tie.spec add-t7 slot-length-requires add-t9 returns)

@@ -1,5 +1,5 @@
 -- The tests of the definition, in its order.
-use borrow.Author.Needs.{needs}
+use native.Mathlib.Omega.{arith}
 use borrow.Author.Tests.{le-leb, lt-leb}
 use Rattle.distances.proofs.nearer.Statement.{statement}
 use Rattle.distances.proofs.nearer.Tie as tie
@@ -10,11 +10,11 @@ returns c = rw (le-leb _ _ (c .if1 .taken))
 returns-2 : tie.Need-returns-2
 returns-2 c = rw (lt-leb _ _ (c .before .if1 .left), le-leb _ _ (c .if2 .taken))
 
-lesser-requires : tie.Need-lesser-requires
-lesser-requires c κs = search needs
-
 returns-3 : tie.Need-returns-3
-returns-3 c = rw (lt-leb _ _ (c .before .before .if1 .left), lt-leb _ _ (c .before .if2 .left)) (c .lesser .ensures)
+returns-3 c = let s = c .before in rw (lt-leb _ _ (s .before .if1 .left), lt-leb _ _ (s .if2 .left)) (omega (arith, c .if3 .taken))
+
+returns-4 : tie.Need-returns-4
+returns-4 c = let s = c .before in rw (lt-leb _ _ (s .before .if1 .left), lt-leb _ _ (s .if2 .left)) (omega (arith, c .if3 .left))
 
 pub nearer-spec : {M : Type 1} → statement M
-nearer-spec = tie.close (tie.spec returns returns-2 lesser-requires returns-3)
+nearer-spec = tie.close (tie.spec returns returns-2 returns-3 returns-4)

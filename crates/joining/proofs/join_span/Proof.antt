@@ -1,8 +1,11 @@
 -- The span of the two numbers that the join's definition names.
-use mathlib.Core.List.{[], _∷_}
-use mathlib.Core.Path.{ap, sym, _∙_}
+use Prim.Native.Nat.{_+_, _*_, _<_, _^_}
+use native.Mathlib.Omega.{arith}
+use mathlib.Core.Path.{ap₂, _∙_}
 use borrow.Author.Needs.{needs}
-use Rattle.joining.proofs.JoiningLaws.{spanOf-join}
+use lib.ListN.{getD}
+use Rattle.model.specs.Limits.{radix}
+use Rattle.joining.proofs.JoiningLaws.{start-bound, end-bound}
 use Rattle.joining.proofs.join_span.Statement.{statement}
 use Rattle.joining.proofs.join_span.Tie as tie
 
@@ -13,13 +16,14 @@ greatest-end-requires : tie.Need-greatest-end-requires
 greatest-end-requires c κs = search needs
 
 span-of-requires : tie.Need-span-of-requires
-span-of-requires c κs = search needs
+span-of-requires c κs =
+    let k = c .before .before in
+    let l = k .before .args .strs .now in
+    let first : getD l 0 0 < 2 ^ 32 = omega (arith, k .shared-slice-known .given 0) in
+    (rw (c .before .least-start .ensures) (start-bound l first), rw (c .greatest-end .ensures) (end-bound l))
 
 returns : tie.Need-returns
-returns c s ss e =
-    let from = c .before .before .least-start .ensures .0 s ss e in
-    let to = c .before .greatest-end .ensures .0 s ss e in
-    spanOf-join s ss _ _ from to ∙ ap (λ r. r ∷ []) (sym (c .span-of .ensures))
+returns c = c .span-of .ensures ∙ ap₂ (λ a b. a * radix + b) (c .before .before .least-start .ensures) (c .before .greatest-end .ensures)
 
 pub join-span-spec : {M : Type 1} → statement M
 join-span-spec =

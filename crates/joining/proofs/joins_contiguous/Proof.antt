@@ -2,7 +2,7 @@
 use mathlib.Core.Path.{sym, _∙_}
 use borrow.Author.Needs.{needs}
 use borrow.Author.Tests.{not-true, not-false}
-use Rattle.joining.proofs.JoiningLaws.{contiguous-broken, contiguous-join}
+use Rattle.joining.proofs.JoiningLaws.{contiguous-broken, contiguous-run}
 use Rattle.joining.proofs.joins_contiguous.Statement.{statement}
 use Rattle.joining.proofs.joins_contiguous.Tie as tie
 
@@ -10,7 +10,7 @@ all-contiguous-requires : tie.Need-all-contiguous-requires
 all-contiguous-requires c κs = search needs
 
 returns : tie.Need-returns
-returns c s ss e = contiguous-broken s ss _ e (sym (c .before .all-contiguous .ensures) ∙ not-true _ (c .if1 .taken))
+returns c = contiguous-broken _ (sym (c .before .all-contiguous .ensures) ∙ not-true _ (c .if1 .taken))
 
 least-start-requires : tie.Need-least-start-requires
 least-start-requires c κs = search needs
@@ -22,13 +22,11 @@ run-covered-requires : tie.Need-run-covered-requires
 run-covered-requires c κs = search needs
 
 returns-2 : tie.Need-returns-2
-returns-2 c s ss e =
+returns-2 c =
     let g = c .before in
     let f = g .before .before in
     let all-are = sym (f .before .all-contiguous .ensures) ∙ not-false _ (f .if1 .left) in
-    let from = g .before .least-start .ensures .0 s ss e in
-    let to = g .greatest-end .ensures .0 s ss e in
-    contiguous-join s ss _ e all-are _ _ from to _ (c .run-covered .ensures)
+    contiguous-run _ all-are _ _ (g .before .least-start .ensures) (g .greatest-end .ensures) _ (c .run-covered .ensures)
 
 pub joins-contiguous-spec : {M : Type 1} → statement M
 joins-contiguous-spec =

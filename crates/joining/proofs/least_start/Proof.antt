@@ -1,25 +1,24 @@
 -- Invariant: the least start so far and those of the strings left have the least start of all. Measure: the numbers left. The first string starts it.
-use Prim.Native.Nat.{_-_, _<_, min}
+use Prim.Native.Nat.{_-_, min}
 use native.Mathlib.Omega.{arith}
-use mathlib.Core.Path.{refl, ap, _∙_}
+use mathlib.Core.Path.{refl, ap, sym, _∙_}
 use borrow.Author.Needs.{needs}
 use lib.ListN.{length, drop}
-use Rattle.model.specs.Limits.{radix}
 use Rattle.model.specs.Rules.{leastStart}
 use Rattle.strings.specs.Strings.{strsAt}
-use Rattle.joining.proofs.JoiningLaws.{leastFrom, leastStart-next, leastStart-first}
-use Rattle.strings.proofs.StringsLaws.{Left, left-next, left-none, some-string}
+use Rattle.joining.proofs.JoiningLaws.{leastFrom, leastStart-next, joined-none, start-joined}
+use Rattle.strings.proofs.StringsLaws.{Left, left-next, left-none}
 use Rattle.joining.proofs.least_start.Statement.{statement}
 use Rattle.joining.proofs.least_start.Tie as tie
 
 abbrev Inv-loop : tie.InvT-loop
-Inv-loop strs least₀ i₀ least i = (least < radix) × Left (leastFrom least₀ (strsAt (drop 2 strs))) (leastFrom least) strs i
+Inv-loop strs least₀ i₀ least i = Left (leastFrom (least₀ .0) (strsAt (drop 2 strs))) (leastFrom (least .0)) strs i
 
 abbrev μ-loop : tie.MeasureT-loop
 μ-loop strs least₀ i₀ least i = length strs - i
 
 returns : tie.Need-returns Inv-loop μ-loop
-returns c = (λ s ss e. absurd (some-string (c .before .before .args .strs .now) e (omega arith)), omega arith)
+returns c = ap (λ s. s .start) (sym (joined-none (c .before .before .args .strs .now) (omega arith)))
 
 shared-slice-read-start-of : tie.Need-shared-slice-read-start-of Inv-loop μ-loop
 shared-slice-read-start-of c = search needs
@@ -28,7 +27,7 @@ start-of-requires : tie.Need-start-of-requires Inv-loop μ-loop
 start-of-requires c κs = search needs
 
 loop-holds : tie.Need-loop-holds Inv-loop μ-loop
-loop-holds c = (omega (arith, c .before .shared-slice-known2 .given 0), record { bounded = omega arith; same = refl })
+loop-holds c = record { bounded = omega arith; same = refl }
 
 add-loop : tie.Need-add-loop Inv-loop μ-loop
 add-loop c = search needs
@@ -42,8 +41,8 @@ shared-slice-read-start-of-2 c = search needs
 start-of-requires-2 : tie.Need-start-of-requires-2 Inv-loop μ-loop
 start-of-requires-2 c κs = search needs
 
-lesser-requires : tie.Need-lesser-requires Inv-loop μ-loop
-lesser-requires c κs = search needs
+earlier-requires : tie.Need-earlier-requires Inv-loop μ-loop
+earlier-requires c κs = search needs
 
 add-i : tie.Need-add-i Inv-loop μ-loop
 add-i c = search needs
@@ -54,15 +53,15 @@ loop-less c = search needs
 loop-again : tie.Need-loop-again Inv-loop μ-loop
 loop-again c =
     let t = c .before .before .before in
-    let e = c .lesser .ensures ∙ ap (min (t .before .loop .least)) (c .before .start-of2 .ensures) in
-    (omega arith, left-next (t .before .loop .inv .1) (t .loop-test .taken) _ (leastStart-next _ _ _ _ e))
+    let e = c .earlier .ensures ∙ ap (min (t .before .loop .least .0)) (c .before .start-of2 .ensures) in
+    left-next (t .before .loop .inv) (t .loop-test .taken) _ (leastStart-next _ _ _ _ e)
 
 returns-2 : tie.Need-returns-2 Inv-loop μ-loop
 unfolding leastStart
 returns-2 c =
     let f = c .before .before in
     let l = f .before .before .before .before .args .strs .now in
-    (λ s ss e. left-none (c .before .loop .inv .1) (c .loop-test .left) ∙ leastStart-first l (omega arith) _ (f .start-of .ensures) s ss e, c .before .loop .inv .0)
+    left-none (c .before .loop .inv) (c .loop-test .left) ∙ start-joined l (omega arith) _ (f .start-of .ensures)
 
 pub least-start-spec : {M : Type 1} → statement M
 least-start-spec =
@@ -78,7 +77,7 @@ least-start-spec =
     mul-start-of
     shared-slice-read-start-of-2
     start-of-requires-2
-    lesser-requires
+    earlier-requires
     add-i
     loop-less
     loop-again

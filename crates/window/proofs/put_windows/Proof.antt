@@ -41,6 +41,12 @@ part-join-span-end c = search needs
 join-span-requires : tie.Need-join-span-requires
 join-span-requires c κs = search needs
 
+start-of-requires : tie.Need-start-of-requires
+start-of-requires c κs = search needs
+
+end-of-requires : tie.Need-end-of-requires
+end-of-requires c κs = search needs
+
 count-around-requires : tie.Need-count-around-requires
 count-around-requires c κs = search needs
 
@@ -50,11 +56,14 @@ same-length c = search needs
 returns-2 : tie.Need-returns-2
 returns-2 c w =
     let k = c .before in
-    let s = k .before in
+    let l = k .before in
+    let f = l .before in
+    let s = f .before in
     let x = s .before .before .before in
     let i = x .before in
     let r = i .before .before .before .pre in
-    too-wide _ w (i .includes-in .ensures) (r .0) (x .if1 .left) (s .join-span .ensures) (k .count-around .ensures) (c .if2 .taken)
+    too-wide _ w (i .includes-in .ensures) (r .0) (x .if1 .left) (s .join-span .ensures) (f .start-of .ensures) (l .end-of .ensures)
+    (k .count-around .ensures) (c .if2 .taken)
 
 mul-join-tag : tie.Need-mul-join-tag
 mul-join-tag c = search needs
@@ -84,7 +93,7 @@ put-each-requires : tie.Need-put-each-requires
 put-each-requires c κs =
     let y = c .before in
     let t = y .before in
-    let s = t .before .before .before .before .before in
+    let s = t .before .before .before .before .before .before .before in
     let x = s .before .before .before in
     let i = x .before in
     let r = i .before .before .before .pre in
@@ -98,7 +107,7 @@ returns-3 c w =
     let k = c .before .before in
     let y = k .before .before in
     let t = y .before in
-    let s = t .before .before .before .before .before in
+    let s = t .before .before .before .before .before .before .before in
     let x = s .before .before .before in
     let i = x .before in
     let r = i .before .before .before .pre in
@@ -122,6 +131,8 @@ put-windows-spec =
     part-join-span-start
     part-join-span-end
     join-span-requires
+    start-of-requires
+    end-of-requires
     count-around-requires
     same-length
     returns-2

@@ -1,5 +1,6 @@
 -- The first pair of numbers is the first string, and the last pair the last one.
 use Prim.Native.Nat.{ℕ}
+use Rattle.candidates.specs.Edges.{position}
 use Rattle.candidates.proofs.EdgesLaws.{edges-none, edges-read}
 use borrow.Author.Needs.{needs}
 use mathlib.Core.Path.{sym, ap₂, _∙_}
@@ -33,7 +34,7 @@ end-of-requires c κs = search needs
 returns-2 : tie.Need-returns-2
 returns-2 c =
     let s = c .before .before in
-    ap₂ (λ (a b : ℕ). record { start = a; end = b }) (s .start-of .ensures) (c .end-of .ensures) ∙ sym (edges-read _ (s .before .before .if1 .left))
+    ap₂ (λ (a b : ℕ). record { start = position a; end = position b }) (s .start-of .ensures) (c .end-of .ensures) ∙ sym (edges-read _ (s .before .before .if1 .left))
 
 pub edges-of-spec : {M : Type 1} → statement M
 edges-of-spec =

@@ -15,8 +15,8 @@ abbrev μ-loop : tie.MeasureT-loop
 μ-loop mem p n ranges₀ at₀ i₀ ranges at i = n - i
 
 -- the match in hand
-abbrev one : (c : tie.In-loop Inv-loop μ-loop) → MatchAt (c .before .before .before .args .mem .now) (c .before .loop .at)
-one c = widening-at (c .before .loop .inv .1 (c .before .before .before .pre)) (c .loop-test .taken)
+abbrev one : (c : tie.In-loop Inv-loop μ-loop) → MatchAt (c .before .before .before .before .before .args .mem .now) (c .before .loop .at)
+one c = let l = c .before in widening-at (l .loop .inv .1 (l .before .before .before .before .pre)) (c .loop-test .taken)
 
 loop-holds : tie.Need-loop-holds Inv-loop μ-loop
 loop-holds c = (omega arith, λ w. widening-start w _)

@@ -12,14 +12,14 @@ use Rattle.mild.proofs.against.search.Statement.{statement}
 use Rattle.mild.proofs.against.search.Tie as tie
 
 abbrev Inv-loop : tie.InvT-loop
-Inv-loop mem p from end a e last₀ at₀ last at = (w : SearchAt mem p from end) → Seeking (w .item) (w .todo) mem at end last
+Inv-loop mem p from end a e last₀ at₀ last at = (w : SearchAt mem p from end) → Seeking (w .item) (w .todo) mem at end (last .0)
 
 abbrev μ-loop : tie.MeasureT-loop
 μ-loop mem p from end a e last₀ at₀ last at = end - at
 
 -- the header of the match of R in hand
-one : (c : tie.In-loop Inv-loop μ-loop) → Header (c .before .before .before .before .before .before .before .before .args .mem .now) (c .before .loop .at)
-one c = rest-next (c .before .loop .inv (c .before .before .before .before .before .before .before .before .pre) .rest) (c .loop-test .taken) .held .header
+one : (c : tie.In-loop Inv-loop μ-loop) → Header (c .before .before .before .before .before .before .before .before .before .args .mem .now) (c .before .loop .at)
+one c = rest-next (c .before .loop .inv (c .before .before .before .before .before .before .before .before .before .pre) .rest) (c .loop-test .taken) .held .header
 
 add-a : tie.Need-add-a Inv-loop μ-loop
 add-a c = search needs
@@ -56,12 +56,12 @@ edges-of-requires c κs = search needs
 
 next-covering-requires : tie.Need-next-covering-requires Inv-loop μ-loop
 next-covering-requires c κs =
-    let w = c .before .before .before .before .before .pre in
+    let w = c .before .before .before .before .before .before .pre in
     record { todo = w .todo; rest = w .rest }
 
 loop-holds : tie.Need-loop-holds Inv-loop μ-loop
 loop-holds c = λ w.
-    let d = c .before in
+    let d = c .before .before in
     let edges = edges-held (w .held) (d .edges-of .ensures) refl refl (d .before .before .includes-in .ensures) in
     seek w edges (c .next-covering .ensures .1 (record { todo = w .todo; rest = w .rest }))
 
@@ -121,7 +121,7 @@ returns c w =
     let k = c .before .before in
     let x = k .before .before .before in
     let t = x .before .before in
-    stopped w (t .before .loop .inv w) (t .loop-test .taken) (k .find-beyond .result) (t .before .before .before .before .before .includes-in .ensures) (x .includes-in2 .ensures)
+    stopped w (t .before .loop .inv w) (t .loop-test .taken) (k .find-beyond .result) (t .before .before .before .before .before .before .includes-in .ensures) (x .includes-in2 .ensures)
     (k .find-beyond .ensures) (c .enum-told .given .1)
 
 match-length-requires : tie.Need-match-length-requires Inv-loop μ-loop
@@ -133,7 +133,7 @@ add-next-covering c = omega (arith, one (c .before .before .before .before .befo
 next-covering-requires-2 : tie.Need-next-covering-requires-2 Inv-loop μ-loop
 next-covering-requires-2 c κs =
     let t = c .before .before .before .before .before .before .before .before .before in
-    let g = t .before .loop .inv (t .before .before .before .before .before .before .before .before .pre) in
+    let g = t .before .loop .inv (t .before .before .before .before .before .before .before .before .before .pre) in
     record { todo = _; rest = rest-after (g .rest) (t .loop-test .taken) (c .match-length .ensures) }
 
 loop-less : tie.Need-loop-less Inv-loop μ-loop
@@ -148,7 +148,7 @@ loop-again c = λ w.
     let x = k .before .before .before in
     let t = x .before .before in
     let g = t .before .loop .inv w in
-    passed w g (t .loop-test .taken) (k .find-beyond .result) (t .before .before .before .before .before .includes-in .ensures) (x .includes-in2 .ensures) (k .find-beyond .ensures)
+    passed w g (t .loop-test .taken) (k .find-beyond .result) (t .before .before .before .before .before .before .includes-in .ensures) (x .includes-in2 .ensures) (k .find-beyond .ensures)
     (m .before .before .found .given .1) (c .next-covering2 .ensures .1 (record { todo = _; rest = rest-after (g .rest) (t .loop-test .taken) (m .match-length .ensures) }))
 
 returns-2 : tie.Need-returns-2 Inv-loop μ-loop

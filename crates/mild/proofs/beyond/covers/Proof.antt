@@ -33,12 +33,13 @@ wrapping-sub-u32-requires c κs = search needs
 
 returns : tie.Need-returns
 returns c =
-    let s = c .before .before in
+    let d = c .before .before in
+    let s = d .before in
     let a = s .before .args in
     let w = c .wrapping-sub-u32 .result in
-    let wraps : (w + a .span / radix) % 2 ^ 32 ≡ a .p = ap (λ k. (w + k) % 2 ^ 32) (sym (s .start-of .ensures)) ∙ c .wrapping-sub-u32 .ensures in
+    let wraps : (w + a .span / radix) % 2 ^ 32 ≡ a .p .0 = ap (λ k. (w + k) % 2 ^ 32) (sym (s .start-of .ensures)) ∙ c .wrapping-sub-u32 .ensures in
     let fits : w < 2 ^ 32 = omega arith in
-    ap (λ k. leb w k) (ap₂ _-_ (c .before .end-of .ensures) (s .start-of .ensures)) ∙ one-test (a .span / radix) (a .span % radix) (a .p) w (s .before .pre) (omega arith) fits wraps
+    ap (λ k. leb w k) (ap₂ _-_ (d .end-of .ensures) (s .start-of .ensures)) ∙ one-test (a .span / radix) (a .span % radix) (a .p .0) w (s .before .pre) (omega arith) fits wraps
 
 pub covers-spec : {M : Type 1} → statement M
 covers-spec =

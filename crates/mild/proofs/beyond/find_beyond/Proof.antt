@@ -37,7 +37,7 @@ run-end-requires c κs = search needs
 
 returns : tie.Need-returns Inv-loop μ-loop
 returns c =
-    let k = c .before in
+    let k = c .before .before .before in
     let t = k .before .before .before .before in
     search-found (t .before .loop .inv) (t .loop-test .taken) (k .before .start-of .ensures) (k .before .before .end-of .ensures) (k .run-end .ensures) (c .if1 .taken)
 
@@ -49,7 +49,7 @@ loop-less c = search needs
 
 loop-again : tie.Need-loop-again Inv-loop μ-loop
 loop-again c =
-    let k = c .before in
+    let k = c .before .before .before in
     let t = k .before .before .before .before in
     search-on (t .before .loop .inv) (t .loop-test .taken) (k .before .start-of .ensures) (k .before .before .end-of .ensures) (k .run-end .ensures) (c .if1 .left)
 

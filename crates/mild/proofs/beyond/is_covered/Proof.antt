@@ -13,12 +13,12 @@ use Rattle.mild.proofs.beyond.is_covered.Statement.{statement}
 use Rattle.mild.proofs.beyond.is_covered.Tie as tie
 
 abbrev Inv-loop : tie.InvT-loop
-Inv-loop strs p i₀ i = AllStrs Fine (strsAt (drop i strs)) × Left (covered (strsAt strs) p) (λ ss. covered ss p) strs i
+Inv-loop strs p i₀ i = AllStrs Fine (strsAt (drop i strs)) × Left (covered (strsAt strs) (p .0)) (λ ss. covered ss (p .0)) strs i
 
 abbrev μ-loop : tie.MeasureT-loop
 μ-loop strs p i₀ i = length strs - i
 
--- the string in hand, and those behind it
+-- the string in hand, and those after it
 one : (strs : List ℕ) (i : ℕ) → i + 1 < length strs → AllStrs Fine (strsAt (drop i strs)) → Fine (strAt strs i) × AllStrs Fine (strsAt (drop (i + 2) strs))
 unfolding Every
 one strs i h f = subst (AllStrs Fine) (strsAt-cons strs i h) f

@@ -11,7 +11,7 @@ use Rattle.mild.proofs.beyond.next_covering.Statement.{statement}
 use Rattle.mild.proofs.beyond.next_covering.Tie as tie
 
 abbrev Inv-loop : tie.InvT-loop
-Inv-loop mem from end p q at₀ at = (from ≤ at) × ((w : RestAt mem from end) → Passing (coverBoth p q) (w .todo) mem at end)
+Inv-loop mem from end p q at₀ at = (from ≤ at) × ((w : RestAt mem from end) → Passing (coverBoth (p .0) (q .0)) (w .todo) mem at end)
 
 abbrev μ-loop : tie.MeasureT-loop
 μ-loop mem from end p q at₀ at = end - at

@@ -10,7 +10,7 @@ use Rattle.mild.proofs.beyond.skip_alike.Statement.{statement}
 use Rattle.mild.proofs.beyond.skip_alike.Tie as tie
 
 abbrev Inv-loop : tie.InvT-loop
-Inv-loop mem from end header p q size length at₀ at = (from ≤ at) × ((w : RestAt mem from end) → Passing (coverBoth p q) (w .todo) mem at end)
+Inv-loop mem from end header p q size length at₀ at = (from ≤ at) × ((w : RestAt mem from end) → Passing (coverBoth (p .0) (q .0)) (w .todo) mem at end)
 
 abbrev μ-loop : tie.MeasureT-loop
 μ-loop mem from end header p q size length at₀ at = end - at

@@ -11,10 +11,10 @@ use Rattle.strings.proofs.covering.advance.Statement.{statement}
 use Rattle.strings.proofs.covering.advance.Tie as tie
 
 abbrev Inv-loop : tie.InvT-loop
-Inv-loop strs p only-contiguous at₀ i₀ at i = Left (advanced p (chosen only-contiguous (strsAt strs))) (λ ss. advanced at (chosen only-contiguous ss)) strs i
+Inv-loop strs only-contiguous at₀ i₀ at i = Left (advanced (at₀ .0) (chosen only-contiguous (strsAt strs))) (λ ss. advanced (at .0) (chosen only-contiguous ss)) strs i
 
 abbrev μ-loop : tie.MeasureT-loop
-μ-loop strs p only-contiguous at₀ i₀ at i = length strs - i
+μ-loop strs only-contiguous at₀ i₀ at i = length strs - i
 
 loop-holds : tie.Need-loop-holds Inv-loop μ-loop
 loop-holds c = left-start _ _

@@ -22,14 +22,15 @@ returns-2 c =
 end-of-requires : tie.Need-end-of-requires
 end-of-requires c κs = search needs
 
-add-result : tie.Need-add-result
-add-result c = search needs
+add-t8 : tie.Need-add-t8
+add-t8 c = search needs
 
 returns-3 : tie.Need-returns-3
 returns-3 c =
-    let v = c .before .before in
+    let e = c .before in
+    let v = e .before .before in
     let s = v .before in
-    rw (sym (s .before .is-chosen .ensures) ∙ not-false _ (s .if1 .left), sym (v .covers .ensures) ∙ not-false _ (c .before .if2 .left), c .end-of .ensures)
+    rw (sym (s .before .is-chosen .ensures) ∙ not-false _ (s .if1 .left), sym (v .covers .ensures) ∙ not-false _ (e .before .if2 .left), e .end-of .ensures)
 
 pub passed-spec : {M : Type 1} → statement M
 passed-spec =
@@ -40,5 +41,5 @@ passed-spec =
     covers-requires
     returns-2
     end-of-requires
-    add-result
+    add-t8
     returns-3)

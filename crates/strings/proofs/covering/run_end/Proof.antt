@@ -16,11 +16,11 @@ use Rattle.strings.proofs.covering.run_end.Statement.{statement}
 use Rattle.strings.proofs.covering.run_end.Tie as tie
 
 abbrev Inv-loop : tie.InvT-loop
-Inv-loop strs from to only-contiguous p₀ p =
-    (from ≤ p) × (allOf (covered (chosen only-contiguous (strsAt strs))) (fromTo from to) ≡ allOf (covered (chosen only-contiguous (strsAt strs))) (fromTo p to))
+Inv-loop strs to only-contiguous p₀ p =
+    (p₀ .0 ≤ p .0) × (allOf (covered (chosen only-contiguous (strsAt strs))) (fromTo (p₀ .0) (to .0)) ≡ allOf (covered (chosen only-contiguous (strsAt strs))) (fromTo (p .0) (to .0)))
 
 abbrev μ-loop : tie.MeasureT-loop
-μ-loop strs from to only-contiguous p₀ p = to + 1 - p
+μ-loop strs to only-contiguous p₀ p = to .0 + 1 - p .0
 
 loop-holds : tie.Need-loop-holds Inv-loop μ-loop
 loop-holds c = (omega arith, refl)
@@ -30,37 +30,40 @@ advance-requires c κs = search needs
 
 returns : tie.Need-returns Inv-loop μ-loop
 returns c =
-    let l = c .before .before .before in
+    let v = c .before .before .before in
+    let l = v .before .before .before .before in
     let a = l .before .before .args in
     let ss : List Str = chosen (a .only-contiguous) (strsAt (a .strs .now)) in
-    let stuck = advanced-stuck _ ss (sym (c .before .advance .ensures) ∙ c .if1 .taken) in
-    let in-run = c .before .before .loop-test .taken in
+    let stuck = advanced-stuck _ ss (sym (v .advance .ensures) ∙ c .if2 .taken) in
+    let in-run = v .before .if1 .taken in
     record { not-before = l .loop .inv .0; uncovered = λ h. stuck; same = l .loop .inv .1 ∙ all-range-false (covered ss) _ _ in-run stuck ∙ sym (le-ltb _ _ in-run) }
 
 loop-less : tie.Need-loop-less Inv-loop μ-loop
 loop-less c =
-    let l = c .before .before .before in
+    let l = c .before .before .before .before .before .before .before in
     let a = l .before .before .args in
-    let up = advanced-up (l .loop .p) (chosen (a .only-contiguous) (strsAt (a .strs .now))) in
+    let up = advanced-up (l .loop .p .0) (chosen (a .only-contiguous) (strsAt (a .strs .now))) in
     omega arith
 
 loop-again : tie.Need-loop-again Inv-loop μ-loop
 loop-again c =
-    let l = c .before .before .before in
+    let v = c .before .before .before in
+    let l = v .before .before .before .before in
     let a = l .before .before .args in
     let ss : List Str = chosen (a .only-contiguous) (strsAt (a .strs .now)) in
-    let up = advanced-up (l .loop .p) ss in
-    (omega arith, l .loop .inv .1 ∙ covered-advanced ss _ _ ∙ ap (λ k. allOf (covered ss) (fromTo k (a .to))) (sym (c .before .advance .ensures)))
+    let up = advanced-up (l .loop .p .0) ss in
+    (omega arith, l .loop .inv .1 ∙ covered-advanced ss _ _ ∙ ap (λ k. allOf (covered ss) (fromTo k (a .to .0))) (sym (v .advance .ensures)))
 
 returns-2 : tie.Need-returns-2 Inv-loop μ-loop
 returns-2 c =
-    let a = c .before .before .before .args in
+    let l = c .before .before .before in
+    let a = l .before .before .args in
     let ss : List Str = chosen (a .only-contiguous) (strsAt (a .strs .now)) in
-    let behind = c .loop-test .left in
+    let after = c .if1 .left in
     record {
-      not-before = c .before .loop .inv .0;
+      not-before = l .loop .inv .0;
       uncovered = λ h. absurd (omega arith);
-      same = c .before .loop .inv .1 ∙ all-range-empty (covered ss) _ _ behind ∙ sym (lt-ltb _ _ behind);
+      same = l .loop .inv .1 ∙ all-range-empty (covered ss) _ _ after ∙ sym (lt-ltb _ _ after);
     }
 
 pub run-end-spec : {M : Type 1} → statement M

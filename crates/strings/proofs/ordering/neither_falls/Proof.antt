@@ -15,7 +15,7 @@ start-of-requires-2 c κs = search needs
 
 returns : tie.Need-returns
 returns c =
-    let a = c .before .before .before .args in
+    let a = c .before .before .before .before .before .args in
     let h : a .other-span / radix < a .span / radix = omega arith in
     rw (lt-leb _ _ h)
 
@@ -27,7 +27,7 @@ query-of-requires-2 c κs = search needs
 
 returns-2 : tie.Need-returns-2
 returns-2 c =
-    let a = c .before .before .before .before .before .args in
+    let a = c .before .before .before .before .before .before .before .args in
     let h : a .span / radix ≤ a .other-span / radix = omega arith in
     rw (le-leb _ _ h, c .before .query-of .ensures, c .query-of2 .ensures)
 
