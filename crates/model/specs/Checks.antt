@@ -58,14 +58,20 @@ unfoldable pub unknownKind : List ℕ → Option ℕ
 unknownKind selection = first (λ c. leb 16 (kindAt selection c)) (fromTo 1 (size selection))
 
 -- 5, first such code: "operand outside the table"
--- "k, 1 to 8"; "N, 1 to 4,096"; "a × 65,536 + b, a ≤ b ≤ 4,095"; any word number; 0 for the rest
+-- of a filter: "N, 1 to 4,096"; "a × 65,536 + b, a ≤ b ≤ 4,095"; 0 for the rest
+unfoldable pub filterOperandFits : ℕ → ℕ → Bool
+filterOperandFits kind operand =
+    cond (eqb kind 7) (leb 1 operand && leb operand maxWindow)
+    (cond (eqb kind 8) (leb (operand / radix) (operand % radix) && leb (operand % radix) maxDistance)
+    (eqb operand 0))
+
+-- any word number; "k, 1 to 8"; 0 for a combination. An unknown kind has no row in the table, and is refused before its operand is asked for.
 unfoldable pub operandFits : ℕ → ℕ → Bool
 operandFits kind operand =
     cond (eqb kind 0) true
     (cond (eqb kind 1) (leb 1 operand && leb operand maxWaiting)
-    (cond (eqb kind 7) (leb 1 operand && leb operand maxWindow)
-    (cond (eqb kind 8) (leb (operand / radix) (operand % radix) && leb (operand % radix) maxDistance)
-    (eqb operand 0))))
+    (cond (leb kind 5) (eqb operand 0)
+    (cond (leb kind 15) (filterOperandFits kind operand) true)))
 
 unfoldable pub wrongOperand : List ℕ → Option ℕ
 wrongOperand selection = first (λ c. not (operandFits (kindAt selection c) (operandAt selection c))) (fromTo 1 (size selection))
