@@ -5,6 +5,7 @@ use mathlib.Core.List.{List, [], _∷_}
 use mathlib.Core.Option.{Option, some, none, Option·map}
 use lib.Dec.{leb, ltb, eqb}
 use Rattle.model.specs.declared.Pair.the-variants.{Or, And, MildNot}
+use Rattle.model.specs.declared.Refusal.{Refusal}
 use Rattle.model.specs.Limits.{maxTokens, maxCodes, maxWaiting, maxWindow, maxDistance, workLength, bufferLength, radix}
 use Rattle.model.specs.Lists.{anyOf, first, fromTo}
 use Rattle.model.specs.Section.{size, wellSized, sentenceAt, paragraphAt}
@@ -13,10 +14,6 @@ use Rattle.model.specs.Waiting.{firstBreak}
 use Rattle.model.specs.Trees.{Tree, phrase, pair, negation, filter, placeOf, treeOf, parts}
 
 -- a refusal by number and place
-pub record Refusal : Type 0 where
-  pub number : ℕ
-  pub place : ℕ
-
 abbrev pub refusal : ℕ → ℕ → Refusal
 refusal number place = record { number = number; place = place }
 

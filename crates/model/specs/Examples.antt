@@ -51,19 +51,19 @@ sameMatch l m = eachSame sameStr (l .includes) (m .includes) && eachSame sameStr
 
 countsMatches : Listing → ℕ → Bool
 countsMatches (Listed m s y) m' = eqb m m'
-countsMatches (ListingRefused n c) m' = false
+countsMatches (ListingRefused r) m' = false
 
 countsStrings : Listing → ℕ → Bool
 countsStrings (Listed m s y) s' = eqb s s'
-countsStrings (ListingRefused n c) s' = false
+countsStrings (ListingRefused r) s' = false
 
 listingSays : Listing → Bool → Bool
 listingSays (Listed m s y) b = Bool·beq y b
-listingSays (ListingRefused n c) b = false
+listingSays (ListingRefused r) b = false
 
 quickSays : Quick → Bool → Bool
 quickSays (Answered y n) b = Bool·beq y b
-quickSays (QuickRefused n c) b = false
+quickSays (QuickRefused r) b = false
 
 -- the listing buffer behind the call, which was all zeros before it
 buffered : List ℕ → List ℕ → List ℕ
