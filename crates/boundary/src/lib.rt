@@ -24,10 +24,10 @@ fn put_listing(listing: Listing, answer: &mut [u32; 4]) -> u32
             answer[3] = yes as u32;
             0
         }
-        Listing::Refused { number, place } => {
-            answer[0] = number;
-            answer[1] = place;
-            number
+        Listing::Refused(refusal) => {
+            answer[0] = refusal.number;
+            answer[1] = refusal.place;
+            refusal.number
         }
     }
 }
@@ -61,10 +61,10 @@ fn put_quick(quick: Quick, answer: &mut [u32; 3]) -> u32
             answer[2] = codes;
             0
         }
-        Quick::Refused { number, place } => {
-            answer[0] = number;
-            answer[1] = place;
-            number
+        Quick::Refused(refusal) => {
+            answer[0] = refusal.number;
+            answer[1] = refusal.place;
+            refusal.number
         }
     }
 }

@@ -5,7 +5,7 @@ use native.Mathlib.Omega.{arith}
 use mathlib.Core.Path.{_≡_, refl, sym, ap, ap₂, _∙_, subst}
 use mathlib.Core.Bool.{true, _&&_}
 use mathlib.Core.List.{List, [], _∷_, map}
-use mathlib.Core.Option.{Option, some, none, orElse}
+use mathlib.Core.Option.{Option, some, none, Option·map, orElse}
 use lib.Dec.{eqb, ltb}
 use lib.ListN.{length}
 use borrow.Author.Tests.{eqb-true}
@@ -14,6 +14,7 @@ use Rattle.model.specs.declared.Code.the-variants.{Phrase}
 use Rattle.model.specs.Accepted.{maxPhrases}
 use Rattle.model.specs.AllMatches.{allMatches}
 use Rattle.model.specs.AllStrings.{Every, RanksUpTo}
+use Rattle.model.specs.Checks.{refusal}
 use Rattle.model.specs.Limits.{maxWaiting}
 use Rattle.model.specs.Lists.{first}
 use Rattle.model.specs.Parts.{newest, rankAfter, stateAt, waitingParts}
@@ -186,13 +187,13 @@ module _ {section sel mem₀ : List ℕ} {lo hi rank : ℕ} (w : Buildable secti
 -- ---- PartList
 
 module _ {s : Section} {t : Tree} {mem : List ℕ} where
-  pub part-long : {place : ℕ} → firstTooLong s (parts t) ≡ some place → PartList s t mem (part.TooLong place)
+  pub part-long : {place : ℕ} → firstTooLong s (parts t) ≡ some place → PartList s t mem (part.Refused (refusal 9 place))
   part-long {place} e =
       record {
         slot = λ b. absurd (let z : _≡_ {A = ℕ} 0 1 = cc in omega arith);
         fine = λ b. absurd (let z : _≡_ {A = ℕ} 0 1 = cc in omega arith);
-        long = λ q b. let z : place ≡ q = cc in e ∙ ap some z;
+        refused = λ r b. let z : refusal 9 place ≡ r = cc in ap (Option·map (refusal 9)) e ∙ ap some z;
       }
 
   pub part-built : SlotHolds mem 0 (allMatches s t) → firstTooLong s (parts t) ≡ none → PartList s t mem part.Built
-  part-built h e = record { slot = λ b. h; fine = λ b. e; long = λ q b. absurd (let z : _≡_ {A = ℕ} 0 1 = cc in omega arith) }
+  part-built h e = record { slot = λ b. h; fine = λ b. e; refused = λ r b. absurd (let z : _≡_ {A = ℕ} 0 1 = cc in omega arith) }

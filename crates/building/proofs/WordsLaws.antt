@@ -13,7 +13,7 @@ use Rattle.model.specs.declared.Code.{Code}
 use Rattle.model.specs.declared.Code.the-variants.{Word, Phrase, Combine, Not, Filter as Filtered}
 use Rattle.model.specs.declared.Filter.the-variants.{Window}
 use Rattle.model.specs.Accepted.{AcceptedSelection}
-use Rattle.model.specs.Checks.{operandFits}
+use Rattle.model.specs.Checks.{operandFits, filterOperandFits}
 use Rattle.model.specs.Limits.{maxWindow}
 use Rattle.model.specs.Parts.{stateAt}
 use Rattle.model.specs.Section.{size}
@@ -45,7 +45,7 @@ module _ (sel : List ℕ) (a : AcceptedSelection sel) (c : ℕ) (from-one : 1 �
   operand-at = operand-code (kindAt sel c) (operandAt sel c) (a .known c from-one up-to) (a .operands c from-one up-to)
 
   pub window-size : (n : ℕ) → codeAt sel c ≡ Filtered (Window n) → WindowSize n
-  unfolding operandFits
+  unfolding operandFits filterOperandFits
   window-size n e =
       let k : 7 ≡ kindAt sel c = ap kindOf (sym e) ∙ kind-code (kindAt sel c) (operandAt sel c) (a .known c from-one up-to) in
       let o : n ≡ operandAt sel c = ap operandOf (sym e) ∙ operand-at in

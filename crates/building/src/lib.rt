@@ -2,6 +2,7 @@
 mod steps; // one code's list, from the lists that wait
 
 use model::Code;
+use model::Refusal;
 use store::Built;
 ghost use mathlib.Core.Path.{_≡_};
 ghost use Prim.Native.Nat.{_≤_};
@@ -15,8 +16,8 @@ ghost use Rattle.building.specs.PartList.{PartList};
 pub enum Part {
     // its list lies in the first slot
     Built,
-    // the list of the code at a place, the first such code, has over 256 matches or 512 strings
-    TooLong { place: u32 },
+    // refusal 9: the list of the code at its place, the first such code, has over 256 matches or 512 strings
+    Refused(Refusal),
 }
 
 // The lists that wait behind a code.
@@ -50,13 +51,13 @@ pub fn build(
 {
     let mut lists: usize = 0;
     let mut next = rank;
-    let mut c = lo;
-    while c < hi {
-        c += 1;
-        let code = codes::code_at(selection, c);
-        let built = steps::build_code(section, selection, code, c, next, mem, lists);
+    let mut place = lo;
+    while place < hi {
+        place += 1;
+        let code = codes::code_at(selection, place);
+        let built = steps::build_code(section, selection, code, place, next, mem, lists);
         let Built::Made { .. } = built else {
-            return Part::TooLong { place: c };
+            return Part::Refused(Refusal { number: 9, place });
         };
         lists = lists_behind(code, lists);
         next += selection::parts::count_phrase(code);

@@ -8,29 +8,29 @@ use mathlib.Core.Option.{Option, some, none}
 use lib.Dec.{leb}
 use Rattle.model.specs.declared.Checked.{Checked}
 use Rattle.model.specs.declared.Checked.the-variants.{Accepted, Refused}
+use Rattle.model.specs.declared.Refusal.{Refusal}
 use Rattle.model.specs.Answers.{checkedOf}
-use Rattle.model.specs.Checks.{Refusal, otherwise, roomRefusal, inputRefusal, quickChecks, listingChecks}
+use Rattle.model.specs.Checks.{refusal, otherwise, roomRefusal, inputRefusal, quickChecks, listingChecks}
 use Rattle.model.specs.Limits.{workLength, bufferLength}
-use Rattle.model.proofs.AnswersLaws.{checked-accepted}
+use Rattle.model.proofs.AnswersLaws.{checked-accepted, checked-refused}
 
-module _ (first later : Option Refusal) (checked : Checked) (e : checked ≡ checkedOf first) where
-  pub first-refuses : (number place : ℕ) → checked ≡ Refused number place → checked ≡ checkedOf (otherwise first later)
-  first-refuses number place f = e ∙ at first (sym e ∙ f)
-    where
-      at : (o : Option Refusal) → checkedOf o ≡ Refused number place → checkedOf o ≡ checkedOf (otherwise o later)
-      at (some r) g = refl
-      at none g = let z : _≡_ {A = ℕ} 0 1 = cc in absurd (omega arith)
+-- the first check's answer has the size n, both together the size k
+module _ (n k : ℕ) (first later : Option Refusal) {checked : Checked} (e : checked ≡ checkedOf n first) where
+  pub first-refuses : {r : Refusal} → checked ≡ Refused r → checked ≡ checkedOf k (otherwise first later)
+  first-refuses f = f ∙ ap (λ o. checkedOf k (otherwise o later)) (sym (checked-refused n first (sym e ∙ f)))
 
-  pub later-decides : checked ≡ Accepted → checkedOf later ≡ checkedOf (otherwise first later)
-  later-decides f = ap (λ o. checkedOf (otherwise o later)) (sym (checked-accepted first (sym e ∙ f)))
+  pub later-decides : {m : ℕ} → checked ≡ Accepted m → checkedOf k later ≡ checkedOf k (otherwise first later)
+  later-decides f = ap (λ o. checkedOf k (otherwise o later)) (sym (checked-accepted n first (sym e ∙ f) .0))
 
--- refusal 8, by the test of the lent lengths
-module _ (enough : Bool) (answer : Checked) (e : checkedOf (roomRefusal enough) ≡ answer) where
-  pub room-short : enough ≡ false → Refused 8 0 ≡ answer
-  room-short f = ap (λ b. checkedOf (roomRefusal b)) (sym f) ∙ e
+-- refusal 8 after the first check, by the test of the lent lengths
+module _ (k : ℕ) (first : Option Refusal) {checked : Checked} (e : checked ≡ checkedOf k first) {m : ℕ} (a : checked ≡ Accepted m) (enough : Bool) where
+  pub room-short : enough ≡ false → Refused (refusal 8 0) ≡ checkedOf k (otherwise first (roomRefusal enough))
+  room-short f = ap (λ b. checkedOf k (roomRefusal b)) (sym f) ∙ later-decides k k first (roomRefusal enough) e a
 
-  pub room-enough : enough ≡ true → Accepted ≡ answer
-  room-enough f = ap (λ b. checkedOf (roomRefusal b)) (sym f) ∙ e
+  pub room-enough : enough ≡ true → checked ≡ checkedOf k (otherwise first (roomRefusal enough))
+  room-enough f =
+      let passed = checked-accepted k first (sym e ∙ a) in
+      a ∙ ap Accepted (passed .1) ∙ ap (λ b. checkedOf k (roomRefusal b)) (sym f) ∙ later-decides k k first (roomRefusal enough) e a
 
 -- the listing's checks are the quick answer's, and then the buffer's
 pub listing-checks : (section selection : List ℕ) (work buffer : ℕ)

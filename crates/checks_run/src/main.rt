@@ -7,14 +7,14 @@ ghost use lib.ListN.{length};
 fn report(name: &[u8], checked: Checked) {
     io::write_all(1, name);
     match checked {
-        Checked::Accepted => {
+        Checked::Accepted { .. } => {
             io::write_all(1, b": accepted\n");
         }
-        Checked::Refused { number, place } => {
+        Checked::Refused(refusal) => {
             io::write_all(1, b": refused ");
-            io::print_decimal(1, number as u64);
+            io::print_decimal(1, refusal.number as u64);
             io::write_all(1, b" ");
-            io::print_decimal(1, place as u64);
+            io::print_decimal(1, refusal.place as u64);
             io::write_all(1, b"\n");
         }
     }

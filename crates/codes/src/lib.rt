@@ -6,7 +6,19 @@ use model::Filter;
 use model::Pair;
 use model::RADIX;
 ghost use mathlib.Core.Path.{_≡_};
-ghost use Rattle.model.specs.Selection.{codeAt, codeOf, filterOf};
+ghost use Rattle.model.specs.Selection.{codeAt, codeOf, combinationOf, filterOf};
+
+// "2 to 5 combine"
+fn combination_of(kind: u32) -> Code
+    ensures { λ r. ⌜ r ≡ combinationOf kind ⌝ }
+{
+    match kind {
+        2 => Code::Combine(Pair::Or),
+        3 => Code::Combine(Pair::And),
+        4 => Code::Not,
+        _ => Code::Combine(Pair::MildNot),
+    }
+}
 
 // "6 to 15 filter"
 fn filter_of(kind: u32, operand: u32) -> Filter
@@ -29,18 +41,17 @@ fn filter_of(kind: u32, operand: u32) -> Filter
     }
 }
 
-// "Kinds 0 and 1 are words, 2 to 5 combine, 6 to 15 filter"
+// "Kinds 0 and 1 are words, 2 to 5 combine, 6 to 15 filter, 16 and up are unknown."
 fn code_of(kind: u32, operand: u32) -> Code
     ensures { λ r. ⌜ r ≡ codeOf kind operand ⌝ }
 {
     match kind {
         0 => Code::Word(operand),
         1 => Code::Phrase(operand),
-        2 => Code::Combine(Pair::Or),
-        3 => Code::Combine(Pair::And),
-        4 => Code::Not,
-        5 => Code::Combine(Pair::MildNot),
-        _ => Code::Filter(filter_of(kind, operand)),
+        2..=5 => combination_of(kind),
+        6..=15 => Code::Filter(filter_of(kind, operand)),
+        // refused before its code is asked for: an entire content stands for it
+        _ => Code::Filter(Filter::EntireContent),
     }
 }
 

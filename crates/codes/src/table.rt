@@ -8,14 +8,16 @@ ghost use mathlib.Core.Bool.{_&&_};
 ghost use mathlib.Core.Path.{_≡_};
 ghost use lib.Dec.{leb};
 ghost use Rattle.model.specs.Answers.{faultOf};
-ghost use Rattle.model.specs.Checks.{operandFits, unknownKind, wrongOperand};
+ghost use Rattle.model.specs.Checks.{filterOperandFits, operandFits, unknownKind, wrongOperand};
 
 // "16 and up are unknown"
 fn is_unknown(kind: u32) -> bool
     ensures { λ r. ⌜ r ≡ leb 16 kind ⌝ }
 {
     match kind {
-        0..=15 => false,
+        0 | 1 => false,
+        2..=5 => false,
+        6..=15 => false,
         _ => true,
     }
 }
@@ -29,6 +31,17 @@ fn is_within(least: u32, number: u32, most: u32) -> bool
     number <= most
 }
 
+// The operands of the filters.
+fn filter_operand_fits(kind: u32, operand: u32) -> bool
+    ensures { λ r. ⌜ r ≡ filterOperandFits kind operand ⌝ }
+{
+    match kind {
+        7 => is_within(1, operand, MAX_WINDOW),
+        8 => is_within(operand / RADIX, operand % RADIX, MAX_DISTANCE),
+        _ => operand == 0,
+    }
+}
+
 // "operand outside the table", told by the kind
 fn operand_fits(kind: u32, operand: u32) -> bool
     ensures { λ r. ⌜ r ≡ operandFits kind operand ⌝ }
@@ -36,10 +49,10 @@ fn operand_fits(kind: u32, operand: u32) -> bool
     match kind {
         0 => true,
         1 => is_within(1, operand, MAX_WAITING),
-        2..=6 => operand == 0,
-        7 => is_within(1, operand, MAX_WINDOW),
-        8 => is_within(operand / RADIX, operand % RADIX, MAX_DISTANCE),
-        _ => operand == 0,
+        2..=5 => operand == 0,
+        6..=15 => filter_operand_fits(kind, operand),
+        // unknown, and refused before its operand is asked for
+        _ => true,
     }
 }
 

@@ -4,7 +4,7 @@ use native.Mathlib.Omega.{arith}
 use mathlib.Core.Path.{_≡_, sym, ap, subst, _∙_}
 use mathlib.Core.Bool.{Bool, _&&_}
 use mathlib.Core.List.{List}
-use mathlib.Core.Option.{Option, some, none, Option·map}
+use mathlib.Core.Option.{some, none, Option·map}
 use lib.ListN.{length, getD}
 use lib.Seq.{sets}
 use lib.Dec.{leb}
@@ -13,6 +13,7 @@ use Rattle.model.specs.declared.Checked.{Checked}
 use Rattle.model.specs.declared.Checked.the-variants.{Accepted, Refused as CheckedRefused}
 use Rattle.model.specs.declared.Listing.{Listing}
 use Rattle.model.specs.declared.Listing.the-variants.{Listed, Refused}
+use Rattle.model.specs.declared.Refusal.{Refusal}
 use Rattle.model.specs.Answers.{checkedOf, completeList, listed, listingRefusal, listingAnswer, listingNumbers, listingBuffer}
 use Rattle.model.specs.Checks.{refusal, listingChecks, inputRefusal, roomRefusal}
 use Rattle.model.specs.Limits.{workLength, bufferLength}
@@ -22,7 +23,7 @@ use Rattle.model.specs.AllMatches.{allMatches}
 use Rattle.model.specs.Trees.{Tree, parts}
 use Rattle.model.specs.Walk.{firstTooLong}
 use Rattle.model.specs.Accepted.{Passes}
-use Rattle.model.proofs.AnswersLaws.{checked-accepted, complete-fits, listingRefusal-none, listingRefusal-passes}
+use Rattle.model.proofs.AnswersLaws.{checked-accepted, checked-refused, complete-fits, listingRefusal-none, listingRefusal-passes}
 use Rattle.model.proofs.ChecksLaws.{otherwise-none}
 use Rattle.model.proofs.TestsLaws.{both-true, cond-none}
 use Rattle.store.specs.Slot.{SlotAt, SlotHolds}
@@ -31,8 +32,8 @@ use Rattle.output.proofs.Listings.{listing-rest}
 use Rattle.building.specs.State.{Buildable}
 use Rattle.building.specs.PartList.{PartList}
 use Rattle.building.specs.declared.Part.{Part}
-use Rattle.building.specs.declared.Part.the-variants.{Built, TooLong}
-use Rattle.engine.proofs.WholeLaws.{refused-by, whole-built, whole-tree}
+use Rattle.building.specs.declared.Part.the-variants.{Built, Refused as PartRefused}
+use Rattle.engine.proofs.WholeLaws.{whole-built, whole-tree}
 
 -- the numbers of a list in the first slot, and its answer
 pub listed-held : {mem : List ℕ} {ms : List Match} {answer : Bool} → SlotHolds mem 0 ms → answer ≡ isYes ms → Listed (getD mem 0 0) (getD mem 1 0) answer ≡ listed ms
@@ -40,12 +41,12 @@ listed-held s e = rw (matches-held s, strings-held s, e)
 
 module _ (section selection : List ℕ) (work : ℕ) (buffer : List ℕ) where
   -- what a call that refuses returns and leaves, and what one that lists does
-  pub refuses : (number place : ℕ) → listingRefusal section selection work (length buffer) ≡ some (refusal number place)
-      → (Refused number place ≡ listingAnswer section selection work (length buffer)) × (buffer ≡ listingBuffer section selection work buffer)
+  refuses : {r : Refusal} → listingRefusal section selection work (length buffer) ≡ some r
+      → (Refused r ≡ listingAnswer section selection work (length buffer)) × (buffer ≡ listingBuffer section selection work buffer)
   unfolding listingAnswer listingBuffer
-  refuses number place e = (rw e, rw e)
+  refuses e = (rw e, rw e)
 
-  pub lists : {answer : Listing} {buffer' : List ℕ} → listingRefusal section selection work (length buffer) ≡ none
+  lists : {answer : Listing} {buffer' : List ℕ} → listingRefusal section selection work (length buffer) ≡ none
       → answer ≡ listed (completeList section selection)
       → buffer' ≡ sets buffer 0 (listingNumbers (completeList section selection))
       → (answer ≡ listingAnswer section selection work (length buffer)) × (buffer' ≡ listingBuffer section selection work buffer)
@@ -56,21 +57,23 @@ module _ (section selection : List ℕ) (work : ℕ) (buffer : List ℕ) where
       (rw e ea, rw e (eb ∙ listing-rest (completeList section selection) buffer (omega (arith, fits .0, fits .1, room))))
 
   -- a refusal of the checks is the call's
-  pub checks-refuse : {checked : Checked} {answer : Listing} {number place : ℕ} → checked ≡ checkedOf (listingChecks section selection work (length buffer))
-      → checked ≡ CheckedRefused number place
-      → answer ≡ Refused number place
-      → (answer ≡ listingAnswer section selection work (length buffer)) × (buffer ≡ listingBuffer section selection work buffer)
+  pub checks-refuse : {checked : Checked} {r q : Refusal} → checked ≡ checkedOf (size selection) (listingChecks section selection work (length buffer))
+      → checked ≡ CheckedRefused q
+      → r ≡ q
+      → (Refused r ≡ listingAnswer section selection work (length buffer)) × (buffer ≡ listingBuffer section selection work buffer)
   unfolding listingRefusal
-  checks-refuse {checked} {answer} {number} {place} told e a =
-      let refused = refuses number place (rw (refused-by (listingChecks section selection work (length buffer)) number place (sym told ∙ e))) in
-      (a ∙ refused .0, refused .1)
+  checks-refuse told e a = refuses (rw (checked-refused (size selection) (listingChecks section selection work (length buffer)) (sym told ∙ e ∙ sym (ap CheckedRefused a))))
 
-  module _ {checked : Checked} (told : checked ≡ checkedOf (listingChecks section selection work (length buffer))) (accepted : checked ≡ Accepted) where
+  module _ {checked : Checked} {codes : ℕ} (told : checked ≡ checkedOf (size selection) (listingChecks section selection work (length buffer)))
+      (accepted : checked ≡ Accepted codes) where
+    all-codes : codes ≡ size selection
+    all-codes = checked-accepted (size selection) (listingChecks section selection work (length buffer)) (sym told ∙ accepted) .1
+
     -- the checks pass
     passes : Passes section selection work × (bufferLength ≤ length buffer)
     unfolding listingChecks
     passes =
-        let none-refuses = checked-accepted (listingChecks section selection work (length buffer)) (sym told ∙ accepted) in
+        let none-refuses = checked-accepted (size selection) (listingChecks section selection work (length buffer)) (sym told ∙ accepted) .0 in
         let enough = leb workLength work && leb bufferLength (length buffer) in
         let both = otherwise-none (inputRefusal section selection) (roomRefusal enough) none-refuses in
         let rooms = both-true (leb workLength work) (leb bufferLength (length buffer)) (cond-none enough (refusal 8 0) (both .1)) in
@@ -80,25 +83,22 @@ module _ (section selection : List ℕ) (work : ℕ) (buffer : List ℕ) where
     buffer-enough = passes .1
 
     -- so the whole can be built
-    pub ready : {hi : ℕ} (mem : List ℕ) → hi ≡ size selection → length mem ≡ work → Buildable section selection mem 0 hi 1
-    ready mem e long = rw e (whole-built section selection (passes .0 .checks) mem (omega (arith, passes .0 .enough, long)))
+    pub ready : (mem : List ℕ) → length mem ≡ work → Buildable section selection mem 0 codes 1
+    ready mem long = rw all-codes (whole-built section selection (passes .0 .checks) mem (omega (arith, passes .0 .enough, long)))
 
-    -- and the first list too long decides
-    module _ {mem mem' : List ℕ} {hi : ℕ} {part : Part} (e : hi ≡ size selection) (w : Buildable section selection mem 0 hi 1)
-        (built : PartList (sectionOf section) (w .part .tree) mem' part) where
-      refusal-is : {long : Option ℕ} → firstTooLong (sectionOf section) (parts (w .part .tree)) ≡ long
-          → listingRefusal section selection work (length buffer) ≡ Option·map (refusal 9) long
-      refusal-is e' =
+    -- and what building it comes to decides
+    module _ {mem mem' : List ℕ} {part : Part} (w : Buildable section selection mem 0 codes 1) (built : PartList (sectionOf section) (w .part .tree) mem' part) where
+      refusal-is : listingRefusal section selection work (length buffer) ≡ Option·map (refusal 9) (firstTooLong (sectionOf section) (parts (w .part .tree)))
+      refusal-is =
           listingRefusal-passes section selection work (length buffer) (passes .0) (passes .1)
-          ∙ ap (λ (t : Tree). Option·map (refusal 9) (firstTooLong (sectionOf section) (parts t))) (sym (whole-tree selection (w .part) e))
-          ∙ ap (Option·map (refusal 9)) e'
+          ∙ ap (λ (t : Tree). Option·map (refusal 9) (firstTooLong (sectionOf section) (parts t))) (sym (whole-tree selection (w .part) all-codes))
 
-      pub long-refuses : {place : ℕ} → part ≡ TooLong place
-          → (Refused 9 place ≡ listingAnswer section selection work (length buffer)) × (buffer ≡ listingBuffer section selection work buffer)
-      long-refuses {place} t = refuses 9 place (refusal-is (built .long place t))
+      pub building-refuses : {r : Refusal} → part ≡ PartRefused r
+          → (Refused r ≡ listingAnswer section selection work (length buffer)) × (buffer ≡ listingBuffer section selection work buffer)
+      building-refuses t = refuses (refusal-is ∙ built .refused _ t)
 
       pub slot : part ≡ Built → SlotHolds mem' 0 (completeList section selection)
-      slot t = subst (λ (u : Tree). SlotHolds mem' 0 (allMatches (sectionOf section) u)) (whole-tree selection (w .part) e) (built .slot t)
+      slot t = subst (λ (u : Tree). SlotHolds mem' 0 (allMatches (sectionOf section) u)) (whole-tree selection (w .part) all-codes) (built .slot t)
 
       pub built-lists : {answer : Listing} {buffer' : List ℕ} → part ≡ Built
           → ((s : SlotAt mem' 0) → answer ≡ listed (s .list))
@@ -106,4 +106,4 @@ module _ (section selection : List ℕ) (work : ℕ) (buffer : List ℕ) where
           → (answer ≡ listingAnswer section selection work (length buffer)) × (buffer' ≡ listingBuffer section selection work buffer)
       built-lists t ea eb =
           let at : SlotAt mem' 0 = record { list = completeList section selection; slot = slot t } in
-          lists (refusal-is (built .fine t)) (ea at) (eb at)
+          lists (refusal-is ∙ ap (Option·map (refusal 9)) (built .fine t)) (ea at) (eb at)

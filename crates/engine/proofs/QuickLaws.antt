@@ -11,30 +11,34 @@ use Rattle.model.specs.declared.Checked.{Checked}
 use Rattle.model.specs.declared.Checked.the-variants.{Accepted, Refused as CheckedRefused}
 use Rattle.model.specs.declared.Quick.{Quick}
 use Rattle.model.specs.declared.Quick.the-variants.{Refused}
+use Rattle.model.specs.declared.Refusal.{Refusal}
 use Rattle.model.specs.Answers.{checkedOf, quickAnswer}
 use Rattle.model.specs.Checks.{refusal, inputRefusal, quickChecks, roomRefusal}
 use Rattle.model.specs.Accepted.{Passes}
 use Rattle.model.specs.Limits.{workLength}
 use Rattle.model.specs.Section.{sectionOf, size}
 use Rattle.model.specs.Walk.{walk}
-use Rattle.model.proofs.AnswersLaws.{checked-accepted}
+use Rattle.model.proofs.AnswersLaws.{checked-accepted, checked-refused}
 use Rattle.model.proofs.ChecksLaws.{otherwise-none}
 use Rattle.model.proofs.TestsLaws.{cond-none}
 use Rattle.walking.specs.Walkable.{Walkable}
-use Rattle.engine.proofs.WholeLaws.{refused-by, whole-walked, whole-tree}
+use Rattle.engine.proofs.WholeLaws.{whole-walked, whole-tree}
 
 module _ (section selection : List ℕ) (work : ℕ) where
   -- a refusal of the checks is the call's
-  pub checks-refuse : {checked : Checked} {answer : Quick} {number place : ℕ} → checked ≡ checkedOf (quickChecks section selection work)
-      → checked ≡ CheckedRefused number place
-      → answer ≡ Refused number place
-      → answer ≡ quickAnswer section selection work
+  pub checks-refuse : {checked : Checked} {r q : Refusal} → checked ≡ checkedOf (size selection) (quickChecks section selection work)
+      → checked ≡ CheckedRefused q
+      → r ≡ q
+      → Refused r ≡ quickAnswer section selection work
   unfolding quickAnswer
-  checks-refuse {checked} {answer} {number} {place} told e a = rw (a, refused-by (quickChecks section selection work) number place (sym told ∙ e))
+  checks-refuse told e a = rw (a, checked-refused (size selection) (quickChecks section selection work) (sym told ∙ e))
 
-  module _ {checked : Checked} (told : checked ≡ checkedOf (quickChecks section selection work)) (accepted : checked ≡ Accepted) where
+  module _ {checked : Checked} {codes : ℕ} (told : checked ≡ checkedOf (size selection) (quickChecks section selection work)) (accepted : checked ≡ Accepted codes) where
     none-refuses : quickChecks section selection work ≡ none
-    none-refuses = checked-accepted (quickChecks section selection work) (sym told ∙ accepted)
+    none-refuses = checked-accepted (size selection) (quickChecks section selection work) (sym told ∙ accepted) .0
+
+    all-codes : codes ≡ size selection
+    all-codes = checked-accepted (size selection) (quickChecks section selection work) (sym told ∙ accepted) .1
 
     passes : Passes section selection work
     unfolding quickChecks
@@ -43,12 +47,12 @@ module _ (section selection : List ℕ) (work : ℕ) where
         record { checks = both .0; enough = leb-true workLength work (cond-none (leb workLength work) (refusal 8 0) (both .1)) }
 
     -- the whole can be walked
-    pub ready : {hi : ℕ} (mem : List ℕ) → hi ≡ size selection → length mem ≡ work → Walkable section selection mem hi
-    ready mem e long = rw e (whole-walked section selection (passes .checks) mem (omega (arith, passes .enough, long)))
+    pub ready : (mem : List ℕ) → length mem ≡ work → Walkable section selection mem codes
+    ready mem long = rw all-codes (whole-walked section selection (passes .checks) mem (omega (arith, passes .enough, long)))
 
     -- and its walk is the answer
-    pub walk-answers : {mem : List ℕ} {hi : ℕ} {answer : Quick} → hi ≡ size selection → (w : Walkable section selection mem hi)
+    pub walk-answers : {mem : List ℕ} {answer : Quick} (w : Walkable section selection mem codes)
         → answer ≡ walk (sectionOf section) (w .part .tree)
         → answer ≡ quickAnswer section selection work
     unfolding quickAnswer
-    walk-answers e w a = rw none-refuses (a ∙ ap (walk (sectionOf section)) (whole-tree selection (w .part) e))
+    walk-answers w a = rw none-refuses (a ∙ ap (walk (sectionOf section)) (whole-tree selection (w .part) all-codes))

@@ -1,14 +1,12 @@
 -- Where the checks pass, the whole selection is a part that can be built and walked.
 use Prim.Native.Nat.{ℕ, _≤_}
 use native.Mathlib.Omega.{arith}
-use mathlib.Core.Path.{_≡_, refl, sym, ap, ap₂, _∙_}
+use mathlib.Core.Path.{_≡_, refl, sym, ap, _∙_}
 use mathlib.Core.List.{List, []}
-use mathlib.Core.Option.{Option, some, none}
+use mathlib.Core.Option.{none}
 use lib.ListN.{length}
-use Rattle.model.specs.declared.Checked.the-variants.{Refused}
 use Rattle.model.specs.Accepted.{AcceptedSection, AcceptedSelection}
-use Rattle.model.specs.Answers.{checkedOf}
-use Rattle.model.specs.Checks.{Refusal, refusal, inputRefusal, sectionRefusal, selectionRefusal}
+use Rattle.model.specs.Checks.{inputRefusal, sectionRefusal, selectionRefusal}
 use Rattle.model.specs.Limits.{workLength}
 use Rattle.model.specs.Parts.{PartAt, spelled, phrasesAll}
 use Rattle.model.specs.Section.{size}
@@ -18,14 +16,6 @@ use Rattle.model.proofs.ChecksLaws.{otherwise-none, accepted-section, accepted-
 use Rattle.model.proofs.PartsLaws.{part-start, part-read}
 use Rattle.building.specs.State.{Buildable}
 use Rattle.walking.specs.Walkable.{Walkable}
-
--- a refusal of the checks, by its numbers
-pub refused-by : (o : Option Refusal) (number place : ℕ) → checkedOf o ≡ Refused number place → o ≡ some (refusal number place)
-refused-by none number place e = let z : _≡_ {A = ℕ} 0 1 = cc in absurd (omega arith)
-refused-by (some r) number place e =
-    let n : r .number ≡ number = cc in
-    let p : r .place ≡ place = cc in
-    ap₂ (λ (a b : ℕ). some (refusal a b)) n p
 
 module _ (section selection : List ℕ) (passes : inputRefusal section selection ≡ none) where
   pub section-accepted : AcceptedSection section

@@ -5,28 +5,12 @@ use model::Listing;
 use model::Position;
 use model::Quick;
 ghost use mathlib.Core.Path.{_≡_};
-ghost use Prim.Native.Nat.{ℕ, _≤_};
+ghost use Prim.Native.Nat.{_≤_};
 ghost use lib.ListN.{length};
 ghost use lib.Seq.{sets};
-ghost use Rattle.model.specs.Answers.{listed as listedOf, listingAnswer, listingBuffer, listingNumbers, quickAnswer, snippetOf};
+ghost use Rattle.model.specs.Answers.{listed as listedOf, listingAnswer, listingBuffer, listingNumbers, listingValues, quickAnswer, quickValues, snippetOf, snippetStart, standsAt};
 ghost use Rattle.model.specs.Limits.{bufferLength};
-ghost use Rattle.model.specs.declared.Checked.the-variants.{Refused as CheckedRefused};
-ghost use Rattle.model.specs.declared.Listing.the-variants.{Refused as ListingRefused};
-ghost use Rattle.model.specs.declared.Quick.the-variants.{Refused as QuickRefused};
 ghost use Rattle.store.specs.Slot.{SlotAt};
-
-// A refusal of the checks, passed up by the full listing.
-fn refused_listing(checked: Checked) -> Listing
-    ensures { λ r. ⌜ ((number place : ℕ) → checked ≡ CheckedRefused number place → r ≡ ListingRefused number place) ⌝ }
-{
-    match checked {
-        Checked::Accepted => Listing::Refused {
-            number: 0,
-            place: 0,
-        },
-        Checked::Refused { number, place } => Listing::Refused { number, place },
-    }
-}
 
 // The list in the first slot, put in the buffer and answered for.
 fn listed(work: &[u32], buffer: &mut [u32]) -> Listing
@@ -37,9 +21,11 @@ fn listed(work: &[u32], buffer: &mut [u32]) -> Listing
 {
     output::put_listing(work, 0, buffer);
     let yes = output::is_yes(work, 0);
+    let matches = work[0];
+    let strings = work[1];
     Listing::Listed {
-        matches: work[0],
-        strings: work[1],
+        matches,
+        strings,
         yes,
     }
 }
@@ -48,48 +34,36 @@ fn listed(work: &[u32], buffer: &mut [u32]) -> Listing
 // arrays of S". Working memory may end holding anything.
 pub fn listing(section: &[u32], selection: &[u32], work: &mut [u32], buffer: &mut [u32]) -> Listing
     ensures { λ r. ⌜ r ≡ listingAnswer (now (section .entry)) (now (selection .entry)) (length (now (work .entry))) (length (now (buffer .entry))) ⌝ }
+    ensures { λ r. ⌜ listingValues r ≡ listingValues (listingAnswer (now (section .entry)) (now (selection .entry)) (length (now (work .entry))) (length (now (buffer .entry)))) ⌝ }
     ensures { λ _. ⌜ now (buffer .exit) ≡ listingBuffer (now (section .entry)) (now (selection .entry)) (length (now (work .entry))) (now (buffer .entry)) ⌝ }
 {
     let checked = checks::check_listing(section, selection, work.len(), buffer.len());
-    let Checked::Accepted = checked else {
-        return refused_listing(checked);
+    let Checked::Accepted { size: codes } = checked else {
+        return Listing::Refused(checks::refusal_of(checked));
     };
-    let codes = lent::number_at(selection, 0);
     let part = building::build(section, selection, work, 0, codes, 1);
-    if let Part::TooLong { place } = part {
-        return Listing::Refused { number: 9, place };
+    if let Part::Refused(refusal) = part {
+        return Listing::Refused(refusal);
     }
     listed(work, buffer)
-}
-
-// A refusal of the checks, passed up by the quick answer.
-fn refused_quick(checked: Checked) -> Quick
-    ensures { λ r. ⌜ ((number place : ℕ) → checked ≡ CheckedRefused number place → r ≡ QuickRefused number place) ⌝ }
-{
-    match checked {
-        Checked::Accepted => Quick::Refused {
-            number: 0,
-            place: 0,
-        },
-        Checked::Refused { number, place } => Quick::Refused { number, place },
-    }
 }
 
 // The quick answer: "It reports how many codes of kind 1 to 15 it walked or built." Working memory may end holding anything.
 pub fn quick(section: &[u32], selection: &[u32], work: &mut [u32]) -> Quick
     ensures { λ r. ⌜ r ≡ quickAnswer (now (section .entry)) (now (selection .entry)) (length (now (work .entry))) ⌝ }
+    ensures { λ r. ⌜ quickValues r ≡ quickValues (quickAnswer (now (section .entry)) (now (selection .entry)) (length (now (work .entry)))) ⌝ }
 {
     let checked = checks::check_quick(section, selection, work.len());
-    let Checked::Accepted = checked else {
-        return refused_quick(checked);
+    let Checked::Accepted { size: codes } = checked else {
+        return Quick::Refused(checks::refusal_of(checked));
     };
-    let codes = lent::number_at(selection, 0);
     walking::walk(section, selection, work, codes)
 }
 
 // The snippet: "the word numbers of those positions, as a part of the lent section".
 pub fn snippet(section: &[u32], from: Position, to: Position) -> &[u32]
     ensures { λ r. ⌜ now r ≡ snippetOf (now (section .entry)) (from .0) (to .0) ⌝ }
+    ensures { λ r. ⌜ r .ptr ≡ standsAt (section .entry .ptr) (snippetStart (now (section .entry)) (from .0) (to .0)) ⌝ }
 {
     section::snippet(section, from, to)
 }

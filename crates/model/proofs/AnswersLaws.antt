@@ -13,8 +13,9 @@ use Rattle.model.specs.declared.Fault.the-variants.{At, Nowhere}
 use Rattle.model.specs.declared.Listing.the-variants.{Listed, Refused}
 use Rattle.model.specs.declared.Quick.{Quick}
 use Rattle.model.specs.declared.Quick.the-variants.{Answered}
-use Rattle.model.specs.Answers.{faultOf, checkedOf, isAccepted, completeList, listingRefusal, answerUnless, listingAnswer, spansIn, tagsIn, spanOf, tagOf, listingNumbers, listingBuffer, walkUnless, quickAnswer}
-use Rattle.model.specs.Checks.{Refusal, refusal, roomRefusal, inputRefusal, listingChecks, quickChecks}
+use Rattle.model.specs.declared.Refusal.{Refusal}
+use Rattle.model.specs.Answers.{faultOf, checkedOf, completeList, listingRefusal, answerUnless, listingAnswer, spansIn, tagsIn, spanOf, tagOf, listingNumbers, listingBuffer, walkUnless, quickAnswer}
+use Rattle.model.specs.Checks.{refusal, roomRefusal, inputRefusal, listingChecks, quickChecks}
 use Rattle.model.specs.Accepted.{Passes}
 use Rattle.model.specs.Limits.{maxMatches, maxStrings, workLength, bufferLength}
 use Rattle.model.specs.Matches.{Str, Match, isYes, stringsIn, strings, tooLong}
@@ -36,13 +37,13 @@ pub fault-nowhere : (o : Option ℕ) → faultOf o ≡ Nowhere → o ≡ none
 fault-nowhere (some p) e = let z : _≡_ {A = ℕ} 0 1 = cc in absurd (omega arith)
 fault-nowhere none e = refl
 
-pub checked-accepted : (o : Option Refusal) → checkedOf o ≡ Accepted → o ≡ none
-checked-accepted (some r) e = let z : _≡_ {A = ℕ} 0 1 = cc in absurd (omega arith)
-checked-accepted none e = refl
+pub checked-accepted : (size : ℕ) (o : Option Refusal) {n : ℕ} → checkedOf size o ≡ Accepted n → (o ≡ none) × (n ≡ size)
+checked-accepted size (some r) e = let z : _≡_ {A = ℕ} 0 1 = cc in absurd (omega arith)
+checked-accepted size none e = (refl, cc)
 
-pub checked-refused : (o : Option Refusal) (number place : ℕ) → checkedOf o ≡ CheckedRefused number place → isAccepted o ≡ false
-checked-refused (some r) number place e = refl
-checked-refused none number place e = let z : _≡_ {A = ℕ} 0 1 = cc in absurd (omega arith)
+pub checked-refused : (size : ℕ) (o : Option Refusal) {r : Refusal} → checkedOf size o ≡ CheckedRefused r → o ≡ some r
+checked-refused size (some q) e = cc
+checked-refused size none e = let z : _≡_ {A = ℕ} 0 1 = cc in absurd (omega arith)
 
 -- ---- tooLong
 
@@ -64,9 +65,9 @@ answerUnless-listed : (r : Option Refusal) (ms : List Match) (m k : ℕ) (y : Bo
 answerUnless-listed none ms m k y e = (refl, cc, cc, cc)
 answerUnless-listed (some r) ms m k y e = let z : _≡_ {A = ℕ} 0 1 = cc in absurd (omega arith)
 
-answerUnless-refused : (o : Option Refusal) (ms : List Match) (n c : ℕ) → answerUnless o ms ≡ Refused n c → (r : Refusal) × (o ≡ some r)
-answerUnless-refused none ms n c e = let z : _≡_ {A = ℕ} 0 1 = cc in absurd (omega arith)
-answerUnless-refused (some r) ms n c e = (r, refl)
+answerUnless-refused : (o : Option Refusal) (ms : List Match) (r : Refusal) → answerUnless o ms ≡ Refused r → o ≡ some r
+answerUnless-refused none ms r e = let z : _≡_ {A = ℕ} 0 1 = cc in absurd (omega arith)
+answerUnless-refused (some q) ms r e = cc
 
 module _ (section selection : List ℕ) (work buffer : ℕ) where
   pub listingRefusal-passes : Passes section selection work → bufferLength ≤ buffer
@@ -128,11 +129,10 @@ length-listingNumbers ms = simp (length-append, length-map, length-spans, length
 
 module _ (section selection : List ℕ) (work : ℕ) (buffer : List ℕ) where
   -- A call that refuses leaves the buffer unchanged; one that lists puts the complete list's numbers at its front.
-  pub listingBuffer-refused : (number place : ℕ) → listingAnswer section selection work (length buffer) ≡ Refused number place
+  pub listingBuffer-refused : (r : Refusal) → listingAnswer section selection work (length buffer) ≡ Refused r
       → listingBuffer section selection work buffer ≡ buffer
   unfolding listingAnswer listingBuffer
-  listingBuffer-refused number place e =
-      rw (answerUnless-refused (listingRefusal section selection work (length buffer)) (completeList section selection) number place e .1)
+  listingBuffer-refused r e = rw (answerUnless-refused (listingRefusal section selection work (length buffer)) (completeList section selection) r e)
 
   pub listingBuffer-listed : listingRefusal section selection work (length buffer) ≡ none
       → listingBuffer section selection work buffer

@@ -12,13 +12,14 @@ use lib.ListN.{length}
 use borrow.Author.Tests.{eqb-true, eq-eqb, ne-eqb, ltb-false, le-ltb, leb-false, not-false}
 use Rattle.model.specs.declared.Code.{Code}
 use Rattle.model.specs.declared.Code.the-variants.{Word, Phrase, Combine, Not, Filter as Filtered}
+use Rattle.model.specs.declared.Refusal.{Refusal}
 use Rattle.model.specs.Limits.{maxTokens, maxCodes, maxWaiting}
 use Rattle.model.specs.Lists.{allOf, anyOf, first, fromTo}
 use Rattle.model.specs.Section.{size, wellSized, sentenceAt, paragraphAt}
 use Rattle.model.specs.Selection.{kindAt, operandAt, codeOf, codeAt, codesOf}
 use Rattle.model.specs.Trees.{Tree, phrase, pair, negation, filter, placeOf, topTree, treeOf, parts}
 use Rattle.model.specs.Parts.{isNotCode, hasWords, postfix, placed, wellFormed, PartAt, spelled, phrasesAll}
-use Rattle.model.specs.Checks.{Refusal, refusal, otherwise, Check, tried, wrongSection, faultyIn, faultyAt, faultyPosition, sectionRefusal, wrongSelection, unknownKind}
+use Rattle.model.specs.Checks.{refusal, otherwise, Check, tried, wrongSection, faultyIn, faultyAt, faultyPosition, sectionRefusal, wrongSelection, unknownKind}
 use Rattle.model.specs.Checks.{operandFits, wrongOperand, wrongShape, isNot, hasNot, mildOverNot, notUnderMildNot, selectionRefusal}
 use Rattle.model.specs.Accepted.{ReportedOrNot, AcceptedSection, maxPhrases, AcceptedSelection}
 use Rattle.model.proofs.ListsLaws.{any-append, first-range-none, range-first-none}

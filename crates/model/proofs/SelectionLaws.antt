@@ -6,7 +6,7 @@ use native.Mathlib.Omega.{arith}
 use mathlib.Core.Path.{_≡_, refl, sym, ap, ap₂, subst, _∙_}
 use mathlib.Core.Bool.{Bool, true, false, cond}
 use mathlib.Core.List.{List, [], _∷_, _++_, map, map-append, append-assoc, append-nil}
-use lib.Dec.{eqb}
+use lib.Dec.{eqb, leb}
 use lib.ListN.{length, take, drop, getD, length-append}
 use lib.Seq.{take-at, take-append-seam, drop-cons, append-snoc, getD-at, getD-append-seam}
 use borrow.Author.Tests.{eqb-true, eqb-false}
@@ -19,7 +19,7 @@ use Rattle.model.specs.declared.Pair.the-variants.{Or, And, MildNot}
 use Rattle.model.specs.Limits.{radix}
 use Rattle.model.specs.Lists.{allOf, upFrom}
 use Rattle.model.specs.Selection.{kindOf, operandOf, filterOf, codeOf, upTo}
-use Rattle.model.specs.Checks.{operandFits}
+use Rattle.model.specs.Checks.{operandFits, filterOperandFits}
 use Rattle.model.specs.Parts.{mostOf}
 use Rattle.model.proofs.ListsLaws.{all-append}
 use Rattle.model.proofs.ListsLaws.{upFrom-snoc}
@@ -48,7 +48,7 @@ kind-code k o h = below (λ n. kindOf (codeOf n o) ≡ n) 16 (search) k (omega a
 
 -- and the operand, where that fits the kind: kinds 0, 1 and 7 keep it, 8 keeps it as two numbers, the others have none
 pub operand-code : (k o : ℕ) → k ≤ 15 → operandFits k o ≡ true → operandOf (codeOf k o) ≡ o
-unfolding Below operandFits
+unfolding Below operandFits filterOperandFits
 operand-code k o h f = below (λ n. operandFits n o ≡ true → operandOf (codeOf n o) ≡ o) 16 each k (omega arith) f
   where
     kept : {b : Bool} → b ≡ true → o ≡ o
@@ -92,10 +92,11 @@ codeOf-cases P k o w p c n f =
     cond-cases P (eqb k 0) _ _ (λ e. w (eqb-true k 0 e)) (λ z.
     let h : 1 ≤ k = positive k z in
     cond-cases P (eqb k 1) _ _ (λ e. p (eqb-true k 1 e)) (λ _.
+    cond-cases P (leb k 5) _ _ (λ _.
     cond-cases P (eqb k 2) _ _ (λ _. c h Or) (λ _.
     cond-cases P (eqb k 3) _ _ (λ _. c h And) (λ _.
-    cond-cases P (eqb k 4) _ _ (λ _. n h) (λ _.
-    cond-cases P (eqb k 5) _ _ (λ _. c h MildNot) (λ _. f h (filterOf k o)))))))
+    cond-cases P (eqb k 4) _ _ (λ _. n h) (λ _. c h MildNot)))) (λ _.
+    cond-cases P (leb k 15) _ _ (λ _. f h (filterOf k o)) (λ _. f h EntireContent))))
   where
     cond-cases : (P : Code → Type 0) (b : Bool) (x y : Code) → (b ≡ true → P x) → (b ≡ false → P y) → P (cond b x y)
     cond-cases P true x y t e = t refl

@@ -10,7 +10,9 @@ use mathlib.Core.Option.{Option, some, none, Option·map, orElse, map-eq-none-if
 use lib.ListN.{length, length-append}
 use Rattle.model.specs.declared.Pair.the-variants.{Or, And, MildNot}
 use Rattle.model.specs.declared.Quick.the-variants.{Answered, Refused}
+use Rattle.model.specs.declared.Refusal.{Refusal}
 use Rattle.model.specs.AllMatches.{allMatches}
+use Rattle.model.specs.Checks.{refusal}
 use Rattle.model.specs.Lists.{first}
 use Rattle.model.specs.Matches.{isYes, tooLong}
 use Rattle.model.specs.Section.{Section}
@@ -59,20 +61,20 @@ firstTooLong-whole s t e =
 
 -- ---- unlessTooLong
 
-pub unlessTooLong-refused : (f : Option ℕ) (b : Bool) (k c : ℕ) → (unlessTooLong f b k ≡ Refused 9 c) ↔ (f ≡ some c)
+pub unlessTooLong-refused : (f : Option ℕ) (b : Bool) (k c : ℕ) → (unlessTooLong f b k ≡ Refused (refusal 9 c)) ↔ (f ≡ some c)
 unlessTooLong-refused none b k c = (λ e. cc, λ e. cc)
-unlessTooLong-refused (some d) b k c = (λ e. cc, λ e. cc)
+unlessTooLong-refused (some d) b k c = (λ e. let same : refusal 9 d ≡ refusal 9 c = cc in ap (λ (r : Refusal). some (r .place)) same, λ e. cc)
 
-pub unlessTooLong-nine : (f : Option ℕ) (b : Bool) (k n c : ℕ) → unlessTooLong f b k ≡ Refused n c → n ≡ 9
-unlessTooLong-nine none b k n c e = cc
-unlessTooLong-nine (some d) b k n c e = cc
+pub unlessTooLong-nine : (f : Option ℕ) (b : Bool) (k : ℕ) (r : Refusal) → unlessTooLong f b k ≡ Refused r → r .number ≡ 9
+unlessTooLong-nine none b k r e = cc
+unlessTooLong-nine (some d) b k r e = let same : r ≡ refusal 9 d = cc in ap (λ (q : Refusal). q .number) same
 
 pub unlessTooLong-answered : (f : Option ℕ) (b y : Bool) (k n : ℕ) → unlessTooLong f b k ≡ Answered y n → (y ≡ b) × (n ≡ k)
 unlessTooLong-answered none b y k n e = (cc, cc)
 unlessTooLong-answered (some d) b y k n e = (cc, cc)
 
 pub unlessTooLong-either : (f : Option ℕ) (b : Bool) (k : ℕ)
-    → ((y : Bool) × (n : ℕ) × (unlessTooLong f b k ≡ Answered y n)) ⊎ ((c : ℕ) × (unlessTooLong f b k ≡ Refused 9 c))
+    → ((y : Bool) × (n : ℕ) × (unlessTooLong f b k ≡ Answered y n)) ⊎ ((c : ℕ) × (unlessTooLong f b k ≡ Refused (refusal 9 c)))
 unlessTooLong-either none b k = inl (b, k, refl)
 unlessTooLong-either (some c) b k = inr (c, refl)
 

@@ -13,8 +13,9 @@ use Rattle.model.specs.declared.Listing.{Listing}
 use Rattle.model.specs.declared.Listing.the-variants.{Listed, Refused as ListingRefused}
 use Rattle.model.specs.declared.Quick.{Quick}
 use Rattle.model.specs.declared.Quick.the-variants.{Answered, Refused as QuickRefused}
+use Rattle.model.specs.declared.Refusal.{Refusal}
 use Rattle.model.specs.AllMatches.{allMatches}
-use Rattle.model.specs.Checks.{Refusal, refusal, otherwise, sectionRefusal, listingChecks, quickChecks}
+use Rattle.model.specs.Checks.{refusal, otherwise, sectionRefusal, listingChecks, quickChecks}
 use Rattle.model.specs.Limits.{radix}
 use Rattle.model.specs.Matches.{Str, Match, isYes, stringsIn, strings}
 use Rattle.model.specs.Section.{size, sectionOf}
@@ -26,10 +27,10 @@ abbrev pub faultOf : Option ℕ → Fault
 faultOf (some place) = At place
 faultOf none = Nowhere
 
--- a refusal, or none, as the checks' answer
-abbrev pub checkedOf : Option Refusal → Checked
-checkedOf (some r) = CheckedRefused (r .number) (r .place)
-checkedOf none = Accepted
+-- A refusal, or none, as the checks' answer: where none falls, the size of what was checked.
+abbrev pub checkedOf : ℕ → Option Refusal → Checked
+checkedOf size (some r) = CheckedRefused r
+checkedOf size none = Accepted size
 
 -- The complete AllMatches of lent slices.
 abbrev pub completeList : List ℕ → List ℕ → List Match
@@ -46,7 +47,7 @@ abbrev pub listed : List Match → Listing
 listed ms = Listed (length ms) (strings ms) (isYes ms)
 
 abbrev pub answerUnless : Option Refusal → List Match → Listing
-answerUnless (some r) ms = ListingRefused (r .number) (r .place)
+answerUnless (some r) ms = ListingRefused r
 answerUnless none ms = listed ms
 
 unfoldable pub listingAnswer : List ℕ → List ℕ → ℕ → ℕ → Listing
@@ -84,7 +85,7 @@ listingBuffer section selection work buffer =
 
 -- The quick answer: refusals 1 to 8, then the walk.
 abbrev pub walkUnless : Option Refusal → Quick → Quick
-walkUnless (some r) walked = QuickRefused (r .number) (r .place)
+walkUnless (some r) walked = QuickRefused r
 walkUnless none walked = walked
 
 unfoldable pub quickAnswer : List ℕ → List ℕ → ℕ → Quick
@@ -98,17 +99,25 @@ abbrev pub isAccepted : Option Refusal → Bool
 isAccepted (some r) = false
 isAccepted none = true
 
+abbrev pub hasPositions : List ℕ → ℕ → ℕ → Bool
+hasPositions section from to = isAccepted (sectionRefusal section) && leb 1 from && leb from to && leb to (size section)
+
 unfoldable pub snippetOf : List ℕ → ℕ → ℕ → List ℕ
-snippetOf section from to =
-    cond (isAccepted (sectionRefusal section) && leb 1 from && leb from to && leb to (size section))
-    (take (to + 1 - from) (drop from section))
-    []
+snippetOf section from to = cond (hasPositions section from to) (take (to + 1 - from) (drop from section)) []
+
+-- The index in the section at which it starts. An empty part starts at 0.
+unfoldable pub snippetStart : List ℕ → ℕ → ℕ → ℕ
+snippetStart section from to = cond (hasPositions section from to) from 0
+
+-- Where the number at an index of a lent slice stands. A place in memory is a block and an offset in bytes; a number takes four.
+abbrev pub standsAt : ℕ × ℕ → ℕ → ℕ × ℕ
+standsAt start index = (start .0, index * 4 + start .1)
 
 -- What each case of a call's answer says, in document 01's numbers: a refusal's number and place; for what is given 0, and its values.
 abbrev pub listingValues : Listing → List ℕ
 listingValues (Listed matches strs answer) = 0 ∷ matches ∷ strs ∷ cond answer 1 0 ∷ []
-listingValues (ListingRefused number place) = number ∷ place ∷ []
+listingValues (ListingRefused r) = r .number ∷ r .place ∷ []
 
 abbrev pub quickValues : Quick → List ℕ
 quickValues (Answered answer codes) = 0 ∷ cond answer 1 0 ∷ codes ∷ []
-quickValues (QuickRefused number place) = number ∷ place ∷ []
+quickValues (QuickRefused r) = r .number ∷ r .place ∷ []

@@ -5,6 +5,7 @@ use mathlib.Core.List.{List, [], _∷_}
 use mathlib.Core.Option.{Option, some, none, Option·map}
 use lib.Dec.{leb, ltb, eqb}
 use Rattle.model.specs.declared.Pair.the-variants.{Or, And, MildNot}
+use Rattle.model.specs.declared.Refusal.{Refusal}
 use Rattle.model.specs.Limits.{maxTokens, maxCodes, maxWaiting, maxWindow, maxDistance, workLength, bufferLength, radix}
 use Rattle.model.specs.Lists.{anyOf, first, fromTo}
 use Rattle.model.specs.Section.{size, wellSized, sentenceAt, paragraphAt}
@@ -13,10 +14,6 @@ use Rattle.model.specs.Waiting.{firstBreak}
 use Rattle.model.specs.Trees.{Tree, phrase, pair, negation, filter, placeOf, treeOf, parts}
 
 -- a refusal by number and place
-pub record Refusal : Type 0 where
-  pub number : ℕ
-  pub place : ℕ
-
 abbrev pub refusal : ℕ → ℕ → Refusal
 refusal number place = record { number = number; place = place }
 
@@ -58,14 +55,20 @@ unfoldable pub unknownKind : List ℕ → Option ℕ
 unknownKind selection = first (λ c. leb 16 (kindAt selection c)) (fromTo 1 (size selection))
 
 -- 5, first such code: "operand outside the table"
--- "k, 1 to 8"; "N, 1 to 4,096"; "a × 65,536 + b, a ≤ b ≤ 4,095"; any word number; 0 for the rest
+-- of a filter: "N, 1 to 4,096"; "a × 65,536 + b, a ≤ b ≤ 4,095"; 0 for the rest
+unfoldable pub filterOperandFits : ℕ → ℕ → Bool
+filterOperandFits kind operand =
+    cond (eqb kind 7) (leb 1 operand && leb operand maxWindow)
+    (cond (eqb kind 8) (leb (operand / radix) (operand % radix) && leb (operand % radix) maxDistance)
+    (eqb operand 0))
+
+-- any word number; "k, 1 to 8"; 0 for a combination. An unknown kind has no row in the table, and is refused before its operand is asked for.
 unfoldable pub operandFits : ℕ → ℕ → Bool
 operandFits kind operand =
     cond (eqb kind 0) true
     (cond (eqb kind 1) (leb 1 operand && leb operand maxWaiting)
-    (cond (eqb kind 7) (leb 1 operand && leb operand maxWindow)
-    (cond (eqb kind 8) (leb (operand / radix) (operand % radix) && leb (operand % radix) maxDistance)
-    (eqb operand 0))))
+    (cond (leb kind 5) (eqb operand 0)
+    (cond (leb kind 15) (filterOperandFits kind operand) true)))
 
 unfoldable pub wrongOperand : List ℕ → Option ℕ
 wrongOperand selection = first (λ c. not (operandFits (kindAt selection c) (operandAt selection c))) (fromTo 1 (size selection))

@@ -12,7 +12,7 @@ use Rattle.model.specs.declared.Quick.{Quick}
 use Rattle.model.specs.declared.Quick.the-variants.{Answered, Refused as QuickRefused}
 use Rattle.model.specs.AllMatches.{filterList, allMatches}
 use Rattle.model.specs.Answers.{completeList, listingRefusal, listingAnswer, listingNumbers, listingBuffer, quickAnswer}
-use Rattle.model.specs.Checks.{tried, wrongSection, faultyAt, faultyPosition, wrongSelection, unknownKind, operandFits, wrongOperand, wrongShape, notUnderMildNot, sectionRefusal, selectionRefusal, inputRefusal, listingChecks, quickChecks}
+use Rattle.model.specs.Checks.{tried, wrongSection, faultyAt, faultyPosition, wrongSelection, unknownKind, filterOperandFits, operandFits, wrongOperand, wrongShape, notUnderMildNot, sectionRefusal, selectionRefusal, inputRefusal, listingChecks, quickChecks}
 use Rattle.model.specs.Limits.{workLength, bufferLength, radix}
 use Rattle.model.specs.Lists.{allOf, anyOf, isEmpty, keep, first, allPairs, neighbours, insertSorted, sort, upFrom, fromTo}
 use Rattle.model.specs.Matches.{Str, Match, strings}
@@ -51,19 +51,19 @@ sameMatch l m = eachSame sameStr (l .includes) (m .includes) && eachSame sameStr
 
 countsMatches : Listing → ℕ → Bool
 countsMatches (Listed m s y) m' = eqb m m'
-countsMatches (ListingRefused n c) m' = false
+countsMatches (ListingRefused r) m' = false
 
 countsStrings : Listing → ℕ → Bool
 countsStrings (Listed m s y) s' = eqb s s'
-countsStrings (ListingRefused n c) s' = false
+countsStrings (ListingRefused r) s' = false
 
 listingSays : Listing → Bool → Bool
 listingSays (Listed m s y) b = Bool·beq y b
-listingSays (ListingRefused n c) b = false
+listingSays (ListingRefused r) b = false
 
 quickSays : Quick → Bool → Bool
 quickSays (Answered y n) b = Bool·beq y b
-quickSays (QuickRefused n c) b = false
+quickSays (QuickRefused r) b = false
 
 -- the listing buffer behind the call, which was all zeros before it
 buffered : List ℕ → List ℕ → List ℕ
@@ -146,6 +146,6 @@ pub examples-hold : allOf right entries ≡ true
 unfolding eachSame sameStr sameMatch countsMatches countsStrings listingSays quickSays buffered holds right inParagraph select one six emptySection four entries
     xor allOf anyOf isEmpty keep first allPairs neighbours insertSorted sort upFrom fromTo flatMap wellSized upTo codesOf breakFrom placeOf combine wrap read readAll topTree treeOf parts strings
     standFrom phraseList andList notList mildNotList ordered leastStart greatestEnd join windowEnds window distance inUnitOf same different atStart atEnd entireContent filterList allMatches
-    tried wrongSection faultyAt faultyPosition wrongSelection unknownKind operandFits wrongOperand wrongShape notUnderMildNot sectionRefusal selectionRefusal inputRefusal listingChecks quickChecks
+    tried wrongSection faultyAt faultyPosition wrongSelection unknownKind filterOperandFits operandFits wrongOperand wrongShape notUnderMildNot sectionRefusal selectionRefusal inputRefusal listingChecks quickChecks
     firstTooLong build walk listingRefusal listingAnswer listingNumbers listingBuffer quickAnswer
 examples-hold = refl

@@ -2,7 +2,7 @@
 use Prim.Native.Nat.{ℕ, zero, suc, _+_, _*_, _/_, _%_}
 use mathlib.Core.Bool.{cond}
 use mathlib.Core.List.{List, [], _∷_, _++_}
-use lib.Dec.{eqb}
+use lib.Dec.{eqb, leb}
 use Rattle.model.specs.declared.Code.{Code}
 use Rattle.model.specs.declared.Code.the-variants.{Word, Phrase, Combine, Not, Filter as Filtered}
 use Rattle.model.specs.declared.Filter.{Filter}
@@ -59,7 +59,13 @@ operandOf (Combine k) = 0
 operandOf Not = 0
 operandOf (Filtered f) = filterOperand f
 
--- And back: "Kinds 0 and 1 are words, 2 to 5 combine, 6 to 15 filter". Kinds 16 and up are refused before their code is asked for.
+-- And back: "Kinds 0 and 1 are words, 2 to 5 combine, 6 to 15 filter, 16 and up are unknown."
+abbrev pub combinationOf : ℕ → Code
+combinationOf kind =
+    cond (eqb kind 2) (Combine Or)
+    (cond (eqb kind 3) (Combine And)
+    (cond (eqb kind 4) Not (Combine MildNot)))
+
 abbrev pub filterOf : ℕ → ℕ → Filter
 filterOf kind operand =
     cond (eqb kind 6) Ordered
@@ -72,15 +78,14 @@ filterOf kind operand =
     (cond (eqb kind 13) AtStart
     (cond (eqb kind 14) AtEnd EntireContent))))))))
 
+-- An unknown kind is refused before its code is asked for; an entire content stands for it here.
 abbrev pub codeOf : ℕ → ℕ → Code
 codeOf kind operand =
     cond (eqb kind 0) (Word operand)
     (cond (eqb kind 1) (Phrase operand)
-    (cond (eqb kind 2) (Combine Or)
-    (cond (eqb kind 3) (Combine And)
-    (cond (eqb kind 4) Not
-    (cond (eqb kind 5) (Combine MildNot)
-    (Filtered (filterOf kind operand)))))))
+    (cond (leb kind 5) (combinationOf kind)
+    (cond (leb kind 15) (Filtered (filterOf kind operand))
+    (Filtered EntireContent))))
 
 abbrev pub codeAt : List ℕ → ℕ → Code
 codeAt selection c = codeOf (kindAt selection c) (operandAt selection c)

@@ -9,6 +9,7 @@ use Rattle.model.specs.declared.Pair.the-variants.{Or, And, MildNot}
 use Rattle.model.specs.declared.Quick.{Quick}
 use Rattle.model.specs.declared.Quick.the-variants.{Answered, Refused}
 use Rattle.model.specs.AllMatches.{allMatches}
+use Rattle.model.specs.Checks.{refusal}
 use Rattle.model.specs.Lists.{first, isEmpty, keep, fromTo}
 use Rattle.model.specs.Matches.{isYes, tooLong}
 use Rattle.model.specs.Rules.{phraseList}
@@ -27,7 +28,7 @@ firstTooLong s codes = Option·map placeOf (first (isTooLong s) codes)
 -- "At kinds 5 to 15 it builds that code's whole part by the rules above, left to right, and looks for a match without excludes." "a built part,
 -- which is its code and every code below it, counts all its codes but those of kind 0."
 abbrev pub unlessTooLong : Option ℕ → Bool → ℕ → Quick
-unlessTooLong (some place) answer codes = Refused 9 place
+unlessTooLong (some place) answer codes = Refused (refusal 9 place)
 unlessTooLong none answer codes = Answered answer codes
 
 unfoldable pub build : Section → Tree → Quick
@@ -36,21 +37,21 @@ build s t = unlessTooLong (firstTooLong s (parts t)) (isYes (allMatches s t)) (l
 -- "not turns the answer round"; "each walked code counts once"; "The walk ends at its first refusal."
 abbrev pub turned : Quick → Quick
 turned (Answered answer n) = Answered (not answer) (n + 1)
-turned (Refused number place) = Refused number place
+turned (Refused r) = Refused r
 
 -- "`or` walks its left side, then its right only after a no"
 abbrev pub orWalk : Quick → Quick → Quick
 orWalk (Answered true n) right = Answered true (n + 1)
 orWalk (Answered false n) (Answered answer k) = Answered answer (n + k + 1)
-orWalk (Answered false n) (Refused number place) = Refused number place
-orWalk (Refused number place) right = Refused number place
+orWalk (Answered false n) (Refused r) = Refused r
+orWalk (Refused r) right = Refused r
 
 -- "`and` its left side, then its right only after a yes"
 abbrev pub andWalk : Quick → Quick → Quick
 andWalk (Answered false n) right = Answered false (n + 1)
 andWalk (Answered true n) (Answered answer k) = Answered answer (n + k + 1)
-andWalk (Answered true n) (Refused number place) = Refused number place
-andWalk (Refused number place) right = Refused number place
+andWalk (Answered true n) (Refused r) = Refused r
+andWalk (Refused r) right = Refused r
 
 -- "a phrase is yes if its list isn't empty"
 unfoldable pub walk : Section → Tree → Quick

@@ -69,10 +69,16 @@ pub enum Fault {
     Nowhere,
 }
 
-// What the checks say of lent slices.
+// A refusal by number and place: what every answer that is refused holds.
+pub struct Refusal {
+    pub number: u32,
+    pub place: u32,
+}
+
+// What the checks say of lent slices. Accepted is given with what the caller needs next, the size of what was checked: a section's n, a selection's m.
 pub enum Checked {
-    Accepted,
-    Refused { number: u32, place: u32 },
+    Accepted { size: u32 },
+    Refused(Refusal),
 }
 
 // The full listing's answer.
@@ -82,14 +88,11 @@ pub enum Listing {
         strings: u32,
         yes: bool,
     },
-    Refused {
-        number: u32,
-        place: u32,
-    },
+    Refused(Refusal),
 }
 
 // The quick answer, with how many codes of kind 1 to 15 were walked or built.
 pub enum Quick {
     Answered { yes: bool, codes: u32 },
-    Refused { number: u32, place: u32 },
+    Refused(Refusal),
 }

@@ -1,9 +1,11 @@
 // The program `ftlist` as a function on slices: from the bytes that it reads to the bytes that it prints.
 use model::Listing;
+use model::Refusal;
 ghost use mathlib.Core.List.{[]};
 ghost use mathlib.Core.Path.{_≡_};
 ghost use Prim.Native.Nat.{_≤_};
 ghost use lib.ListN.{length, take};
+ghost use Rattle.model.specs.Checks.{refusal};
 ghost use Rattle.model.specs.declared.Listing.the-variants.{Refused};
 ghost use Rattle.text.specs.Input.{listingOf, maxNumbers, programText, sectionPart, selectionPart};
 ghost use Rattle.text.specs.Printable.{textLength};
@@ -13,13 +15,13 @@ ghost use Rattle.program.specs.Lent.{Lent};
 // "prints `refused 1 0`"
 fn print_refusal(buffer: &[u32], text: &mut [u8]) -> usize
     requires { ⌜ textLength ≤ length (now text) ⌝ }
-    ensures { λ r. ⌜ take r (now (text .exit)) ≡ listingText (Refused 1 0) [] ⌝ }
+    ensures { λ r. ⌜ take r (now (text .exit)) ≡ listingText (Refused (refusal 1 0)) [] ⌝ }
     ensures { λ r. ⌜ r ≤ length (now (text .exit)) ⌝ }
 {
-    let answer = Listing::Refused {
+    let answer = Listing::Refused(Refusal {
         number: 1,
         place: 0,
-    };
+    });
     text::put_listing_text(answer, buffer, text)
 }
 

@@ -5,6 +5,7 @@ use model::MAX_TOKENS;
 use model::Paragraph;
 use model::Position;
 use model::RADIX;
+use model::Refusal;
 use model::Sentence;
 ghost use mathlib.Core.Path.{_≡_};
 ghost use mathlib.Core.Bool.{not, true, _&&_, _||_, xor};
@@ -12,7 +13,7 @@ ghost use mathlib.Core.Option.{none};
 ghost use Prim.Native.Nat.{_+_, _*_, _≤_};
 ghost use lib.Dec.{eqb, ltb};
 ghost use lib.ListN.{length};
-ghost use Rattle.model.specs.Answers.{checkedOf, faultOf, snippetOf};
+ghost use Rattle.model.specs.Answers.{checkedOf, faultOf, snippetOf, snippetStart, standsAt};
 ghost use Rattle.model.specs.Checks.{faultyAt, faultyPosition, sectionRefusal};
 ghost use Rattle.model.specs.Limits.{maxTokens};
 ghost use Rattle.model.specs.Section.{paragraphAt, sentenceAt, size, wordAt};
@@ -133,27 +134,29 @@ fn first_faulty(section: &[u32], n: usize) -> Fault
 
 // Refusals 1 and 2, with their places.
 pub fn check_section(section: &[u32]) -> Checked
-    ensures { λ r. ⌜ r ≡ checkedOf (sectionRefusal (now (section .entry))) ⌝ }
+    ensures { λ r. ⌜ r ≡ checkedOf (size (now (section .entry))) (sectionRefusal (now (section .entry))) ⌝ }
 {
     if !lent::well_sized(section, 0, MAX_TOKENS) {
-        return Checked::Refused {
+        return Checked::Refused(Refusal {
             number: 1,
             place: 0,
-        };
+        });
     }
-    let fault = first_faulty(section, section[0] as usize);
+    let n = section[0];
+    let fault = first_faulty(section, n as usize);
     match fault {
-        Fault::At(place) => Checked::Refused { number: 2, place },
-        Fault::Nowhere => Checked::Accepted,
+        Fault::At(place) => Checked::Refused(Refusal { number: 2, place }),
+        Fault::Nowhere => Checked::Accepted { size: n },
     }
 }
 
 // The words of the positions from `from` to `to`, as a part of the section; an empty part where it isn't accepted or has no such positions.
 pub fn snippet(section: &[u32], from: Position, to: Position) -> &[u32]
     ensures { λ r. ⌜ now r ≡ snippetOf (now (section .entry)) (from .0) (to .0) ⌝ }
+    ensures { λ r. ⌜ r .ptr ≡ standsAt (section .entry .ptr) (snippetStart (now (section .entry)) (from .0) (to .0)) ⌝ }
 {
     let checked = check_section(section);
-    let Checked::Accepted = checked else {
+    let Checked::Accepted { size: n } = checked else {
         return &section[..0];
     };
     if from.0 < 1 {
@@ -162,7 +165,7 @@ pub fn snippet(section: &[u32], from: Position, to: Position) -> &[u32]
     if to.0 < from.0 {
         return &section[..0];
     }
-    if section[0] < to.0 {
+    if n < to.0 {
         return &section[..0];
     }
     let start = from.0 as usize;

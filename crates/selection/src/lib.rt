@@ -7,24 +7,15 @@ use model::Code;
 use model::Fault;
 use model::MAX_CODES;
 use model::Pair;
+use model::Refusal;
 ghost use mathlib.Core.Bool.{true};
 ghost use mathlib.Core.Path.{_≡_};
 ghost use Rattle.model.specs.Answers.{checkedOf, faultOf};
 ghost use Rattle.model.specs.Checks.{notUnderMildNot, selectionRefusal};
 ghost use Rattle.model.specs.Parts.{wellFormed};
+ghost use Rattle.model.specs.Section.{size};
 ghost use Rattle.model.specs.Selection.{codesOf};
 ghost use Rattle.selection.specs.PartCodes.{isMildNot};
-ghost use Rattle.selection.specs.Refused.{refusedAs};
-
-// A check's finding as a refusal with a number.
-fn refused(number: u32, fault: Fault) -> Checked
-    ensures { λ r. ⌜ r ≡ refusedAs number fault ⌝ }
-{
-    match fault {
-        Fault::At(place) => Checked::Refused { number, place },
-        Fault::Nowhere => Checked::Accepted,
-    }
-}
 
 fn is_mild_not(code: Code) -> bool
     ensures { λ r. ⌜ r ≡ isMildNot code ⌝ }
@@ -63,26 +54,31 @@ fn not_under_mild_not(selection: &[u32]) -> Fault
 
 // Refusals 3 to 7, each over the whole input before the next.
 pub fn check_selection(selection: &[u32]) -> Checked
-    ensures { λ r. ⌜ r ≡ checkedOf (selectionRefusal (now (selection .entry))) ⌝ }
+    ensures { λ r. ⌜ r ≡ checkedOf (size (now (selection .entry))) (selectionRefusal (now (selection .entry))) ⌝ }
 {
     if !lent::well_sized(selection, 1, MAX_CODES) {
-        return Checked::Refused {
+        return Checked::Refused(Refusal {
             number: 3,
             place: 0,
-        };
+        });
     }
     let unknown = codes::table::unknown_kind(selection);
-    let Fault::Nowhere = unknown else {
-        return refused(4, unknown);
-    };
+    if let Fault::At(place) = unknown {
+        return Checked::Refused(Refusal { number: 4, place });
+    }
     let outside = codes::table::wrong_operand(selection);
-    let Fault::Nowhere = outside else {
-        return refused(5, outside);
-    };
+    if let Fault::At(place) = outside {
+        return Checked::Refused(Refusal { number: 5, place });
+    }
     let shape = waiting::wrong_shape(selection);
-    let Fault::Nowhere = shape else {
-        return refused(6, shape);
-    };
+    if let Fault::At(place) = shape {
+        return Checked::Refused(Refusal { number: 6, place });
+    }
     let under = not_under_mild_not(selection);
-    refused(7, under)
+    if let Fault::At(place) = under {
+        return Checked::Refused(Refusal { number: 7, place });
+    }
+    Checked::Accepted {
+        size: lent::number_at(selection, 0),
+    }
 }

@@ -3,6 +3,7 @@ use super::reading::line_end;
 use model::BUFFER_LENGTH;
 use model::Listing;
 use model::Quick;
+use model::Refusal;
 use model::WORK_LENGTH;
 use text::TEXT_LENGTH;
 
@@ -41,11 +42,11 @@ fn show_answer(yes: bool, codes: u32) {
     }
 }
 
-fn show_refusal(number: u32, place: u32) {
+fn show_refusal(refusal: Refusal) {
     io::write_all(1, b"refused ");
-    io::print_decimal(1, number as u64);
+    io::print_decimal(1, refusal.number as u64);
     io::write_all(1, b" ");
-    io::print_decimal(1, place as u64);
+    io::print_decimal(1, refusal.place as u64);
     io::write_all(1, b"\n");
 }
 
@@ -55,7 +56,7 @@ fn show_quick(section: &[u32], selection: &[u32]) {
     io::write_all(1, b"quick: ");
     match quick {
         Quick::Answered { yes, codes } => show_answer(yes, codes),
-        Quick::Refused { number, place } => show_refusal(number, place),
+        Quick::Refused(refusal) => show_refusal(refusal),
     }
 }
 

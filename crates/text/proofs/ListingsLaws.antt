@@ -9,6 +9,7 @@ use lib.Seq.{sets}
 use Rattle.model.specs.Matches.{Match}
 use Rattle.model.specs.declared.Listing.{Listing}
 use Rattle.model.specs.declared.Listing.the-variants.{Listed, Refused}
+use Rattle.model.specs.declared.Refusal.{Refusal}
 use Rattle.model.proofs.AnswersLaws.{length-listingNumbers}
 use Rattle.store.specs.Put.{Put}
 use Rattle.store.proofs.PutLaws.{put-append, length-put}
@@ -67,10 +68,10 @@ pub record PutText (a b : List ℕ) (text : List ℕ) (r : ℕ) : Type 0 where
 put-text : {a b : List ℕ} {r : ℕ} {text : List ℕ} (xs : List ℕ) → text ≡ xs → Put a b 0 xs r → PutText a b text r
 put-text {a} xs e v = record { wrote = v .wrote ∙ ap (sets a 0) (sym e); length-is = omega (arith, v .next-is, ap length e) }
 
-pub text-refused : {answer : Listing} {a b : List ℕ} {r : ℕ} (number place : ℕ) → answer ≡ Refused number place
-    → Put a b 0 (headText (bytes "refused ") number place) r → (ms : List Match) → PutText a b (listingText answer ms) r
+pub text-refused : {answer : Listing} {a b : List ℕ} {n : ℕ} (r : Refusal) → answer ≡ Refused r
+    → Put a b 0 (headText (bytes "refused ") (r .number) (r .place)) n → (ms : List Match) → PutText a b (listingText answer ms) n
 unfolding listingText
-text-refused number place e v ms = put-text _ (ap (λ x. listingText x ms) e) v
+text-refused r e v ms = put-text _ (ap (λ x. listingText x ms) e) v
 
 pub text-listed : {answer : Listing} {buffer a b : List ℕ} {r matches strs : ℕ} {said : Bool} → answer ≡ Listed matches strs said
     → Put a b 0 (listedText said matches strs buffer) r → (w : Printable answer buffer) → PutText a b (listingText answer (w .list)) r

@@ -10,12 +10,13 @@ use borrow.Author.Tests.{lt-ltb, le-ltb, ne-eqb}
 use lib.ListN.{length, drop, length-append}
 use lib.Seq.{take-append-seam}
 use Rattle.model.specs.Answers.{completeList, answerUnless, listingRefusal, listingAnswer, listingNumbers, bufferUnless, listingBuffer}
-use Rattle.model.specs.Checks.{Refusal, sectionRefusal, selectionRefusal, inputRefusal}
+use Rattle.model.specs.Checks.{refusal, sectionRefusal, selectionRefusal, inputRefusal}
 use Rattle.model.specs.Matches.{Match, strings}
 use Rattle.model.specs.Section.{sectionOf}
 use Rattle.model.specs.Trees.{treeOf}
 use Rattle.model.specs.declared.Listing.{Listing}
 use Rattle.model.specs.declared.Listing.the-variants.{Refused}
+use Rattle.model.specs.declared.Refusal.{Refusal}
 use Rattle.model.proofs.AnswersLaws.{listingRefusal-none, complete-fits}
 use Rattle.model.proofs.ChecksLaws.{otherwise-none, accepted-section, accepted-selection}
 use Rattle.store.proofs.FineLaws.{fine-matches}
@@ -26,22 +27,17 @@ use Rattle.text.specs.Printed.{listingText}
 -- ---- programText
 
 module _ (input : List ℕ) where
-  pub program-long : maxInput < length input → programText input ≡ listingText (Refused 1 0) []
+  pub program-long : maxInput < length input → programText input ≡ listingText (Refused (refusal 1 0)) []
   unfolding programText
   program-long h = rw (lt-ltb maxInput (length input) h)
 
-  pub program-uneven : (length input % 4 ≡ 0 → ⊥) → programText input ≡ listingText (Refused 1 0) []
+  pub program-uneven : (length input % 4 ≡ 0 → ⊥) → programText input ≡ listingText (Refused (refusal 1 0)) []
   unfolding programText
   program-uneven h = rw (ne-eqb (length input % 4) 0 h, or-true)
 
   pub program-listed : length input ≤ maxInput → length input % 4 ≡ 0 → programText input ≡ listingOf (sectionPart (numbersOf input)) (selectionPart (numbersOf input))
   unfolding programText
   program-listed h e = rw (le-ltb maxInput (length input) h, e)
-
--- the text of a refusal is that of its two numbers, whatever the list
-pub refusal-text : (number place : ℕ) (ms : List Match) → listingText (Refused number place) ms ≡ listingText (Refused number place) []
-unfolding listingText
-refusal-text number place ms = refl
 
 -- ---- Printable
 

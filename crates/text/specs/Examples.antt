@@ -8,7 +8,7 @@ use mathlib.Core.List.{List, [], _∷_, _++_, flatMap}
 use lib.Dec.{eqb}
 use Rattle.model.specs.AllMatches.{filterList, allMatches}
 use Rattle.model.specs.Answers.{listed, listingRefusal, listingAnswer}
-use Rattle.model.specs.Checks.{tried, wrongSection, faultyAt, faultyPosition, wrongSelection, unknownKind, operandFits, wrongOperand, wrongShape, notUnderMildNot, sectionRefusal, selectionRefusal, inputRefusal, listingChecks}
+use Rattle.model.specs.Checks.{refusal, tried, wrongSection, faultyAt, faultyPosition, wrongSelection, unknownKind, filterOperandFits, operandFits, wrongOperand, wrongShape, notUnderMildNot, sectionRefusal, selectionRefusal, inputRefusal, listingChecks}
 use Rattle.model.specs.Lists.{allOf, anyOf, isEmpty, keep, first, allPairs, neighbours, insertSorted, sort, upFrom, fromTo}
 use Rattle.model.specs.Matches.{Str, Match, strings}
 use Rattle.model.specs.Rules.{standFrom, phraseList, noStrings, andList, leastStart, greatestEnd, join, windowEnds, window}
@@ -71,7 +71,7 @@ entries =
     ∷ record { printed = programText (6 ∷ 0 ∷ 0 ∷ 0 ∷ 10 ∷ []); says = "refused 1 0\n" }
     ∷ record { printed = programText []; says = "refused 1 0\n" }
     -- "any refusal prints `refused`, number, place"
-    ∷ record { printed = listingText (Refused 9 64) []; says = "refused 9 64\n" }
+    ∷ record { printed = listingText (Refused (refusal 9 64)) []; says = "refused 9 64\n" }
     -- an empty list
     ∷ record { printed = printed []; says = "no 0 0\n" }
     -- "`.` for a match with none"
@@ -87,6 +87,6 @@ pub examples-hold : allOf right entries ≡ true
 unfolding sameBytes right string one printed wire six selected entries digits decimal spanText queryText stringText lineOf matchText headText answerText listingText numbersOf programText
     xor allOf anyOf isEmpty keep first allPairs neighbours insertSorted sort upFrom fromTo flatMap wellSized upTo codesOf breakFrom placeOf combine wrap read readAll topTree treeOf parts strings
     standFrom phraseList andList leastStart greatestEnd join windowEnds window filterList allMatches
-    tried wrongSection faultyAt faultyPosition wrongSelection unknownKind operandFits wrongOperand wrongShape notUnderMildNot sectionRefusal selectionRefusal inputRefusal listingChecks
+    tried wrongSection faultyAt faultyPosition wrongSelection unknownKind filterOperandFits operandFits wrongOperand wrongShape notUnderMildNot sectionRefusal selectionRefusal inputRefusal listingChecks
     firstTooLong listingRefusal listingAnswer
 examples-hold = refl

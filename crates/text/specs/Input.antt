@@ -6,6 +6,7 @@ use mathlib.Core.List.{List, [], _∷_}
 use lib.Dec.{ltb, eqb}
 use lib.ListN.{length, take, drop, getD}
 use Rattle.model.specs.Answers.{completeList, listingAnswer}
+use Rattle.model.specs.Checks.{refusal}
 use Rattle.model.specs.Limits.{workLength, bufferLength}
 use Rattle.model.specs.Section.{size}
 use Rattle.model.specs.declared.Listing.the-variants.{Refused}
@@ -54,4 +55,4 @@ listingOf section selection = listingText (listingAnswer section selection workL
 unfoldable pub programText : List ℕ → List ℕ
 programText input =
     let numbers = numbersOf input in
-    cond (unreadable input) (listingText (Refused 1 0) []) (listingOf (sectionPart numbers) (selectionPart numbers))
+    cond (unreadable input) (listingText (Refused (refusal 1 0)) []) (listingOf (sectionPart numbers) (selectionPart numbers))

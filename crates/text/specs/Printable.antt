@@ -27,7 +27,7 @@ pub record ListingIn (matches strs : ℕ) (ms : List Match) (buffer : List ℕ) 
 
 abbrev pub PrintableAs : Listing → List Match → List ℕ → Type 0
 PrintableAs (Listed matches strs yes') ms buffer = ListingIn matches strs ms buffer
-PrintableAs (Refused number place) ms buffer = Unit {0}
+PrintableAs (Refused r) ms buffer = Unit {0}
 
 -- the list too: the text is that of its matches
 pub record Printable (answer : Listing) (buffer : List ℕ) : Type 0 where

@@ -71,4 +71,4 @@ answerText yes' matches strs = headText (cond yes' (bytes "yes ") (bytes "no "))
 
 unfoldable pub listingText : Listing → List Match → List ℕ
 listingText (Listed matches strs yes') ms = answerText yes' matches strs ++ flatMap matchText ms
-listingText (Refused number place) ms = headText (bytes "refused ") number place
+listingText (Refused r) ms = headText (bytes "refused ") (r .number) (r .place)

@@ -45,7 +45,7 @@ pub fn put_listing_text(answer: Listing, buffer: &[u32], text: &mut [u8]) -> usi
     ensures { λ r. ⌜ r ≤ length (now (text .exit)) ⌝ }
 {
     match answer {
-        Listing::Refused { number, place } => put_head(b"refused ", number, place, text, 0),
+        Listing::Refused(refusal) => put_head(b"refused ", refusal.number, refusal.place, text, 0),
         Listing::Listed {
             matches,
             strings,

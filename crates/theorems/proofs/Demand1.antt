@@ -8,8 +8,9 @@ use mathlib.Core.Path.{_≡_, refl, sym, ap, _∙_}
 use lib.Dec.{leb}
 use lib.ListN.{length, take, drop, take-append-drop}
 use Rattle.model.specs.declared.Quick.the-variants.{Answered}
+use Rattle.model.specs.declared.Refusal.{Refusal}
 use Rattle.model.specs.Answers.{completeList, answerUnless, listingAnswer, walkUnless, isAccepted, snippetOf}
-use Rattle.model.specs.Checks.{Refusal, sectionRefusal}
+use Rattle.model.specs.Checks.{sectionRefusal}
 use Rattle.model.specs.Limits.{workLength, bufferLength}
 use Rattle.model.specs.Matches.{Match, isYes}
 use Rattle.model.specs.Section.{size, sectionOf}
@@ -53,5 +54,5 @@ demand-1 section selection work buffer from to =
           rw (quick-table section selection work)
           (quick-either (firstFall (quickTable section selection work)) (isYes (completeList section selection)) (length (walkReaches s t)) (firstFall-number section selection (leb workLength work) (walkBuilds s t)));
       snippet-answers = part section (isAccepted (sectionRefusal section) && leb 1 from && leb from to && leb to (size section)) from (to + 1 - from);
-      refused-unchanged = λ r e. listingBuffer-refused section selection work buffer (r .number) (r .place) e;
+      refused-unchanged = λ r e. listingBuffer-refused section selection work buffer r e;
     }

@@ -7,10 +7,11 @@ use mathlib.Core.Logic.{_↔_, Iff·trans}
 use mathlib.Core.Option.{Option, some, none, Option·some-ne-none}
 use mathlib.Core.Path.{_≡_, refl, sym, ap, ap₂, _∙_}
 use lib.ListN.{length, drop}
+use Rattle.model.specs.declared.Refusal.{Refusal}
 use Rattle.model.specs.Accepted.{maxPhrases}
 use Rattle.model.specs.AllStrings.{Within}
 use Rattle.model.specs.Answers.{completeList, answerUnless, listingAnswer, listingNumbers, listingBuffer}
-use Rattle.model.specs.Checks.{Refusal, refusal, sectionRefusal, selectionRefusal, inputRefusal}
+use Rattle.model.specs.Checks.{refusal, sectionRefusal, selectionRefusal, inputRefusal}
 use Rattle.model.specs.Limits.{radix}
 use Rattle.model.specs.Matches.{Str, Match}
 use Rattle.model.specs.Section.{size, sectionOf}
@@ -28,7 +29,7 @@ use Rattle.theorems.proofs.WordsLaws.{yes-exists}
 
 refused-some : (o : Option Refusal) (ms : List Match) (r : Refusal) → ListingRefuses (answerUnless o ms) r ↔ (o ≡ some r)
 refused-some none ms r = (λ e. cc, λ e. cc)
-refused-some (some q) ms r = (λ e. let number : q .number ≡ r .number = cc in let place : q .place ≡ r .place = cc in ap some (ap₂ refusal number place), λ e. cc)
+refused-some (some q) ms r = (λ e. cc, λ e. cc)
 
 given-none : (o : Option Refusal) (ms : List Match) → ListingGiven (answerUnless o ms) ↔ (o ≡ none)
 given-none none ms = (λ e. refl, λ e. (_, _, _, refl))

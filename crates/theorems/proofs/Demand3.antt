@@ -10,9 +10,10 @@ use mathlib.Core.Path.{_≡_, refl, sym, ap, ap₂, _∙_}
 use lib.ListN.{length}
 use Rattle.model.specs.declared.Listing.the-variants.{Listed}
 use Rattle.model.specs.declared.Quick.the-variants.{Answered, Refused as QuickRefused}
+use Rattle.model.specs.declared.Refusal.{Refusal}
 use Rattle.model.specs.Accepted.{Passes}
 use Rattle.model.specs.Answers.{completeList, listingAnswer, walkUnless, quickAnswer}
-use Rattle.model.specs.Checks.{Refusal, refusal, sectionRefusal, selectionRefusal, inputRefusal}
+use Rattle.model.specs.Checks.{refusal, sectionRefusal, selectionRefusal, inputRefusal}
 use Rattle.model.specs.Matches.{isYes}
 use Rattle.model.specs.Section.{sectionOf}
 use Rattle.model.specs.Trees.{Tree, treeOf}
@@ -30,7 +31,7 @@ use Rattle.theorems.proofs.WordsLaws.{yes-exists, no-exists, tooLong-ex
 
 refused-some : (o : Option Refusal) (y : Bool) (n : ℕ) (r : Refusal) → QuickRefuses (walkUnless o (Answered y n)) r ↔ (o ≡ some r)
 refused-some none y n r = (λ e. cc, λ e. cc)
-refused-some (some q) y n r = (λ e. let number : q .number ≡ r .number = cc in let place : q .place ≡ r .place = cc in ap some (ap₂ refusal number place), λ e. cc)
+refused-some (some q) y n r = (λ e. cc, λ e. cc)
 
 given-none : (o : Option Refusal) (y : Bool) (n : ℕ) → QuickGiven (walkUnless o (Answered y n)) ↔ (o ≡ none)
 given-none none y n = (λ e. refl, λ e. (y, (n, refl)))
@@ -62,7 +63,7 @@ module _ (section selection : List ℕ) (work : ℕ) where
     size-exactly = Iff·trans (λ w. (w .0, refuses (w .0) .0 (w .1)), λ w. (w .0, refuses (w .0) .1 (w .1))) (tooLong-exists section builds)
 
     only-size : (r : Refusal) → QuickRefuses (quickAnswer section selection work) r → r .number ≡ 9
-    only-size r e = unlessTooLong-nine long yes count (r .number) (r .place) (sym is ∙ e)
+    only-size r e = unlessTooLong-nine long yes count r (sym is ∙ e)
 
     -- unless it refuses for size, it says whether the complete list has a match without excludes
     module _ (fits : (place : ℕ) → ¬ RefusesForSize (quickAnswer section selection work) place) where
@@ -72,7 +73,7 @@ module _ (section selection : List ℕ) (work : ℕ) where
           answered : (y : Bool) (n : ℕ) → quickAnswer section selection work ≡ Answered y n → (y ≡ yes) × (n ≡ count)
           answered y n e = unlessTooLong-answered long yes y count n (sym is ∙ e)
 
-          at : {b : Bool} → yes ≡ b → ((y : Bool) × (n : ℕ) × (unlessTooLong long yes count ≡ Answered y n)) ⊎ ((c : ℕ) × (unlessTooLong long yes count ≡ QuickRefused 9 c)) → QuickSays (quickAnswer section selection work) b
+          at : {b : Bool} → yes ≡ b → ((y : Bool) × (n : ℕ) × (unlessTooLong long yes count ≡ Answered y n)) ⊎ ((c : ℕ) × (unlessTooLong long yes count ≡ QuickRefused (refusal 9 c))) → QuickSays (quickAnswer section selection work) b
           at {b} e (inl w) = (w .1, is ∙ w .2 ∙ ap (λ (z : Bool). Answered z (w .1)) (unlessTooLong-answered long yes (w .0) count (w .1) (w .2) .0 ∙ e))
           at e (inr w) = absurd (fits (w .0) (is ∙ w .1))
 

@@ -10,9 +10,10 @@ use lib.Dec.{leb}
 use lib.ListN.{length}
 use borrow.Author.Tests.{leb-true}
 use Rattle.model.specs.declared.Quick.the-variants.{Answered}
+use Rattle.model.specs.declared.Refusal.{Refusal}
 use Rattle.model.specs.AllStrings.{Every}
 use Rattle.model.specs.Answers.{completeList, listingRefusal, walkUnless, quickAnswer}
-use Rattle.model.specs.Checks.{Refusal, refusal, otherwise, tried, wrongSection, faultyPosition, sectionRefusal, selectionRefusal, roomRefusal, inputRefusal, listingChecks, quickChecks}
+use Rattle.model.specs.Checks.{refusal, otherwise, tried, wrongSection, faultyPosition, sectionRefusal, selectionRefusal, roomRefusal, inputRefusal, listingChecks, quickChecks}
 use Rattle.model.specs.Lists.{allOf}
 use Rattle.model.specs.Limits.{workLength, bufferLength}
 use Rattle.model.specs.Matches.{isYes}

@@ -15,11 +15,12 @@ use Rattle.model.specs.declared.Listing.{Listing}
 use Rattle.model.specs.declared.Listing.the-variants.{Listed, Refused as ListingRefused}
 use Rattle.model.specs.declared.Quick.{Quick}
 use Rattle.model.specs.declared.Quick.the-variants.{Answered, Refused as QuickRefused}
+use Rattle.model.specs.declared.Refusal.{Refusal}
 use Rattle.model.specs.Accepted.{ReportedOrNot}
 use Rattle.model.specs.AllMatches.{allMatches}
 use Rattle.model.specs.AllStrings.{Every, AllList}
 use Rattle.model.specs.Answers.{completeList, listingAnswer, listingNumbers, listingBuffer, quickAnswer, snippetOf}
-use Rattle.model.specs.Checks.{Refusal, wrongSection, faultyPosition, wrongSelection, unknownKind, wrongOperand, wrongShape, notUnderMildNot}
+use Rattle.model.specs.Checks.{refusal, wrongSection, faultyPosition, wrongSelection, unknownKind, wrongOperand, wrongShape, notUnderMildNot}
 use Rattle.model.specs.Limits.{maxMatches, maxStrings, workLength, bufferLength, radix}
 use Rattle.model.specs.Matches.{Match, strings}
 use Rattle.model.specs.Section.{size, sentenceAt, paragraphAt, sectionOf}
@@ -50,7 +51,7 @@ abbrev pub ListingGiven : Listing → Type 0
 ListingGiven answer = (m : ℕ) × (s : ℕ) × (y : Bool) × (answer ≡ Listed m s y)
 
 abbrev pub ListingRefuses : Listing → Refusal → Type 0
-ListingRefuses answer r = answer ≡ ListingRefused (r .number) (r .place)
+ListingRefuses answer r = answer ≡ ListingRefused r
 
 abbrev pub QuickSays : Quick → Bool → Type 0
 QuickSays answer y = (codes : ℕ) × (answer ≡ Answered y codes)
@@ -59,10 +60,10 @@ abbrev pub QuickGiven : Quick → Type 0
 QuickGiven answer = (y : Bool) × QuickSays answer y
 
 abbrev pub QuickRefuses : Quick → Refusal → Type 0
-QuickRefuses answer r = answer ≡ QuickRefused (r .number) (r .place)
+QuickRefuses answer r = answer ≡ QuickRefused r
 
 abbrev pub RefusesForSize : Quick → ℕ → Type 0
-RefusesForSize answer place = answer ≡ QuickRefused 9 place
+RefusesForSize answer place = QuickRefuses answer (refusal 9 place)
 
 -- Document 01's table of refusals, for some input: each row has a number, and the place where it falls, if it does. model/specs/Checks.antt has the
 -- table's words beside each.

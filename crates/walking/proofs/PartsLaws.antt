@@ -4,17 +4,20 @@ use native.Mathlib.Omega.{arith}
 use mathlib.Core.Path.{_≡_, refl, sym, ap, _∙_}
 use mathlib.Core.Bool.{Bool}
 use mathlib.Core.List.{List, [], _∷_, _++_, map}
+use mathlib.Core.Option.{Option, some, none, Option·map, Option·none-ne-some}
 use lib.ListN.{length}
 use Rattle.model.specs.declared.Code.{Code}
 use Rattle.model.specs.declared.Code.the-variants.{Word, Phrase, Combine, Not, Filter as Filtered}
 use Rattle.model.specs.declared.Quick.the-variants.{Answered, Refused}
+use Rattle.model.specs.declared.Refusal.{Refusal}
 use Rattle.model.specs.AllMatches.{allMatches}
+use Rattle.model.specs.Checks.{refusal}
 use Rattle.model.specs.Matches.{isYes}
 use Rattle.model.specs.Parts.{headOf, heads, postfix, phrases, partStart, rankAfter, spelled, phrasesAll}
 use Rattle.model.specs.Section.{sectionOf}
 use Rattle.model.specs.Selection.{codeAt, upTo}
 use Rattle.model.specs.Trees.{Tree, phrase, pair, negation, filter, parts}
-use Rattle.model.specs.Walk.{build}
+use Rattle.model.specs.Walk.{firstTooLong, build}
 use Rattle.model.proofs.BuildLaws.{part-below, part-heads}
 use Rattle.model.proofs.PartsLaws.{start-le}
 use Rattle.model.proofs.SelectionLaws.{length-upTo, upTo-front}
@@ -25,7 +28,7 @@ use Rattle.store.specs.Slot.{SlotAt}
 use Rattle.building.specs.State.{Buildable}
 use Rattle.building.specs.PartList.{PartList}
 use Rattle.building.specs.declared.Part.{Part}
-use Rattle.building.specs.declared.Part.the-variants.{Built, TooLong}
+use Rattle.building.specs.declared.Part.the-variants.{Built, Refused as PartRefused}
 use Rattle.walking.specs.Walkable.{Walkable}
 
 -- ---- heads
@@ -96,10 +99,14 @@ module _ {section sel mem : List ℕ} {hi : ℕ} (w : Walkable section sel mem h
   }
 
   -- its list is too long, or answers
-  pub build-long : {mem' : List ℕ} {part : Part} {place : ℕ} → PartList (sectionOf section) (w .part .tree) mem' part → part ≡ TooLong place
-      → Refused 9 place ≡ build (sectionOf section) (w .part .tree)
+  pub build-long : {mem' : List ℕ} {part : Part} {r : Refusal} → PartList (sectionOf section) (w .part .tree) mem' part → part ≡ PartRefused r
+      → Refused (refusal 9 (r .place)) ≡ build (sectionOf section) (w .part .tree)
   unfolding build
-  build-long {mem'} {part} {place} b e = rw (b .long place e)
+  build-long {mem'} {part} {r} b e = rw (nine-at (firstTooLong (sectionOf section) (parts (w .part .tree))) (b .refused r e))
+    where
+      nine-at : (o : Option ℕ) → Option·map (refusal 9) o ≡ some r → o ≡ some (r .place)
+      nine-at none f = absurd (Option·none-ne-some r f)
+      nine-at (some place) f = let same : refusal 9 place ≡ r = cc in ap (λ (q : Refusal). some (q .place)) same
 
   pub build-answers : {mem' : List ℕ} {part : Part} {lo n : ℕ} {answer : Bool} → PartList (sectionOf section) (w .part .tree) mem' part → part ≡ Built
       → lo ≡ partStart (codeAt sel) hi

@@ -55,7 +55,7 @@ codes-few s t =
 pub passed-whole : (q : Quick) → passedUp false 0 q ≡ q
 passed-whole (Answered true n) = ap (Answered true) (omega arith)
 passed-whole (Answered false n) = ap (Answered false) (omega arith)
-passed-whole (Refused number place) = refl
+passed-whole (Refused q) = refl
 
 -- through a not
 passed-turned : (b : Bool) (n : ℕ) (q : Quick) → passedUp b n (turned q) ≡ passedUp (not b) (n + 1) q
@@ -63,7 +63,7 @@ passed-turned true n (Answered true k) = ap (Answered true) (omega arith)
 passed-turned true n (Answered false k) = ap (Answered false) (omega arith)
 passed-turned false n (Answered true k) = ap (Answered false) (omega arith)
 passed-turned false n (Answered false k) = ap (Answered true) (omega arith)
-passed-turned b n (Refused number place) = refl
+passed-turned b n (Refused q) = refl
 
 -- ---- a combination
 
@@ -71,24 +71,24 @@ module _ (b : Bool) (n : ℕ) where
   or-decided : (l r : Quick) → decides Or l ≡ true → passedUp b n (orWalk l r) ≡ passedUp b (n + 1) l
   or-decided (Answered true k) r e = ap (Answered (cond b false true)) (omega arith)
   or-decided (Answered false k) r e = false-true e
-  or-decided (Refused number place) r e = refl
+  or-decided (Refused q) r e = refl
 
   and-decided : (l r : Quick) → decides And l ≡ true → passedUp b n (andWalk l r) ≡ passedUp b (n + 1) l
   and-decided (Answered false k) r e = ap (Answered (cond b true false)) (omega arith)
   and-decided (Answered true k) r e = false-true e
-  and-decided (Refused number place) r e = refl
+  and-decided (Refused q) r e = refl
 
   or-undecided : (l r : Quick) → decides Or l ≡ false → passedUp b n (orWalk l r) ≡ passedUp b (n + 1 + codesIn l) r
   or-undecided (Answered false k) (Answered y j) e = ap (Answered (cond b (not y) y)) (omega arith)
-  or-undecided (Answered false k) (Refused number place) e = refl
+  or-undecided (Answered false k) (Refused q) e = refl
   or-undecided (Answered true k) r e = false-true (sym e)
-  or-undecided (Refused number place) r e = false-true (sym e)
+  or-undecided (Refused q) r e = false-true (sym e)
 
   and-undecided : (l r : Quick) → decides And l ≡ false → passedUp b n (andWalk l r) ≡ passedUp b (n + 1 + codesIn l) r
   and-undecided (Answered true k) (Answered y j) e = ap (Answered (cond b (not y) y)) (omega arith)
-  and-undecided (Answered true k) (Refused number place) e = refl
+  and-undecided (Answered true k) (Refused q) e = refl
   and-undecided (Answered false k) r e = false-true (sym e)
-  and-undecided (Refused number place) r e = false-true (sym e)
+  and-undecided (Refused q) r e = false-true (sym e)
 
   module _ (s : Section) (c : ℕ) (t u : Tree) where
     -- the left side decides: its answer, and one code more

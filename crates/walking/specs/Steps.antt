@@ -9,10 +9,11 @@ use Rattle.model.specs.declared.Pair.{Pair}
 use Rattle.model.specs.declared.Pair.the-variants.{Or, And, MildNot}
 use Rattle.model.specs.declared.Quick.{Quick}
 use Rattle.model.specs.declared.Quick.the-variants.{Answered, Refused}
+use Rattle.model.specs.Checks.{refusal}
 
 -- The answer that a number tells: from 2^33 on refusal 9, the only one of a walk, with its place; below it the codes, twice, and one more for yes.
 abbrev pub answerOf : ℕ → Quick
-answerOf a = cond (leb 8589934592 a) (Refused 9 (a % 4294967296)) (Answered (eqb (a % 2) 1) (a / 2))
+answerOf a = cond (leb 8589934592 a) (Refused (refusal 9 (a % 4294967296))) (Answered (eqb (a % 2) 1) (a / 2))
 
 abbrev pub isMildNot : Pair → Bool
 isMildNot Or = false
@@ -32,14 +33,14 @@ abbrev pub decides : Pair → Quick → Bool
 decides Or (Answered answer n) = answer
 decides And (Answered answer n) = not answer
 decides MildNot (Answered answer n) = true
-decides k (Refused number place) = true
+decides k (Refused r) = true
 
 -- the codes that an answer counts
 abbrev pub codesIn : Quick → ℕ
 codesIn (Answered answer n) = n
-codesIn (Refused number place) = 0
+codesIn (Refused r) = 0
 
 -- The answer of a part as that of a part above it: turned round or not, and with the codes walked besides.
 abbrev pub passedUp : Bool → ℕ → Quick → Quick
 passedUp turned more (Answered answer n) = Answered (cond turned (not answer) answer) (n + more)
-passedUp turned more (Refused number place) = Refused number place
+passedUp turned more (Refused r) = Refused r

@@ -1,8 +1,10 @@
 // A part's answer in one number, so that a frame of the walk's recursion holds no copy of an answer; and what a code makes of its sides' answers.
 use model::Pair;
 use model::Quick;
+use model::Refusal;
 ghost use mathlib.Core.Path.{_≡_};
 ghost use Prim.Native.Nat.{_+_, _≤_};
+ghost use Rattle.model.specs.Checks.{refusal};
 ghost use Rattle.model.specs.Limits.{maxCodes};
 ghost use Rattle.model.specs.declared.Quick.the-variants.{Answered, Refused};
 ghost use Rattle.walking.specs.Steps.{answerOf, codesIn, decides as decidesOf, isMildNot, passedUp};
@@ -19,7 +21,7 @@ pub fn answered(yes: bool, codes: u32) -> u64
 }
 
 pub fn too_long(place: u32) -> u64
-    ensures { λ r. ⌜ answerOf r ≡ Refused 9 place ⌝ }
+    ensures { λ r. ⌜ answerOf r ≡ Refused (refusal 9 place) ⌝ }
 {
     TOO_LONG + place as u64
 }
@@ -28,10 +30,10 @@ pub fn answer_of(answer: u64) -> Quick
     ensures { λ r. ⌜ r ≡ answerOf answer ⌝ }
 {
     if TOO_LONG <= answer {
-        return Quick::Refused {
+        return Quick::Refused(Refusal {
             number: 9,
             place: (answer % PLACES) as u32,
-        };
+        });
     }
     Quick::Answered {
         yes: answer % 2 == 1,

@@ -50,8 +50,8 @@ fn build_part(section: &[u32], selection: &[u32], work: &mut [u32], hi: u32) -> 
     let lo = selection::parts::part_start(selection, hi);
     let before = selection::parts::rank_at(selection, lo);
     let part = building::build(section, selection, work, lo, hi, before + 1);
-    if let Part::TooLong { place } = part {
-        return answers::too_long(place);
+    if let Part::Refused(refusal) = part {
+        return answers::too_long(refusal.place);
     }
     let yes = output::is_yes(work, 0);
     let codes = count_codes(selection, lo, hi);

@@ -18,7 +18,7 @@ same-length-2 c = search needs
 
 returns : tie.Need-returns
 returns c = let k = c .before .before .before .before .before .before in
-    (rw (sym (k .listing .ensures .0)) (c .put-listing .ensures .0), (rw (sym (k .listing .ensures .0)) (c .put-listing .ensures .1), k .listing .ensures .1))
+    (rw (sym (k .listing .ensures .0)) (c .put-listing .ensures .0), (rw (sym (k .listing .ensures .0)) (c .put-listing .ensures .1), k .listing .ensures .1 .1))
 
 pub jullpinay-listing-spec : {M : Type 1} → statement M
 jullpinay-listing-spec =

@@ -15,7 +15,7 @@ same-length c = search needs
 
 returns : tie.Need-returns
 returns c = let k = c .before .before .before .before in
-    (rw (sym (k .quick .ensures)) (c .put-quick .ensures .0), rw (sym (k .quick .ensures)) (c .put-quick .ensures .1))
+    (rw (sym (k .quick .ensures .0)) (c .put-quick .ensures .0), rw (sym (k .quick .ensures .0)) (c .put-quick .ensures .1))
 
 pub jullpinay-quick-spec : {M : Type 1} → statement M
 jullpinay-quick-spec = tie.close (tie.spec quick-requires put-quick-requires same-length returns)

@@ -10,7 +10,7 @@ snippet-requires c κs = search needs
 
 returns : tie.Need-returns
 returns c = let s = c .before .before .args in
-    rw (c .snippet .ensures) (refl, take-snippet (s .section .now) (s .from) (s .to))
+    rw (c .snippet .ensures .0) (refl, take-snippet (s .section .now) (s .from) (s .to))
 
 pub jullpinay-snippet-spec : {M : Type 1} → statement M
 jullpinay-snippet-spec = tie.close (tie.spec snippet-requires returns)

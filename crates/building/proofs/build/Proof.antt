@@ -20,8 +20,8 @@ abbrev μ-loop : tie.MeasureT-loop
 loop-holds : tie.Need-loop-holds Inv-loop μ-loop
 loop-holds c = (lo-le (c .before .before .before .pre), refl, λ w. start w)
 
-add-c : tie.Need-add-c Inv-loop μ-loop
-add-c c = search needs
+add-place : tie.Need-add-place Inv-loop μ-loop
+add-place c = search needs
 
 code-at-requires : tie.Need-code-at-requires Inv-loop μ-loop
 code-at-requires c κs = search needs
@@ -97,7 +97,7 @@ build-spec =
     Inv-loop
     μ-loop
     loop-holds
-    add-c
+    add-place
     code-at-requires
     build-code-requires
     enum-told

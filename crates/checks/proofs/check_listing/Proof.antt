@@ -1,8 +1,9 @@
--- The quick answer's refusal is passed straight up; behind it the buffer's length decides.
-use Rattle.checks.proofs.Refusing.{first-refuses, later-decides, room-short, room-enough, listing-checks}
+-- The quick answer's refusal is passed straight up; after it the buffer's length decides.
+use Rattle.checks.proofs.Refusing.{first-refuses, room-short, room-enough, listing-checks}
 use Rattle.model.specs.Limits.{bufferLength}
 use Rattle.model.specs.Checks.{roomRefusal, quickChecks}
 use Rattle.model.specs.Answers.{checkedOf}
+use Rattle.model.specs.Section.{size}
 use lib.Dec.{leb}
 use mathlib.Core.Path.{ap, _∙_}
 use borrow.Author.Tests.{le-leb, lt-leb}
@@ -23,24 +24,27 @@ returns : tie.Need-returns
 returns c =
     let k = c .before .before in
     let a = k .before .before .before .args in
-    let is = ap checkedOf (listing-checks (a .section .now) (a .selection .now) (a .work) (a .buffer)) in
-    first-refuses (quickChecks (a .section .now) (a .selection .now) (a .work)) (roomRefusal (leb bufferLength (a .buffer))) _ (k .check-quick .ensures) _ _ (c .enum-told2 .given .1) ∙ is
+    let m = size (a .selection .now) in
+    first-refuses m m (quickChecks (a .section .now) (a .selection .now) (a .work)) (roomRefusal (leb bufferLength (a .buffer))) (k .check-quick .ensures) (c .enum-told2 .given .1)
+    ∙ ap (checkedOf m) (listing-checks (a .section .now) (a .selection .now) (a .work) (a .buffer))
 
 returns-2 : tie.Need-returns-2
 returns-2 c =
-    let k = c .before .before .before in
+    let t = c .before in
+    let k = t .before .before in
     let a = k .before .before .before .args in
-    let is = ap checkedOf (listing-checks (a .section .now) (a .selection .now) (a .work) (a .buffer)) in
-    let d = later-decides (quickChecks (a .section .now) (a .selection .now) (a .work)) (roomRefusal (leb bufferLength (a .buffer))) _ (k .check-quick .ensures) (c .before .enum-told .given .1) in
-    room-short (leb bufferLength (a .buffer)) _ d (lt-leb bufferLength (a .buffer) (c .if1 .taken)) ∙ is
+    let m = size (a .selection .now) in
+    room-short m (quickChecks (a .section .now) (a .selection .now) (a .work)) (k .check-quick .ensures) (t .enum-told .given .1) (leb bufferLength (a .buffer)) (lt-leb bufferLength (a .buffer) (c .if1 .taken))
+    ∙ ap (checkedOf m) (listing-checks (a .section .now) (a .selection .now) (a .work) (a .buffer))
 
 returns-3 : tie.Need-returns-3
 returns-3 c =
-    let k = c .before .before .before in
+    let t = c .before in
+    let k = t .before .before in
     let a = k .before .before .before .args in
-    let is = ap checkedOf (listing-checks (a .section .now) (a .selection .now) (a .work) (a .buffer)) in
-    let d = later-decides (quickChecks (a .section .now) (a .selection .now) (a .work)) (roomRefusal (leb bufferLength (a .buffer))) _ (k .check-quick .ensures) (c .before .enum-told .given .1) in
-    room-enough (leb bufferLength (a .buffer)) _ d (le-leb bufferLength (a .buffer) (c .if1 .left)) ∙ is
+    let m = size (a .selection .now) in
+    room-enough m (quickChecks (a .section .now) (a .selection .now) (a .work)) (k .check-quick .ensures) (t .enum-told .given .1) (leb bufferLength (a .buffer)) (le-leb bufferLength (a .buffer) (c .if1 .left))
+    ∙ ap (checkedOf m) (listing-checks (a .section .now) (a .selection .now) (a .work) (a .buffer))
 
 pub check-listing-spec : {M : Type 1} → statement M
 check-listing-spec =

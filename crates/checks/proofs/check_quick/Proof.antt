@@ -1,9 +1,10 @@
--- The inputs' refusal is passed straight up; behind it the length decides.
+-- The inputs' refusal is passed straight up; after it the length decides.
 use Rattle.model.specs.Checks.{inputRefusal, roomRefusal, quickChecks}
 use Rattle.model.specs.Limits.{workLength}
+use Rattle.model.specs.Section.{size}
 use lib.Dec.{leb}
 use borrow.Author.Tests.{le-leb, lt-leb}
-use Rattle.checks.proofs.Refusing.{first-refuses, later-decides, room-short, room-enough}
+use Rattle.checks.proofs.Refusing.{first-refuses, room-short, room-enough}
 use borrow.Author.Needs.{needs}
 use Rattle.checks.proofs.check_quick.Statement.{statement}
 use Rattle.checks.proofs.check_quick.Tie as tie
@@ -22,23 +23,26 @@ unfolding quickChecks
 returns c =
     let k = c .before .before in
     let a = k .before .before .before .args in
-    first-refuses (inputRefusal (a .section .now) (a .selection .now)) (roomRefusal (leb workLength (a .work))) _ (k .check-inputs .ensures) _ _ (c .enum-told2 .given .1)
+    let m = size (a .selection .now) in
+    first-refuses m m (inputRefusal (a .section .now) (a .selection .now)) (roomRefusal (leb workLength (a .work))) (k .check-inputs .ensures) (c .enum-told2 .given .1)
 
 returns-2 : tie.Need-returns-2
 unfolding quickChecks
 returns-2 c =
-    let k = c .before .before .before in
+    let t = c .before in
+    let k = t .before .before in
     let a = k .before .before .before .args in
-    let d = later-decides (inputRefusal (a .section .now) (a .selection .now)) (roomRefusal (leb workLength (a .work))) _ (k .check-inputs .ensures) (c .before .enum-told .given .1) in
-    room-short (leb workLength (a .work)) _ d (rw (lt-leb workLength (a .work) (c .if1 .taken)))
+    room-short (size (a .selection .now)) (inputRefusal (a .section .now) (a .selection .now)) (k .check-inputs .ensures) (t .enum-told .given .1) (leb workLength (a .work))
+    (lt-leb workLength (a .work) (c .if1 .taken))
 
 returns-3 : tie.Need-returns-3
 unfolding quickChecks
 returns-3 c =
-    let k = c .before .before .before in
+    let t = c .before in
+    let k = t .before .before in
     let a = k .before .before .before .args in
-    let d = later-decides (inputRefusal (a .section .now) (a .selection .now)) (roomRefusal (leb workLength (a .work))) _ (k .check-inputs .ensures) (c .before .enum-told .given .1) in
-    room-enough (leb workLength (a .work)) _ d (rw (le-leb workLength (a .work) (c .if1 .left)))
+    room-enough (size (a .selection .now)) (inputRefusal (a .section .now) (a .selection .now)) (k .check-inputs .ensures) (t .enum-told .given .1) (leb workLength (a .work))
+    (le-leb workLength (a .work) (c .if1 .left))
 
 pub check-quick-spec : {M : Type 1} → statement M
 check-quick-spec =

@@ -10,11 +10,11 @@ put-listing-requires c κs = search needs
 is-yes-requires : tie.Need-is-yes-requires
 is-yes-requires c κs = search needs
 
-shared-slice-read-t8 : tie.Need-shared-slice-read-t8
-shared-slice-read-t8 c = search needs
+shared-slice-read-matches : tie.Need-shared-slice-read-matches
+shared-slice-read-matches c = search needs
 
-shared-slice-read-t10 : tie.Need-shared-slice-read-t10
-shared-slice-read-t10 c = search needs
+shared-slice-read-strings : tie.Need-shared-slice-read-strings
+shared-slice-read-strings c = search needs
 
 same-length : tie.Need-same-length
 same-length c = search needs
@@ -28,7 +28,7 @@ listed-spec =
     (tie.spec
     put-listing-requires
     is-yes-requires
-    shared-slice-read-t8
-    shared-slice-read-t10
+    shared-slice-read-matches
+    shared-slice-read-strings
     same-length
     returns)

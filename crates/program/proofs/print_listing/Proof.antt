@@ -15,7 +15,7 @@ put-listing-text-requires : tie.Need-put-listing-text-requires
 put-listing-text-requires c κs = let s = c .before .before .before .before .before .before .before .before .before .before .before .before .before .before in
     let a = s .args in
     let l = c .before .before .before .before .before .before .listing .ensures in
-    (listing-printable (a .section .now) (a .selection .now) (length (a .work .now)) (a .buffer .now) (l .0) (l .1), s .pre .text-enough)
+    (listing-printable (a .section .now) (a .selection .now) (length (a .work .now)) (a .buffer .now) (l .0) (l .1 .1), s .pre .text-enough)
 
 same-length : tie.Need-same-length
 same-length c = search needs
@@ -31,7 +31,7 @@ returns c = let s = c .before .before .before .before .before .before .before .b
     let a = s .args in
     let l = c .before .before .before .before .before .before .before .before .before .listing .ensures in
     let p = c .before .before .put-listing-text .ensures in
-    let w = listing-printable (a .section .now) (a .selection .now) (length (a .work .now)) (a .buffer .now) (l .0) (l .1) in
+    let w = listing-printable (a .section .now) (a .selection .now) (length (a .work .now)) (a .buffer .now) (l .0) (l .1 .1) in
     (take-written _ _ _ (p .0 w) (p .1 .0 w) (p .1 .1) ∙ listing-text (a .section .now) (a .selection .now) (l .0) (s .pre .work-is) (s .pre .buffer-is), p .1 .1)
 
 pub print-listing-spec : {M : Type 1} → statement M

@@ -1,6 +1,7 @@
 -- A refusal can be printed whatever the buffer holds.
 use Rattle.text.proofs.SetsLaws.{take-written}
 use Rattle.text.specs.Printable.{Printable}
+use Rattle.model.specs.Checks.{refusal}
 use Rattle.model.specs.declared.Listing.the-variants.{Refused}
 use mathlib.Core.List.{[]}
 use borrow.Author.Needs.{needs}
@@ -15,7 +16,7 @@ same-length c = search needs
 
 returns : tie.Need-returns
 returns c = let p = c .before .before .put-listing-text .ensures in
-    let w : Printable (Refused 1 0) _ = record { list = []; held = tt } in
+    let w : Printable (Refused (refusal 1 0)) _ = record { list = []; held = tt } in
     (take-written _ _ _ (p .0 w) (p .1 .0 w) (p .1 .1), p .1 .1)
 
 pub print-refusal-spec : {M : Type 1} → statement M

@@ -1,10 +1,11 @@
--- Each return is one case of the check (Checking); a well sized slice has its size, and two arrays as long.
+-- Each return is one case of the check (CheckLaws); a well sized slice has its size, and two arrays as long.
 use borrow.Author.Needs.{needs}
 use borrow.Author.Tests.{not-true, not-false}
 use native.Mathlib.Omega.{arith}
 use mathlib.Core.Path.{refl, sym, ap, _∙_}
 use Rattle.model.specs.Answers.{checkedOf}
 use Rattle.model.specs.Checks.{faultyPosition}
+use Rattle.model.specs.Section.{size}
 use Rattle.model.proofs.SectionLaws.{well-sized}
 use Rattle.model.proofs.AnswersLaws.{fault-at, fault-nowhere}
 use Rattle.section.proofs.CheckLaws.{wrong-size, wrong-order, right-order}
@@ -15,10 +16,12 @@ well-sized-requires : tie.Need-well-sized-requires
 well-sized-requires c κs = search needs
 
 returns : tie.Need-returns
-returns c = ap checkedOf (sym (wrong-size (c .before .before .before .args .section .now) (sym (c .before .well-sized .ensures) ∙ not-true _ (c .if1 .taken))))
+returns c =
+    let s = c .before .before .before .args .section .now in
+    ap (checkedOf (size s)) (sym (wrong-size s (sym (c .before .well-sized .ensures) ∙ not-true _ (c .if1 .taken))))
 
-shared-slice-read-first-faulty : tie.Need-shared-slice-read-first-faulty
-shared-slice-read-first-faulty c =
+shared-slice-read-n : tie.Need-shared-slice-read-n
+shared-slice-read-n c =
     let s = c .before .before .before .before .args .section .now in
     let w = well-sized 0 4096 s (sym (c .before .before .well-sized .ensures) ∙ not-false _ (c .before .if1 .left)) in
     omega arith
@@ -46,14 +49,14 @@ returns-2 c =
     let f = c .before .before .before in
     let w = f .before .before .before in
     let s = w .before .before .args .section .now in
-    ap checkedOf (sym (wrong-order s (sym (w .well-sized .ensures) ∙ not-false _ (f .before .before .if1 .left)) _ (fault-at (faultyPosition s) _ (sym (f .first-faulty .ensures) ∙ c .before .fault .given .1))))
+    ap (checkedOf (size s)) (sym (wrong-order s (sym (w .well-sized .ensures) ∙ not-false _ (f .before .before .if1 .left)) _ (fault-at (faultyPosition s) _ (sym (f .first-faulty .ensures) ∙ c .before .fault .given .1))))
 
 returns-3 : tie.Need-returns-3
 returns-3 c =
     let f = c .before .before in
     let w = f .before .before .before in
     let s = w .before .before .args .section .now in
-    ap checkedOf (sym (right-order s (sym (w .well-sized .ensures) ∙ not-false _ (f .before .before .if1 .left)) (fault-nowhere (faultyPosition s) (sym (f .first-faulty .ensures) ∙ c .enum-told .given .1))))
+    ap (checkedOf (size s)) (sym (right-order s (sym (w .well-sized .ensures) ∙ not-false _ (f .before .before .if1 .left)) (fault-nowhere (faultyPosition s) (sym (f .first-faulty .ensures) ∙ c .enum-told .given .1))))
 
 pub check-section-spec : {M : Type 1} → statement M
 check-section-spec =
@@ -61,7 +64,7 @@ check-section-spec =
     (tie.spec
     well-sized-requires
     returns
-    shared-slice-read-first-faulty
+    shared-slice-read-n
     cast-first-faulty
     first-faulty-requires
     enum-known-fault

@@ -1,6 +1,8 @@
--- Each arm's kind is known, and the definition's chain of tests computes to that arm.
+-- Each arm's kind, or the range that it lies in, is known, and the definition's chain of tests computes to that arm.
+use native.Mathlib.Omega.{arith}
+use Prim.Native.Nat.{_≤_, _<_}
 use Rattle.model.specs.Checks.{operandFits}
-use borrow.Author.Tests.{ne-eqb}
+use borrow.Author.Tests.{ne-eqb, le-leb, lt-leb}
 use borrow.Author.Needs.{needs}
 use Rattle.codes.proofs.table.operand_fits.Statement.{statement}
 use Rattle.codes.proofs.table.operand_fits.Tie as tie
@@ -8,11 +10,8 @@ use Rattle.codes.proofs.table.operand_fits.Tie as tie
 is-within-requires : tie.Need-is-within-requires
 is-within-requires c κs = search needs
 
-is-within-requires-2 : tie.Need-is-within-requires-2
-is-within-requires-2 c κs = search needs
-
-is-within-requires-3 : tie.Need-is-within-requires-3
-is-within-requires-3 c κs = search needs
+filter-operand-fits-requires : tie.Need-filter-operand-fits-requires
+filter-operand-fits-requires c κs = search needs
 
 returns : tie.Need-returns
 unfolding operandFits
@@ -24,30 +23,35 @@ returns-2 c = rw (c .before .match .keys2) (c .is-within .ensures)
 
 returns-3 : tie.Need-returns-3
 unfolding operandFits
-returns-3 c = rw (c .before .match .keys3) (c .is-within2 .ensures)
+returns-3 c =
+    let m = c .before in
+    let h : m .before .args .kind ≤ 5 = omega (arith, c .if1 .taken) in
+    simp (ne-eqb _ _ (m .match .rest .0 .1), ne-eqb _ _ (m .match .rest .1), le-leb _ _ h)
 
 returns-4 : tie.Need-returns-4
 unfolding operandFits
-returns-4 c = rw (c .before .match .keys4) (c .is-within3 .ensures)
+returns-4 c =
+    let m = c .before .before .before in
+    let h : 5 < m .before .args .kind = omega (arith, c .before .before .if1 .left) in
+    let k : m .before .args .kind ≤ 15 = omega (arith, c .before .if2 .taken) in
+    simp (ne-eqb _ _ (m .match .rest .0 .1), ne-eqb _ _ (m .match .rest .1), lt-leb _ _ h, le-leb _ _ k, c .filter-operand-fits .ensures)
 
 returns-5 : tie.Need-returns-5
 unfolding operandFits
-returns-5 c = simp (ne-eqb _ _ (c .before .match .rest .0 .0 .0 .1), ne-eqb _ _ (c .before .match .rest .0 .0 .1), ne-eqb _ _ (c .before .match .rest .0 .1), ne-eqb _ _ (c .before .match .rest .1))
-
-returns-6 : tie.Need-returns-6
-unfolding operandFits
-returns-6 c = simp (ne-eqb _ _ (c .before .match .rest .0 .0 .0 .1), ne-eqb _ _ (c .before .match .rest .0 .0 .1), ne-eqb _ _ (c .before .match .rest .0 .1), ne-eqb _ _ (c .before .match .rest .1))
+returns-5 c =
+    let m = c .before .before in
+    let h : 5 < m .before .args .kind = omega (arith, c .before .if1 .left) in
+    let k : 15 < m .before .args .kind = omega (arith, c .if2 .left) in
+    simp (ne-eqb _ _ (m .match .rest .0 .1), ne-eqb _ _ (m .match .rest .1), lt-leb _ _ h, lt-leb _ _ k)
 
 pub operand-fits-spec : {M : Type 1} → statement M
 operand-fits-spec =
     tie.close
     (tie.spec
     is-within-requires
-    is-within-requires-2
-    is-within-requires-3
+    filter-operand-fits-requires
     returns
     returns-2
     returns-3
     returns-4
-    returns-5
-    returns-6)
+    returns-5)

@@ -24,7 +24,7 @@ slice-aggregate-put-listing-text-2 c = search needs
 put-listing-text-requires : tie.Need-put-listing-text-requires
 put-listing-text-requires c κs = let l = c .before .before .before .before .listing .ensures in
     let s = c .before .before .before .before .before .before .before .before .before in
-    (listing-printable (s .args .section .now) (s .args .selection .now) _ _ (l .0) (l .1), search needs)
+    (listing-printable (s .args .section .now) (s .args .selection .now) _ _ (l .0) (l .1 .1), search needs)
 
 array-share-prefix-text : tie.Need-array-share-prefix-text
 array-share-prefix-text c = search needs

@@ -14,7 +14,7 @@ slice-aggregate-put-head c = search needs
 
 put-head-requires : tie.Need-put-head-requires
 put-head-requires c κs =
-    let fits = c .before .before .known-told .given in
+    let fits = c .before .before .known-told .given .0 .1 .1 in
     head-room _ _ _ _ (omega arith) (omega (arith, fits .0 .1, fits .1 .0 .1)) (omega (arith, fits .0 .1, fits .1 .0 .1)) (omega arith)
 
 enum-known-answer-2 : tie.Need-enum-known-answer-2
@@ -34,7 +34,7 @@ returns : tie.Need-returns
 returns c =
     let k = c .before .before in
     let a = k .before .before .before .before in
-    let put = text-refused _ _ (a .answer .given .1) (k .put-head .ensures) in
+    let put = text-refused _ (a .answer .given .1) (k .put-head .ensures) in
     ((λ w. put (w .list) .wrote), ((λ w. put (w .list) .length-is), put-within (k .put-head .ensures) (put-head-requires (k .before) (k .put-head .lifetimes))))
 
 same-length-2 : tie.Need-same-length-2

@@ -11,11 +11,11 @@ cast-t4 c = search needs
 returns : tie.Need-returns
 returns c = sym (told-long _ (c .if1 .taken))
 
-cast-t7 : tie.Need-cast-t7
-cast-t7 c = search needs
+cast-t8 : tie.Need-cast-t8
+cast-t8 c = search needs
 
 returns-2 : tie.Need-returns-2
 returns-2 c = sym (told-answer _ (c .if1 .left))
 
 pub answer-of-spec : {M : Type 1} → statement M
-answer-of-spec = tie.close (tie.spec cast-t4 returns cast-t7 returns-2)
+answer-of-spec = tie.close (tie.spec cast-t4 returns cast-t8 returns-2)
