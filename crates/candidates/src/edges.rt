@@ -2,6 +2,7 @@
 // selection's order, so that the edges need not be the least and the greatest position.
 use model::Position;
 use strings::end_of;
+use strings::positions::is_between;
 use strings::start_of;
 ghost use mathlib.Core.Path.{_≡_};
 ghost use lib.ListN.{take};
@@ -51,10 +52,7 @@ pub fn edges_of(strs: &[u32]) -> Edges
 fn is_within(range: Range, p: Position) -> bool
     ensures { λ r. ⌜ r ≡ isWithin range (p .0) ⌝ }
 {
-    if p.0 < range.lo.0 {
-        return false;
-    }
-    p.0 <= range.hi.0
+    is_between(p, range.lo, range.hi)
 }
 
 // Are the edges within the ranges?

@@ -1,4 +1,4 @@
--- A position that is moved behind the strings that cover it passes covered positions only, and one that no string moves isn't covered. So the run from
+-- A position that is moved past the strings that cover it passes covered positions only, and one that no string moves isn't covered. So the run from
 -- where it stands is covered just where the run from where it comes to is.
 use Prim.Native.Nat.{ℕ, zero, suc, _+_, _-_, _≤_, _<_}
 use native.Mathlib.Omega.{arith}

@@ -1,4 +1,4 @@
 -- Loops over the strings of a part ..
 pub mod StringsLaws
--- .. and the laws behind src/covering.rt.
+-- .. and the laws of src/covering.rt.
 pub mod CoveringLaws

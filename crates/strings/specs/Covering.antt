@@ -17,16 +17,16 @@ chosen false ss = ss
 abbrev pub isChosen : Bool → Str → Bool
 isChosen only s = not only || s .contiguous
 
--- a position, moved behind a chosen string that covers it
+-- a position, moved to the one after a chosen string that covers it
 abbrev pub passed : Bool → ℕ → Str → ℕ
 passed only p s = cond (isChosen only s && covers s p) (s .end + 1) p
 
--- a position, moved behind each string in turn that covers it
+-- a position, moved past each string in turn that covers it
 unfoldable pub advanced : ℕ → List Str → ℕ
 advanced p [] = p
 advanced p (s ∷ ss) = advanced (passed false p s) ss
 
--- p is where the run from `from` to `to` stops being covered by ss: its first position that isn't, or one behind it
+-- p is where the run from `from` to `to` stops being covered by ss: its first position that isn't, or one after it
 pub record RunEnd (ss : List Str) (from to p : ℕ) : Type 0 where
   pub not-before : from ≤ p
   pub uncovered : p ≤ to → covered ss p ≡ false

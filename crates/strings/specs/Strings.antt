@@ -6,7 +6,7 @@ use Rattle.model.specs.Answers.{spanOf, tagOf}
 use Rattle.model.specs.Limits.{radix}
 use Rattle.model.specs.Matches.{Str}
 
--- strings of one sort (0: includes, 1: excludes), one behind the other
+-- strings of one sort (0: includes, 1: excludes), one after the other
 unfoldable pub strsOf : ℕ → List Str → List ℕ
 strsOf sort [] = []
 strsOf sort (s ∷ ss) = spanOf s ∷ tagOf sort s ∷ strsOf sort ss

@@ -1,4 +1,5 @@
 // Which positions the strings of a part cover. A run of positions is gone through string by string, never position by position.
+use super::positions::is_between;
 use super::spans::end_of;
 use super::spans::is_contiguous;
 use super::spans::start_of;
@@ -13,10 +14,7 @@ ghost use Rattle.strings.specs.Covering.{advanced, chosen, isChosen, pas
 pub fn covers(span: u32, p: Position) -> bool
     ensures { λ r. ⌜ r ≡ covers (strOf span 0) (p .0) ⌝ }
 {
-    if p.0 < start_of(span).0 {
-        return false;
-    }
-    p.0 <= end_of(span).0
+    is_between(p, start_of(span), end_of(span))
 }
 
 // "some include covers position"

@@ -1,30 +1,27 @@
--- The two tests of the definition, in its order.
-use Prim.Native.Nat.{_<_, _≤_, _/_}
-use native.Mathlib.Omega.{arith}
+-- The positions asked for are those that the definition names.
+use Prim.Native.Nat.{ℕ}
+use mathlib.Core.Bool.{_&&_}
+use mathlib.Core.Path.{ap₂, _∙_}
 use borrow.Author.Needs.{needs}
-use borrow.Author.Tests.{le-leb, lt-leb}
-use Rattle.model.specs.Limits.{radix}
+use lib.Dec.{leb}
 use Rattle.strings.proofs.covering.covers.Statement.{statement}
 use Rattle.strings.proofs.covering.covers.Tie as tie
 
 start-of-requires : tie.Need-start-of-requires
 start-of-requires c κs = search needs
 
-returns : tie.Need-returns
-returns c =
-    let a = c .before .before .before .before .args in
-    let h : a .p .0 < a .span / radix = omega arith in
-    rw (lt-leb _ _ h)
-
 end-of-requires : tie.Need-end-of-requires
 end-of-requires c κs = search needs
 
-returns-2 : tie.Need-returns-2
-returns-2 c =
-    let e = c .before .before in
-    let a = e .before .before .before .before .before .args in
-    let h : a .span / radix ≤ a .p .0 = omega arith in
-    rw (le-leb _ _ h, e .end-of .ensures)
+is-between-requires : tie.Need-is-between-requires
+is-between-requires c κs = search needs
+
+returns : tie.Need-returns
+returns c =
+    let e = c .before in
+    let s = e .before in
+    let p : ℕ = s .before .args .p .0 in
+    c .is-between .ensures ∙ ap₂ (λ (from to : ℕ). leb from p && leb p to) (s .start-of .ensures) (e .end-of .ensures)
 
 pub covers-spec : {M : Type 1} → statement M
-covers-spec = tie.close (tie.spec start-of-requires returns end-of-requires returns-2)
+covers-spec = tie.close (tie.spec start-of-requires end-of-requires is-between-requires returns)

@@ -1,7 +1,7 @@
 -- The two tests of the definition, in its order.
 use borrow.Author.Tests.{le-leb, lt-leb}
-use Rattle.candidates.proofs.edges.is_within.Statement.{statement}
-use Rattle.candidates.proofs.edges.is_within.Tie as tie
+use Rattle.strings.proofs.positions.is_between.Statement.{statement}
+use Rattle.strings.proofs.positions.is_between.Tie as tie
 
 returns : tie.Need-returns
 returns c = rw (lt-leb _ _ (c .if1 .taken))
@@ -9,5 +9,5 @@ returns c = rw (lt-leb _ _ (c .if1 .taken))
 returns-2 : tie.Need-returns-2
 returns-2 c = rw (le-leb _ _ (c .before .before .if1 .left))
 
-pub is-within-spec : {M : Type 1} → statement M
-is-within-spec = tie.close (tie.spec returns returns-2)
+pub is-between-spec : {M : Type 1} → statement M
+is-between-spec = tie.close (tie.spec returns returns-2)
