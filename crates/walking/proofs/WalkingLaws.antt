@@ -5,11 +5,13 @@ use mathlib.Core.Path.{_≡_, refl, sym, ap, _∙_, subst}
 use mathlib.Core.Bool.{Bool, true, false, not, cond}
 use mathlib.Core.List.{List, [], _∷_, _++_, map, append-nil}
 use mathlib.Core.Option.{Option, some, none}
+use denote.Enum.Declared.{tagOf}
+use types.Run.{OneOf, miss}
 use lib.ListN.{length, length-append}
 use lib.Seq.{append-snoc}
+use Rattle.model.proofs.Code.{the-type}
 use Rattle.model.specs.declared.Code.{Code}
 use Rattle.model.specs.declared.Code.the-variants.{Word, Phrase, Combine, Not, Filter as Filtered}
-use Rattle.model.specs.declared.Filter.{Filter}
 use Rattle.model.specs.declared.Pair.{Pair}
 use Rattle.model.specs.declared.Pair.the-variants.{Or, And, MildNot}
 use Rattle.model.specs.declared.Quick.{Quick}
@@ -156,9 +158,6 @@ module _ {section sel mem : List ℕ} {hi : ℕ} (w : Walkable section sel mem h
   pub some-codes : 1 ≤ hi
   some-codes = part-some (codeAt sel) hi (w .part)
 
-  pub word-walks : {A : Type 0} {code : Code} {v : ℕ} → code ≡ codeAt sel hi → code ≡ Word v → A
-  word-walks {A} {code} {v} e c = word-at (codeAt sel) hi (w .part) v (sym e ∙ c)
-
   -- a phrase
   pub phrase-walks : {code : Code} {k : ℕ} {words : List ℕ} {r : Quick} → code ≡ codeAt sel hi → code ≡ Phrase k → words ≡ phraseWords sel hi
       → ((rank : ℕ) → r ≡ Answered (not (isEmpty (phraseList (sectionOf section) rank words))) 1)
@@ -177,11 +176,19 @@ module _ {section sel mem : List ℕ} {hi : ℕ} (w : Walkable section sel mem h
       ∙ ap (λ (l : List ℕ). Answered (not (isEmpty (phraseList (sectionOf section) (rankAfter (w .part .below)) l))) 1) (ws ∙ found)
       ∙ ap (walk (sectionOf section)) (sym (p .is))
 
-  -- a filter
-  pub filter-walks : {code : Code} {f : Filter} → code ≡ codeAt sel hi → code ≡ Filtered f
+  -- a filter, or a word, in which no part ends
+  pub filter-walks : {code : Code} → code ≡ codeAt sel hi → OneOf (4 ∷ 0 ∷ []) (tagOf the-type code)
       → build (sectionOf section) (w .part .tree) ≡ walk (sectionOf section) (w .part .tree)
   unfolding walk
-  filter-walks {code} {f} e c = let p = filter-at (codeAt sel) hi (w .part) f (sym e ∙ c) in rw (p .is)
+  filter-walks {code} e told = at code e told
+    where
+      at : (x : Code) → x ≡ codeAt sel hi → OneOf (4 ∷ 0 ∷ []) (tagOf the-type x)
+          → build (sectionOf section) (w .part .tree) ≡ walk (sectionOf section) (w .part .tree)
+      at (Word v) c k = word-at (codeAt sel) hi (w .part) v (sym c)
+      at (Phrase n) c k = absurd (miss (4 ∷ 0 ∷ []) 1 tt k)
+      at (Combine q) c k = absurd (miss (4 ∷ 0 ∷ []) 2 tt k)
+      at Not c k = absurd (miss (4 ∷ 0 ∷ []) 3 tt k)
+      at (Filtered f) c k = let p = filter-at (codeAt sel) hi (w .part) f (sym c) in rw (p .is)
 
   -- a combination
   abbrev pub sides : {code : Code} {k : Pair} {mid : ℕ} → code ≡ codeAt sel hi → code ≡ Combine k → mid ≡ partStart (codeAt sel) (hi - 1)

@@ -75,7 +75,8 @@ fn walk_part(section: &[u32], selection: &[u32], work: &mut [u32], hi: u32) -> u
                 let found = phrase::is_found(section, words);
                 return answers::passed_up(answers::answered(found, 1), turned, codes);
             }
-            Code::Filter(_) => {
+            // no part ends in a word
+            Code::Filter(_) | Code::Word(_) => {
                 let answer = build_part(section, selection, work, place);
                 return answers::passed_up(answer, turned, codes);
             }
@@ -97,10 +98,6 @@ fn walk_part(section: &[u32], selection: &[u32], work: &mut [u32], hi: u32) -> u
                 turned = !turned;
                 codes += 1;
                 place -= 1;
-            }
-            // no part ends in a word
-            Code::Word(_) => {
-                return answers::too_long(place);
             }
         }
     }

@@ -13,7 +13,7 @@ use Rattle.model.specs.Walk.{walk}
 use Rattle.model.proofs.PartsLaws.{PairAt, start-le}
 use Rattle.walking.specs.Steps.{answerOf, isMildNot}
 use Rattle.walking.specs.Walkable.{Walkable}
-use Rattle.walking.proofs.WalkingLaws.{below, some-codes, word-walks, phrase-walks, filter-walks, sides, mild-walks}
+use Rattle.walking.proofs.WalkingLaws.{below, some-codes, phrase-walks, filter-walks, sides, mild-walks}
 use Rattle.walking.proofs.WalkingLaws.{Going, start, passes, passes-few, under-not, left-decides, left-few, right-side}
 use borrow.Author.Needs.{needs}
 use Prim.Native.Nat.{ℕ, _<_}
@@ -31,7 +31,6 @@ use Rattle.walking.proofs.answers.codes_in.Reads as codes-in-reads
 use Rattle.walking.proofs.answers.decides.Reads as decides-reads
 use Rattle.walking.proofs.answers.is_mild_not.Reads as is-mild-not-reads
 use Rattle.walking.proofs.answers.passed_up.Reads as passed-up-reads
-use Rattle.walking.proofs.answers.too_long.Reads as too-long-reads
 use Rattle.walking.proofs.build_part.Reads as build-part-reads
 use Rattle.walking.proofs.+walk_part.{statement}
 use Rattle.walking.proofs.+walk_part.Tie.{close}
@@ -70,8 +69,6 @@ claims t = (
   decides-reads.Learnt,
   codes-in-reads.Asked,
   codes-in-reads.Learnt,
-  too-long-reads.Asked,
-  too-long-reads.Learnt,
 )
 
 abbrev Inv-loop : walk-part-lts.InvT-loop
@@ -110,12 +107,12 @@ found t k w =
     (k .before .before .phrase-words .ensures)
     (λ rank. k .answered .ensures ∙ ap (λ (b : Bool). Answered b 1) (k .before .is-found .ensures rank))
 
--- a filter
-filtered : (t : ℕ) (k : walk-part-lts.After-build-part (claims t) (walk-part-at t) walk-part.Post Inv-loop μ-loop) → Answers t (k .before .before .before .before) (k .build-part .result)
+-- a filter, since no part ends in a word
+filtered : (t : ℕ) (k : walk-part-lts.After-build-part (claims t) (walk-part-at t) walk-part.Post Inv-loop μ-loop) → Answers t (k .before .before .before) (k .build-part .result)
 filtered t k w =
-    let told = k .before .before in
-    let here = going t (told .before .before) w .here in
-    k .build-part .ensures here ∙ filter-walks here (told .before .before .code-at .ensures) (told .enum-told2 .given .1)
+    let m = k .before .before in
+    let here = going t (m .before) w .here in
+    k .build-part .ensures here ∙ filter-walks here (m .before .code-at .ensures) (m .match .keys2)
 
 module _ (t : ℕ) (m : walk-part-lts.After-is-mild-not (claims t) (walk-part-at t) walk-part.Post Inv-loop μ-loop) where
   abbrev at-code : walk-part-lts.After-code-at (claims t) (walk-part-at t) walk-part.Post Inv-loop μ-loop
@@ -189,25 +186,22 @@ walk-part-returns t c w =
     let k = c .before in
     c .passed-up .ensures ∙ passes (going t (k .before .before .before .before .before) w) (found t k w)
 
-walk-part-enum-told-2 : (t : ℕ) → walk-part-lts.Need-enum-told-2 (claims t) (walk-part-at t) walk-part.Post Inv-loop μ-loop
-walk-part-enum-told-2 t c = search needs
-
 walk-part-build-part-requires : (t : ℕ) → walk-part-lts.Need-build-part-requires (claims t) (walk-part-at t) walk-part.Post Inv-loop μ-loop
-walk-part-build-part-requires t c κs = let a = c .before .before .before in going t a (own t a) .here
+walk-part-build-part-requires t c κs = let a = c .before .before in going t a (own t a) .here
 
 walk-part-passed-up-requires-2 : (t : ℕ) → walk-part-lts.Need-passed-up-requires-2 (claims t) (walk-part-at t) walk-part.Post Inv-loop μ-loop
 walk-part-passed-up-requires-2 t c κs =
     let k = c .before .before in
-    let a = k .before .before .before .before in
+    let a = k .before .before .before in
     passes-few (going t a (own t a)) (filtered t k (own t a))
 
 walk-part-same-length-2 : (t : ℕ) → walk-part-lts.Need-same-length-2 (claims t) (walk-part-at t) walk-part.Post Inv-loop μ-loop
-walk-part-same-length-2 t c = let k = c .before .before .before in k .build-part .kept .1 .1 .0 ∙ k .before .before .before .before .before .loop .inv .0
+walk-part-same-length-2 t c = let k = c .before .before .before in k .build-part .kept .1 .1 .0 ∙ k .before .before .before .before .loop .inv .0
 
 walk-part-returns-2 : (t : ℕ) → walk-part-lts.Need-returns-2 (claims t) (walk-part-at t) walk-part.Post Inv-loop μ-loop
 walk-part-returns-2 t c w =
     let k = c .before .before .before in
-    c .passed-up2 .ensures ∙ passes (going t (k .before .before .before .before) w) (filtered t k w)
+    c .passed-up2 .ensures ∙ passes (going t (k .before .before .before) w) (filtered t k w)
 
 walk-part-enum-known-code : (t : ℕ) → walk-part-lts.Need-enum-known-code (claims t) (walk-part-at t) walk-part.Post Inv-loop μ-loop
 walk-part-enum-known-code t c = search needs
@@ -299,8 +293,8 @@ walk-part-loop-again t c =
           (right-side (going t (code t p) w) (sides-of t p w) (plain t p) (left t k w) (sym (d .decides .ensures) ∙ c .before .if2 .left) _ same),
     )
 
-walk-part-enum-told-3 : (t : ℕ) → walk-part-lts.Need-enum-told-3 (claims t) (walk-part-at t) walk-part.Post Inv-loop μ-loop
-walk-part-enum-told-3 t c = search needs
+walk-part-enum-told-2 : (t : ℕ) → walk-part-lts.Need-enum-told-2 (claims t) (walk-part-at t) walk-part.Post Inv-loop μ-loop
+walk-part-enum-told-2 t c = search needs
 
 walk-part-add-codes-3 : (t : ℕ) → walk-part-lts.Need-add-codes-3 (claims t) (walk-part-at t) walk-part.Post Inv-loop μ-loop
 walk-part-add-codes-3 t c = let a = c .before .before in omega (arith, going t a (own t a) .few)
@@ -314,21 +308,7 @@ walk-part-loop-less-2 t c = let a = c .before .before in omega (arith, some-code
 walk-part-loop-again-2 : (t : ℕ) → walk-part-lts.Need-loop-again-2 (claims t) (walk-part-at t) walk-part.Post Inv-loop μ-loop
 walk-part-loop-again-2 t c =
     let a = c .before .before in
-    (a .before .loop .inv .0, λ w. under-not (going t a w) (a .code-at .ensures) (c .enum-told3 .given .1))
-
-walk-part-enum-told-4 : (t : ℕ) → walk-part-lts.Need-enum-told-4 (claims t) (walk-part-at t) walk-part.Post Inv-loop μ-loop
-walk-part-enum-told-4 t c = search needs
-
-walk-part-too-long-requires : (t : ℕ) → walk-part-lts.Need-too-long-requires (claims t) (walk-part-at t) walk-part.Post Inv-loop μ-loop
-walk-part-too-long-requires t c κs = search needs
-
-walk-part-same-length-5 : (t : ℕ) → walk-part-lts.Need-same-length-5 (claims t) (walk-part-at t) walk-part.Post Inv-loop μ-loop
-walk-part-same-length-5 t c = c .before .before .before .before .loop .inv .0
-
-walk-part-returns-5 : (t : ℕ) → walk-part-lts.Need-returns-5 (claims t) (walk-part-at t) walk-part.Post Inv-loop μ-loop
-walk-part-returns-5 t c w =
-    let told = c .before in
-    word-walks (going t (told .before .before) w .here) (told .before .before .code-at .ensures) (told .enum-told4 .given .1)
+    (a .before .loop .inv .0, λ w. under-not (going t a w) (a .code-at .ensures) (c .enum-told2 .given .1))
 
 pub +walk-part-spec : {M : Type 1} → statement M
 +walk-part-spec = close μ-walk-part λ t. walk-part-lts.spec (claims t)
@@ -345,7 +325,6 @@ pub +walk-part-spec : {M : Type 1} → statement M
     (walk-part-passed-up-requires t)
     (walk-part-same-length t)
     (walk-part-returns t)
-    (walk-part-enum-told-2 t)
     (walk-part-build-part-requires t)
     (walk-part-passed-up-requires-2 t)
     (walk-part-same-length-2 t)
@@ -369,12 +348,8 @@ pub +walk-part-spec : {M : Type 1} → statement M
     (walk-part-sub-place t)
     (walk-part-loop-less t)
     (walk-part-loop-again t)
-    (walk-part-enum-told-3 t)
+    (walk-part-enum-told-2 t)
     (walk-part-add-codes-3 t)
     (walk-part-sub-place-2 t)
     (walk-part-loop-less-2 t)
     (walk-part-loop-again-2 t)
-    (walk-part-enum-told-4 t)
-    (walk-part-too-long-requires t)
-    (walk-part-same-length-5 t)
-    (walk-part-returns-5 t)
