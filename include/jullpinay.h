@@ -21,7 +21,7 @@ extern "C" {
 
 /* The most bytes of stack that a call takes, its return address included, as the archive is compiled for x86-64. It needs no heap. */
 #define JULLPINAY_LISTING_STACK 768
-#define JULLPINAY_QUICK_STACK 4096
+#define JULLPINAY_QUICK_STACK 3584
 #define JULLPINAY_SNIPPET_STACK 128
 
 /* The full listing. Returns 0 and answers {0, matches, strings, yes}, with the listing in the buffer; or returns a refusal's number and answers
