@@ -5,13 +5,13 @@ use native.Mathlib.Omega.{arith}
 use mathlib.Core.List.{List, _++_}
 use mathlib.Core.Logic.{_↔_, Iff·trans}
 use mathlib.Core.Option.{Option, some, none, Option·some-ne-none}
-use mathlib.Core.Path.{_≡_, refl, sym, ap, ap₂, _∙_}
+use mathlib.Core.Path.{_≡_, refl, sym, _∙_}
 use lib.ListN.{length, drop}
 use Rattle.model.specs.declared.Refusal.{Refusal}
 use Rattle.model.specs.Accepted.{maxPhrases}
 use Rattle.model.specs.AllStrings.{Within}
 use Rattle.model.specs.Answers.{completeList, answerUnless, listingAnswer, listingNumbers, listingBuffer}
-use Rattle.model.specs.Checks.{refusal, sectionRefusal, selectionRefusal, inputRefusal}
+use Rattle.model.specs.Checks.{sectionRefusal, selectionRefusal, inputRefusal}
 use Rattle.model.specs.Limits.{radix}
 use Rattle.model.specs.Matches.{Str, Match}
 use Rattle.model.specs.Section.{size, sectionOf}
