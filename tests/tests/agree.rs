@@ -15,15 +15,26 @@ fn engine() -> impl Engine {
     Proved
 }
 
-/// 100,000 cases in release, fewer without optimisation; or as the environment says: `CASES=1000000 SEED=7 cargo test ...`.
-#[test]
-fn random_cases() {
+/// Cases of a seed agree: 100,000 in both tests below in release, fewer without optimisation; or as the environment says:
+/// `CASES=1000000 SEED=7 cargo test ...`.
+fn agree(test: u64) {
     let number = |variable: &str| std::env::var(variable).ok().and_then(|text| text.parse().ok());
-    let count = number("CASES").unwrap_or(if cfg!(debug_assertions) { 5_000 } else { 100_000 });
-    let seed = number("SEED").unwrap_or(1);
+    let count = number("CASES").unwrap_or(if cfg!(debug_assertions) { 5_000 } else { 100_000 }) / 2;
+    let seed = number("SEED").unwrap_or(1) * 2 + test;
     let begun = Instant::now();
     if let Err(wrong) = hunt(&engine(), seed, count as usize) {
         panic!("{wrong}");
     }
     println!("seed {seed}: {count} cases agree, {:?}", begun.elapsed());
+}
+
+#[test]
+fn random_cases() {
+    agree(0);
+}
+
+/// As many more: the two run side by side.
+#[test]
+fn more_random_cases() {
+    agree(1);
 }
