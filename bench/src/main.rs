@@ -1,4 +1,4 @@
-//! `bench` prints the table of times; `bench once` runs each case once for `bench/count`; `bench search SECONDS SEED [KIND]...`
+//! `bench` prints the table of times; `bench once` runs each case once for `bench/count`; `bench cases` prints the cases for `bench/compare`; `bench search SECONDS SEED [KIND]...`
 //! looks for the accepted inputs that cost most, some kinds left out, and `bench slower` for those that cost most beside the
 //! second engine.
 
@@ -65,18 +65,30 @@ fn once() {
     }
 }
 
+/// A case a paragraph: its name, the section, the selection; each slice with its length first.
+fn print_cases() {
+    for case in cases::all() {
+        println!("{}", case.name);
+        for slice in [&case.section, &case.selection] {
+            let numbers: Vec<String> = slice.iter().map(u32::to_string).collect();
+            println!("{} {}", slice.len(), numbers.join(" "));
+        }
+    }
+}
+
 fn main() {
     let arguments: Vec<String> = std::env::args().skip(1).collect();
     let arguments: Vec<&str> = arguments.iter().map(String::as_str).collect();
     match arguments[..] {
         [] => timing::table(),
         ["once"] => once(),
+        ["cases"] => print_cases(),
         [aim @ ("search" | "slower"), seconds, seed, ref without @ ..] => {
             let aim = if aim == "search" { Aim::Time } else { Aim::Ratio };
             let number = |text: &str| text.parse::<u64>().expect("a number");
             let without: Vec<u32> = without.iter().map(|kind| number(kind) as u32).collect();
             search::search(aim, number(seconds), number(seed), &without);
         }
-        _ => panic!("bench, bench once, or bench search|slower SECONDS SEED [KIND LEFT OUT]..."),
+        _ => panic!("bench, bench once, bench cases, or bench search|slower SECONDS SEED [KIND LEFT OUT]..."),
     }
 }

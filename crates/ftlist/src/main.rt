@@ -1,4 +1,6 @@
-// ftlist: the full listing of a section and a selection that it reads from standard input. What it prints for what it reads is `program::run`'s.
+// ftlist: the full listing of a section and a selection that it reads from standard input.
+mod run; // from the bytes that it reads to the bytes that it prints
+
 use model::BUFFER_LENGTH;
 use model::WORK_LENGTH;
 use text::MAX_INPUT;
@@ -13,7 +15,7 @@ fn main() {
     let mut work = [0u32; WORK_LENGTH];
     let mut buffer = [0u32; BUFFER_LENGTH];
     let mut text = [0u8; TEXT_LENGTH];
-    let printed = program::run(
+    let printed = run::run(
         &input[..length],
         &mut numbers,
         &mut work,

@@ -1,13 +1,13 @@
 -- The tests of the input are the program's own; the numbers that it reads are the bytes'.
-use Rattle.program.proofs.RunLaws.{program-text}
+use Rattle.ftlist.proofs.RunLaws.{program-text}
 use Rattle.text.proofs.ProgramLaws.{program-long, program-uneven}
 use Rattle.text.proofs.SetsLaws.{take-written}
 use lib.ListN.{length-take}
 use native.Mathlib.Omega.{arith}
 use mathlib.Core.Path.{sym, _∙_}
 use borrow.Author.Needs.{needs}
-use Rattle.program.proofs.run.Statement.{statement}
-use Rattle.program.proofs.run.Tie as tie
+use Rattle.ftlist.proofs.run.run.Statement.{statement}
+use Rattle.ftlist.proofs.run.run.Tie as tie
 
 print-refusal-requires : tie.Need-print-refusal-requires
 print-refusal-requires c κs = search needs

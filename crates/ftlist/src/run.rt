@@ -10,7 +10,7 @@ ghost use Rattle.model.specs.declared.Listing.the-variants.{Refused};
 ghost use Rattle.text.specs.Input.{listingOf, maxNumbers, programText, sectionPart, selectionPart};
 ghost use Rattle.text.specs.Printable.{textLength};
 ghost use Rattle.text.specs.Printed.{listingText};
-ghost use Rattle.program.specs.Lent.{Lent};
+ghost use Rattle.ftlist.specs.Lent.{Lent};
 
 // "prints `refused 1 0`"
 fn print_refusal(buffer: &[u32], text: &mut [u8]) -> usize

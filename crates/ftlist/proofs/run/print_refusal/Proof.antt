@@ -5,8 +5,8 @@ use Rattle.model.specs.Checks.{refusal}
 use Rattle.model.specs.declared.Listing.the-variants.{Refused}
 use mathlib.Core.List.{[]}
 use borrow.Author.Needs.{needs}
-use Rattle.program.proofs.print_refusal.Statement.{statement}
-use Rattle.program.proofs.print_refusal.Tie as tie
+use Rattle.ftlist.proofs.run.print_refusal.Statement.{statement}
+use Rattle.ftlist.proofs.run.print_refusal.Tie as tie
 
 put-listing-text-requires : tie.Need-put-listing-text-requires
 put-listing-text-requires c κs = (record { list = []; held = tt }, c .before .before .before .pre)

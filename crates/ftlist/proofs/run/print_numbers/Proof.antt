@@ -1,11 +1,11 @@
 -- The section is the first part of the numbers, and the selection the rest.
-use Rattle.program.proofs.RunLaws.{parts-text}
+use Rattle.ftlist.proofs.RunLaws.{parts-text}
 use lib.ListN.{length-take}
 use native.Mathlib.Omega.{arith}
 use mathlib.Core.Path.{_∙_}
 use borrow.Author.Needs.{needs}
-use Rattle.program.proofs.print_numbers.Statement.{statement}
-use Rattle.program.proofs.print_numbers.Tie as tie
+use Rattle.ftlist.proofs.run.print_numbers.Statement.{statement}
+use Rattle.ftlist.proofs.run.print_numbers.Tie as tie
 
 section-length-requires : tie.Need-section-length-requires
 section-length-requires c κs = search needs

@@ -1,12 +1,12 @@
 -- What the full listing answers and leaves in the buffer can be printed, as the complete AllMatches.
-use Rattle.program.proofs.RunLaws.{listing-text}
+use Rattle.ftlist.proofs.RunLaws.{listing-text}
 use Rattle.text.proofs.ProgramLaws.{listing-printable}
 use Rattle.text.proofs.SetsLaws.{take-written}
 use lib.ListN.{length}
 use mathlib.Core.Path.{_∙_}
 use borrow.Author.Needs.{needs}
-use Rattle.program.proofs.print_listing.Statement.{statement}
-use Rattle.program.proofs.print_listing.Tie as tie
+use Rattle.ftlist.proofs.run.print_listing.Statement.{statement}
+use Rattle.ftlist.proofs.run.print_listing.Tie as tie
 
 listing-requires : tie.Need-listing-requires
 listing-requires c κs = search needs
