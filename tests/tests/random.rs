@@ -17,11 +17,11 @@ fn number(variable: &str) -> Option<u64> {
 
 #[test]
 fn the_second_engine_agrees_with_itself() {
-    let begun = Instant::now();
-    if let Err(wrong) = hunt(&SecondEngine::new(), number("SEED").unwrap_or(1), how_many()) {
+    let (count, begun) = (how_many() / 5, Instant::now());
+    if let Err(wrong) = hunt(&SecondEngine::new(), number("SEED").unwrap_or(1), count) {
         panic!("{wrong}");
     }
-    println!("{} cases in {:?}", how_many(), begun.elapsed());
+    println!("{count} cases in {:?}", begun.elapsed());
 }
 
 /// A case depends on its seed and its index alone.
