@@ -5,8 +5,6 @@ use super::keeping::stays;
 use joining::join_span;
 use joining::join_tag;
 use model::Filter;
-ghost use mathlib.Core.List.{[], _∷_};
-ghost use Prim.Native.Nat.{_+_, _≤_};
 ghost use lib.ListN.{length};
 ghost use Rattle.model.specs.Rules.{join};
 ghost use Rattle.model.specs.Section.{sectionOf};
@@ -15,16 +13,6 @@ ghost use Rattle.store.specs.Each.{OneAt};
 ghost use Rattle.store.specs.Put.{Put};
 ghost use Rattle.filters.specs.Keeping.{keptOf};
 ghost use Rattle.filters.specs.Writing.{Exclude, Join, PutOf, PutOne, RoomAt, excludesNumbers, includesNumbers, keptNumbers, stayNumbers, strsIn};
-
-// Writes a string.
-fn put_string(mem: &mut [u32], q: usize, span: u32, tag: u32) -> usize
-    requires { ⌜ q + 2 ≤ length (now mem) ⌝ }
-    ensures { λ r. ⌜ Put (now (mem .entry)) (now (mem .exit)) q (span ∷ tag ∷ []) r ⌝ }
-{
-    mem[q] = span;
-    mem[q + 1] = tag;
-    q + 2
-}
 
 // Writes the join of a part's strings.
 fn put_join(mem: &mut [u32], a: usize, e: usize, q: usize) -> usize
@@ -36,7 +24,7 @@ fn put_join(mem: &mut [u32], a: usize, e: usize, q: usize) -> usize
     }
     let span = join_span(&mem[a..e]);
     let tag = join_tag(&mem[a..e]);
-    put_string(mem, q, span, tag)
+    store::put_string(mem, q, span, tag)
 }
 
 // Writes the includes of a match that is kept: as they are, or their join.
@@ -71,7 +59,7 @@ fn put_exclude(
     if !stays(section, filter, &mem[a..b], span, tag) {
         return q;
     }
-    put_string(mem, q, span, tag)
+    store::put_string(mem, q, span, tag)
 }
 
 // Writes the excludes that stay of a match that is kept.
