@@ -2,14 +2,11 @@
 use Prim.Native.Nat.{ℕ, _+_, _-_, _*_, _≤_, _<_}
 use native.Mathlib.Omega.{arith}
 use mathlib.Core.Path.{_≡_, sym, ap, _∙_, subst}
-use mathlib.Core.List.{List, [], _∷_, flatMap}
-use denote.Enum.Declared.{tagOf}
-use types.Run.{OneOf, miss}
+use mathlib.Core.List.{List, _∷_, flatMap}
 use lib.ListN.{length}
 use lib.Seq.{sets}
-use Rattle.model.proofs.Filter.{the-type}
 use Rattle.model.specs.declared.Filter.{Filter}
-use Rattle.model.specs.declared.Filter.the-variants.{Ordered, Window, Distance, SameSentence, SameParagraph, DifferentSentence, DifferentParagraph, AtStart, AtEnd, EntireContent}
+use Rattle.model.specs.declared.Filter.the-variants.{Window}
 use Rattle.model.specs.declared.Pair.{Pair}
 use Rattle.model.specs.AllMatches.{filterList, pairList}
 use Rattle.model.specs.AllStrings.{AllList}
@@ -17,7 +14,6 @@ use Rattle.model.specs.Limits.{maxWaiting, workLength}
 use Rattle.model.specs.Matches.{Match}
 use Rattle.model.specs.Rules.{window}
 use Rattle.model.specs.Section.{Section}
-use Rattle.model.specs.Selection.{filterKind}
 use Rattle.store.specs.declared.Built.{Built}
 use Rattle.store.specs.declared.Built.the-variants.{Made, TooLong}
 use Rattle.store.specs.Fine.{Fine}
@@ -28,6 +24,10 @@ use Rattle.store.specs.Slot.{SlotHolds, SlotAt}
 use Rattle.store.specs.Stack.{Stack}
 use Rattle.store.proofs.Slots.{answer-made, outcome-put, outcome-slot}
 use Rattle.store.proofs.StackLaws.{stack-last, stack-rest, stack-push, stack-built}
+use Rattle.filter_rules.specs.declared.Keeper.{Keeper}
+use Rattle.filter_rules.specs.declared.Rule.{Rule}
+use Rattle.filter_rules.specs.declared.Rule.the-variants.{Window as ByWindow, Keep}
+use Rattle.filter_rules.specs.Keepers.{keeperFilter, filterOf}
 use Rattle.or_and.specs.TwoSlots.{TwoSlots}
 use Rattle.building.specs.Steps.{NoneTaken, OneTaken, TwoTaken, Fresh, Added}
 
@@ -184,23 +184,16 @@ module _ {k j : Pair} {mem : List ℕ} {lists : ℕ} (e : k ≡ j) (w : TwoTaken
   unfolding pair-as
   pair-added {mem'} {built} f = subst (λ (i : Pair). Added (pairList i (w .lefts) (w .rights)) (w .rest) mem' built) (sym e) (f pair-as)
 
--- ---- a filter by its name
+-- ---- a filter by its rule
 
--- what the tags of the other filters tell
-pub no-window : (f : Filter) → OneOf (0 ∷ 2 ∷ 3 ∷ 4 ∷ 5 ∷ 6 ∷ 7 ∷ 8 ∷ 9 ∷ []) (tagOf the-type f) → filterKind f ≡ 7 → ⊥
-no-window Ordered k e = omega arith
-no-window (Window n) k e = miss (0 ∷ 2 ∷ 3 ∷ 4 ∷ 5 ∷ 6 ∷ 7 ∷ 8 ∷ 9 ∷ []) 1 tt k
-no-window (Distance a b) k e = omega arith
-no-window SameSentence k e = omega arith
-no-window SameParagraph k e = omega arith
-no-window DifferentSentence k e = omega arith
-no-window DifferentParagraph k e = omega arith
-no-window AtStart k e = omega arith
-no-window AtEnd k e = omega arith
-no-window EntireContent k e = omega arith
+module _ {f : Filter} {rule : Rule} (e : f ≡ filterOf rule) where
+  pub is-window : {n : ℕ} → rule ≡ ByWindow n → f ≡ Window n
+  is-window t = e ∙ ap filterOf t
 
--- a window by its own rule
-pub by-window : (s : Section) (ms : List Match) {f : Filter} {n : ℕ} {mem mem' : List ℕ} {at : ℕ} {built : Built} → f ≡ Window n
-    → Outcome (flatMap (window n) ms) mem mem' at built → Outcome (filterList s f ms) mem mem' at built
-unfolding filterList
-by-window s ms {mem = mem} {mem'} {at} {built} e o = subst (λ (g : Filter). Outcome (filterList s g ms) mem mem' at built) (sym e) o
+  module _ (s : Section) (ms : List Match) {mem mem' : List ℕ} {at : ℕ} {built : Built} where
+    pub by-window : {n : ℕ} → rule ≡ ByWindow n → Outcome (flatMap (window n) ms) mem mem' at built → Outcome (filterList s f ms) mem mem' at built
+    unfolding filterList
+    by-window t o = subst (λ (g : Filter). Outcome (filterList s g ms) mem mem' at built) (sym (is-window t)) o
+
+    pub by-keeper : {k : Keeper} → rule ≡ Keep k → Outcome (filterList s (keeperFilter k) ms) mem mem' at built → Outcome (filterList s f ms) mem mem' at built
+    by-keeper t o = subst (λ (g : Filter). Outcome (filterList s g ms) mem mem' at built) (sym (e ∙ ap filterOf t)) o

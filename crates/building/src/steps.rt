@@ -1,4 +1,5 @@
 // One code's list, built from the lists that wait in the slots from 0 on. It takes the slot of the first list that it is made of.
+use filter_rules::Rule;
 use model::Code;
 use model::Filter;
 use model::Pair;
@@ -106,10 +107,10 @@ fn filtered(section: &[u32], filter: Filter, mem: &mut [u32], src: usize) -> Bui
         ⌜ ((w : SlotAt (now (mem .entry)) src)
         → Outcome (filterList (sectionOf (now (section .entry))) filter (w .list)) (now (mem .entry)) (now (mem .exit)) scratch r) ⌝ }
 {
-    let Filter::Window(n) = filter else {
-        return filters::filter_list(section, filter, mem, src, store::SCRATCH);
-    };
-    window::window_list(mem, n, src, store::SCRATCH)
+    match filter_rules::rule_of(filter) {
+        Rule::Window(n) => window::window_list(mem, n, src, store::SCRATCH),
+        Rule::Keep(keeper) => filters::filter_list(section, keeper, mem, src, store::SCRATCH),
+    }
 }
 
 // A filter, of the last list.

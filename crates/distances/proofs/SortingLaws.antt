@@ -15,7 +15,7 @@ use Rattle.model.specs.Answers.{spanOf}
 use Rattle.model.specs.Limits.{radix}
 use Rattle.model.specs.Lists.{allOf, insertSorted, neighbours, sort}
 use Rattle.model.specs.Matches.{Str}
-use Rattle.model.specs.Rules.{notAfter, distanceOf, within}
+use Rattle.model.specs.Rules.{notAfter, distance}
 use Rattle.model.proofs.EveryLaws.{every-weaker}
 use Rattle.distances.specs.Sorting.{counted, copies, nearer, above, passing, passes, spansWithin}
 use Rattle.strings.specs.Strings.{strsAt}
@@ -253,7 +253,7 @@ module _ (least most : ℕ) (l : List ℕ) where
   followed-strAt i = ap (λ v. passes (spansWithin least most) v (map spanOf (strsAt l))) (sym (spanOf-strOf (getD l i 0) (getD l (i + 1) 0)))
 
   -- the rule's test on the sorted strings, made on the strings unsorted
-  pub neighbours-strings : neighbours (λ s t. within least most (distanceOf s t)) (sort notAfter (strsAt l)) ≡ allOf (followed least most l) (strsAt l)
+  pub neighbours-strings : distance least most .keeps (strsAt l) ≡ allOf (followed least most l) (strsAt l)
   neighbours-strings =
       let r : ℕ → ℕ → Bool = spansWithin least most in
       let ss : List Str = strsAt l in

@@ -7,8 +7,7 @@ ghost use mathlib.Core.List.{map};
 ghost use Prim.Native.Nat.{ℕ};
 ghost use lib.Dec.{leb};
 ghost use Rattle.model.specs.Answers.{spanOf};
-ghost use Rattle.model.specs.Lists.{allOf, neighbours, sort};
-ghost use Rattle.model.specs.Rules.{between, distanceOf, notAfter, within};
+ghost use Rattle.model.specs.Rules.{between, distance, distanceOf};
 ghost use Rattle.distances.specs.Sorting.{nearer, passes, passing, spansWithin};
 ghost use Rattle.strings.specs.Strings.{strOf, strsAt};
 
@@ -47,7 +46,7 @@ fn lies_within(span: u32, other: u32, least: u32, most: u32) -> bool
 
 // "whose distance to every include lies in a to b"
 pub fn in_distance(span: u32, strs: &[u32], least: u32, most: u32) -> bool
-    ensures { λ r. ⌜ ((tag : ℕ) → r ≡ allOf (λ s. within least most (distanceOf (strOf span tag) s)) (strsAt (now (strs .entry)))) ⌝ }
+    ensures { λ r. ⌜ ((tag : ℕ) → r ≡ distance least most .stays (strsAt (now (strs .entry))) (strOf span tag)) ⌝ }
 {
     let mut i = 0;
     while i + 1 < strs.len() {
@@ -117,7 +116,7 @@ fn next_within(span: u32, strs: &[u32], least: u32, most: u32) -> bool
 
 // "all neighbours among the sorted includes lie in a to b". Nothing is sorted: each string is held against the one that would follow it.
 pub fn sorted_within(strs: &[u32], least: u32, most: u32) -> bool
-    ensures { λ r. ⌜ r ≡ neighbours (λ s t. within least most (distanceOf s t)) (sort notAfter (strsAt (now (strs .entry)))) ⌝ }
+    ensures { λ r. ⌜ r ≡ distance least most .keeps (strsAt (now (strs .entry))) ⌝ }
 {
     let mut i = 0;
     while i + 1 < strs.len() {

@@ -3,36 +3,37 @@ use Prim.Native.Nat.{ℕ, suc, _+_, _-_, _*_, _/_, _≤_, _<_, min}
 use native.Mathlib.Omega.{arith}
 use mathlib.Core.Path.{_≡_, refl, sym, ap, ap₂, _∙_, subst}
 use mathlib.Core.Bool.{Bool, true, false, cond}
-use mathlib.Core.List.{List, [], _∷_, map, flatMap}
+use mathlib.Core.List.{List, [], _∷_, flatMap}
 use mathlib.Core.Logic.{inl}
 use lib.ListN.{length, take, drop, getD, set, length-take, length-drop, drop-of-length-le}
 use lib.Seq.{sets}
-use Rattle.model.specs.declared.Filter.{Filter}
 use Rattle.model.specs.AllStrings.{Every, AllStrs}
 use Rattle.model.specs.Answers.{spanOf, tagOf}
 use Rattle.model.specs.Lists.{keep}
 use Rattle.model.specs.Matches.{Str, Match}
-use Rattle.model.specs.Rules.{join}
-use Rattle.model.specs.Section.{Section}
+use Rattle.model.specs.Rules.{Keeping, join, keptMatch, kept}
 use Rattle.model.proofs.ListsLaws.{length-keep}
+use Rattle.model.proofs.RulesLaws.{length-kept, size-kept}
 use Rattle.strings.specs.Strings.{strOf, strsOf, strsAt}
 use Rattle.strings.proofs.StringsLaws.{length-strsAt, strsAt-none}
 use Rattle.joining.specs.Joined.{joined}
 use Rattle.joining.proofs.JoiningLaws.{strsOf-join}
+use Rattle.store.specs.Built.{Small}
 use Rattle.store.specs.Each.{OneAt}
 use Rattle.store.specs.Fine.{Fine}
 use Rattle.store.specs.Layout.{Holds, headerOf, includesIn, excludesIn, matchesNumbers}
 use Rattle.store.specs.Places.{CopyUp, Counts}
 use Rattle.store.specs.Put.{Put}
+use Rattle.store.specs.Slot.{SlotHolds}
 use Rattle.store.proofs.Back.{includes-held, excludes-held, length-held, includes-hold, excludes-hold, includes-read, str-back}
+use Rattle.store.proofs.EachLaws.{flatMap-small}
 use Rattle.store.proofs.LayoutLaws.{length-strsOf, length-match, matches-kept}
 use Rattle.store.proofs.Memory.{part-apart, getD-head, holds-tail}
 use Rattle.store.proofs.PutLaws.{holds-below, length-put, put-none, put-append, put-copy, put-match, put-kept, put-dropped}
 use Rattle.store.proofs.Rows.{Rows, rows-start, rows-room, rows-step, rows-finish, flatMap-keep}
+use Rattle.store.proofs.Slots.{slot-small}
 use Rattle.store.proofs.Walking.{match-below}
-use Rattle.filters.specs.Keeping.{keepsOf, staysOf, joinsOf, includesKept, excludesKept, keptMatch, keptOf}
 use Rattle.filters.specs.Writing.{includesNumbers, excludesNumbers, keptNumbers, strsIn, stayNumbers, RoomAt, PutOf, Join, Exclude}
-use Rattle.filters.proofs.KeepingLaws.{length-includes}
 
 -- ---- the join
 
@@ -63,13 +64,13 @@ join-numbers (s ∷ ss) = omega arith
 
 -- ---- the includes
 
-module _ (f : Filter) {mem : List ℕ} {p q : ℕ} (w : RoomAt (includesNumbers f) mem p q) {n : ℕ} (e : n ≡ includesIn (getD mem p 0)) where
+module _ (joins : Bool) {mem : List ℕ} {p q : ℕ} (w : RoomAt (includesNumbers joins) mem p q) {n : ℕ} (e : n ≡ includesIn (getD mem p 0)) where
   count : n ≡ length (w .item .includes)
   count = e ∙ includes-held (w .held)
 
   -- a filter that gives the join ..
-  module _ (j : joinsOf f ≡ true) where
-    join-kept : includesNumbers f (w .item) ≡ strsOf 0 (join (w .item .includes))
+  module _ (j : joins ≡ true) where
+    join-kept : includesNumbers joins (w .item) ≡ strsOf 0 (join (w .item .includes))
     join-kept = rw j
 
     pub join-fits : Join (length mem) (p + 1) (p + 1 + 2 * n) q
@@ -78,14 +79,14 @@ module _ (f : Filter) {mem : List ℕ} {p q : ℕ} (w : RoomAt (includesNumbers 
         omega (arith, join-numbers (w .item .includes), count, w .held .header)
 
     pub put-joined : {mem' : List ℕ} {next : ℕ} → Put mem mem' q (strsOf 0 (join (strsIn mem (p + 1) (p + 1 + 2 * n)))) next
-        → Put mem mem' q (includesNumbers f (w .item)) next
+        → Put mem mem' q (includesNumbers joins (w .item)) next
     put-joined {mem'} {next} v =
         let read = includes-read (w .held) (p + 1) (p + 1 + 2 * n) refl (omega arith) in
         subst (λ xs. Put mem mem' q xs next) (ap (λ ss. strsOf 0 (join ss)) read ∙ sym join-kept) v
 
   -- .. and one that leaves the includes as they are
-  module _ (j : joinsOf f ≡ false) where
-    plain : includesNumbers f (w .item) ≡ strsOf 0 (w .item .includes)
+  module _ (j : joins ≡ false) where
+    plain : includesNumbers joins (w .item) ≡ strsOf 0 (w .item .includes)
     plain = rw j
 
     pub copy-fits : CopyUp (length mem) (p + 1) (2 * n) q
@@ -93,7 +94,7 @@ module _ (f : Filter) {mem : List ℕ} {p q : ℕ} (w : RoomAt (includesNumbers 
         let room : q + length (strsOf 0 (w .item .includes)) ≤ length mem = subst (λ xs. q + length xs ≤ length mem) plain (w .room) in
         omega (arith, length-strsOf 0 (w .item .includes), count, w .below)
 
-    pub put-plain : {mem' : List ℕ} → mem' ≡ sets mem q (take (2 * n) (drop (p + 1) mem)) → Put mem mem' q (includesNumbers f (w .item)) (q + 2 * n)
+    pub put-plain : {mem' : List ℕ} → mem' ≡ sets mem q (take (2 * n) (drop (p + 1) mem)) → Put mem mem' q (includesNumbers joins (w .item)) (q + 2 * n)
     put-plain {mem'} s =
         subst (λ xs. Put mem mem' q xs (q + 2 * n)) (sym plain)
         (put-copy (2 * n) q (omega (arith, length-strsOf 0 (w .item .includes), count)) (includes-hold (w .held) (p + 1) refl) s)
@@ -101,16 +102,16 @@ module _ (f : Filter) {mem : List ℕ} {p q : ℕ} (w : RoomAt (includesNumbers 
 -- ---- the excludes
 
 -- an exclude's numbers, if it stays beside these includes
-abbrev stayed : Section → Filter → List Str → Str → List ℕ
-stayed s f is e = cond (staysOf s f is e) (spanOf e ∷ tagOf 1 e ∷ []) []
+abbrev stayed : Keeping → List Str → Str → List ℕ
+stayed f is e = cond (f .stays is e) (spanOf e ∷ tagOf 1 e ∷ []) []
 
 strsOf-flatMap : (sort : ℕ) (ss : List Str) → strsOf sort ss ≡ flatMap (λ s. spanOf s ∷ tagOf sort s ∷ []) ss
 unfolding strsOf flatMap
 strsOf-flatMap sort [] = refl
 strsOf-flatMap sort (s ∷ ss) = ap (λ xs. spanOf s ∷ tagOf sort s ∷ xs) (strsOf-flatMap sort ss)
 
-excludes-rows : (s : Section) (f : Filter) (m : Match) → excludesNumbers s f m ≡ flatMap (stayed s f (m .includes)) (m .excludes)
-excludes-rows s f m = strsOf-flatMap 1 (keep (staysOf s f (m .includes)) (m .excludes)) ∙ flatMap-keep _ (staysOf s f (m .includes)) (m .excludes)
+excludes-rows : (f : Keeping) (m : Match) → excludesNumbers f m ≡ flatMap (stayed f (m .includes)) (m .excludes)
+excludes-rows f m = strsOf-flatMap 1 (keep (f .stays (m .includes)) (m .excludes)) ∙ flatMap-keep _ (f .stays (m .includes)) (m .excludes)
 
 -- the next of the strings that are left
 record Next (todo : List Str) : Type 0 where
@@ -123,16 +124,16 @@ next [] h = absurd (omega arith)
 next (x ∷ xs) h = record { first = x; rest = xs; is = refl }
 
 -- before the exclude at k, of those that end before e: memory was mem₀, and of those before it the ones that stay are written from to on to q
-pub record Staying (s : Section) (f : Filter) (m : Match) (mem₀ : List ℕ) (e to : ℕ) (mem : List ℕ) (k q : ℕ) : Type 0 where
+pub record Staying (f : Keeping) (m : Match) (mem₀ : List ℕ) (e to : ℕ) (mem : List ℕ) (k q : ℕ) : Type 0 where
   pub todo : List Str
-  pub rows : Rows (stayed s f (m .includes)) (m .excludes) todo mem₀ mem to q
+  pub rows : Rows (stayed f (m .includes)) (m .excludes) todo mem₀ mem to q
   pub holds : Holds mem₀ k (strsOf 1 todo)
   pub fine : AllStrs Fine todo
   pub end : k + 2 * length todo ≡ e
 
-module _ (s : Section) (f : Filter) {mem₀ : List ℕ} {p to : ℕ} (w : RoomAt (excludesNumbers s f) mem₀ p to)
+module _ (f : Keeping) {mem₀ : List ℕ} {p to : ℕ} (w : RoomAt (excludesNumbers f) mem₀ p to)
     {n m : ℕ} (en : n ≡ includesIn (getD mem₀ p 0)) (em : m ≡ excludesIn (getD mem₀ p 0)) where
-  pub stay-start : Staying s f (w .item) mem₀ (p + 1 + 2 * n + 2 * m) to mem₀ (p + 1 + 2 * n) to
+  pub stay-start : Staying f (w .item) mem₀ (p + 1 + 2 * n + 2 * m) to mem₀ (p + 1 + 2 * n) to
   stay-start =
       record {
         todo = w .item .excludes;
@@ -142,7 +143,7 @@ module _ (s : Section) (f : Filter) {mem₀ : List ℕ} {p to : ℕ} (w : RoomAt
         end = omega (arith, excludes-held (w .held));
       }
 
-  module _ {mem : List ℕ} {k q : ℕ} (g : Staying s f (w .item) mem₀ (p + 1 + 2 * n + 2 * m) to mem k q) where
+  module _ {mem : List ℕ} {k q : ℕ} (g : Staying f (w .item) mem₀ (p + 1 + 2 * n + 2 * m) to mem k q) where
     -- the includes are read as they were
     includes-still : strsIn mem (p + 1) (p + 1 + 2 * n) ≡ w .item .includes
     includes-still =
@@ -166,27 +167,27 @@ module _ (s : Section) (f : Filter) {mem₀ : List ℕ} {p to : ℕ} (w : RoomAt
       length-left = ap length (here .is)
 
       -- the exclude in hand, by its two numbers
-      numbers : stayNumbers s f mem (p + 1) (p + 1 + 2 * n) k ≡ stayed s f (w .item .includes) (here .first)
+      numbers : stayNumbers f mem (p + 1) (p + 1 + 2 * n) k ≡ stayed f (w .item .includes) (here .first)
       numbers =
           let x : Str = here .first in
           let still = holds-below (g .rows .put) (omega (arith, g .end, length-left, length-strsOf 1 (here .rest), w .below)) left in
           let span : getD mem k 0 ≡ spanOf x = getD-head _ still in
           let tag : getD mem (k + 1) 0 ≡ tagOf 1 x = getD-head _ (holds-tail _ still) in
-          ap (λ is. cond (staysOf s f is (strOf (getD mem k 0) (getD mem (k + 1) 0))) (getD mem k 0 ∷ getD mem (k + 1) 0 ∷ []) []) includes-still
-          ∙ ap₂ (λ a b. cond (staysOf s f (w .item .includes) (strOf a b)) (a ∷ b ∷ []) []) span tag
-          ∙ ap (λ y. cond (staysOf s f (w .item .includes) y) (spanOf x ∷ tagOf 1 x ∷ []) []) (str-back 1 x (omega arith) (fine-left .0))
+          ap (λ is. cond (f .stays is (strOf (getD mem k 0) (getD mem (k + 1) 0))) (getD mem k 0 ∷ getD mem (k + 1) 0 ∷ []) []) includes-still
+          ∙ ap₂ (λ a b. cond (f .stays (w .item .includes) (strOf a b)) (a ∷ b ∷ []) []) span tag
+          ∙ ap (λ y. cond (f .stays (w .item .includes) y) (spanOf x ∷ tagOf 1 x ∷ []) []) (str-back 1 x (omega arith) (fine-left .0))
 
       -- it may be tested and put ..
-      pub exclude-fits : Exclude (length mem) (p + 1) (p + 1 + 2 * n) k q (length (stayNumbers s f mem (p + 1) (p + 1 + 2 * n) k))
+      pub exclude-fits : Exclude (length mem) (p + 1) (p + 1 + 2 * n) k q (length (stayNumbers f mem (p + 1) (p + 1 + 2 * n) k))
       exclude-fits =
-          let rows-fit : to + length (flatMap (stayed s f (w .item .includes)) (w .item .excludes)) ≤ length mem₀ =
-          subst (λ xs. to + length xs ≤ length mem₀) (excludes-rows s f (w .item)) (w .room) in
+          let rows-fit : to + length (flatMap (stayed f (w .item .includes)) (w .item .excludes)) ≤ length mem₀ =
+          subst (λ xs. to + length xs ≤ length mem₀) (excludes-rows f (w .item)) (w .room) in
           let room = subst (λ xs. q + length xs ≤ length mem) (sym numbers) (rows-room (g .rows) (here .is) rows-fit) in
           omega (arith, length-put (g .rows .put), w .held .header)
 
       -- .. and then the next is in hand
-      pub stay-step : {mem' : List ℕ} {q' : ℕ} → Put mem mem' q (stayNumbers s f mem (p + 1) (p + 1 + 2 * n) k) q'
-          → Staying s f (w .item) mem₀ (p + 1 + 2 * n + 2 * m) to mem' (k + 2) q'
+      pub stay-step : {mem' : List ℕ} {q' : ℕ} → Put mem mem' q (stayNumbers f mem (p + 1) (p + 1 + 2 * n) k) q'
+          → Staying f (w .item) mem₀ (p + 1 + 2 * n + 2 * m) to mem' (k + 2) q'
       stay-step {mem'} {q'} v =
           let on : k + 2 + 2 * length (here .rest) ≡ p + 1 + 2 * n + 2 * m = omega (arith, g .end, length-left) in
           record {
@@ -197,10 +198,10 @@ module _ (s : Section) (f : Filter) {mem₀ : List ℕ} {p to : ℕ} (w : RoomAt
             end = on;
           }
 
-    pub stay-finish : p + 1 + 2 * n + 2 * m ≤ k → Put mem₀ mem to (excludesNumbers s f (w .item)) q
+    pub stay-finish : p + 1 + 2 * n + 2 * m ≤ k → Put mem₀ mem to (excludesNumbers f (w .item)) q
     stay-finish h =
         let none-left : g .todo ≡ [] = drop-of-length-le (g .todo) {i = 0} (omega (arith, g .end)) in
-        subst (λ xs. Put mem₀ mem to xs q) (sym (excludes-rows s f (w .item))) (rows-finish (g .rows) none-left)
+        subst (λ xs. Put mem₀ mem to xs q) (sym (excludes-rows f (w .item))) (rows-finish (g .rows) none-left)
 
 -- ---- a match that is kept
 
@@ -211,22 +212,22 @@ pub record MatchEnds (size q middle end : ℕ) : Type 0 where
   pub excludes : middle ≤ end
   pub counts : Counts ((middle - (q + 1)) / 2) ((end - middle) / 2)
 
-module _ (s : Section) (f : Filter) {mem : List ℕ} {p q : ℕ} (w : RoomAt (keptNumbers s f) mem p q) where
-  room : q + 1 + length (includesNumbers f (w .item)) + length (excludesNumbers s f (w .item)) ≤ length mem
+module _ (f : Keeping) {mem : List ℕ} {p q : ℕ} (w : RoomAt (keptNumbers f) mem p q) where
+  room : q + 1 + length (includesNumbers (f .joins) (w .item)) + length (excludesNumbers f (w .item)) ≤ length mem
   room =
-      omega (arith, w .room, length-match (keptMatch s f (w .item)), length-strsOf 0 (includesKept f (w .item)), length-strsOf 1 (excludesKept s f (w .item)))
+      omega (arith, w .room, length-match (keptMatch f (w .item)), length-strsOf 0 (keptMatch f (w .item) .includes), length-strsOf 1 (keptMatch f (w .item) .excludes))
 
   -- its includes go behind the header's place ..
-  pub includes-at : RoomAt (includesNumbers f) mem p (q + 1)
-  includes-at = record { item = w .item; held = w .held; below = omega (arith, w .below); room = omega (arith, room) }
+  pub includes-at : {joins : Bool} → joins ≡ f .joins → RoomAt (includesNumbers joins) mem p (q + 1)
+  includes-at j = record { item = w .item; held = w .held; below = omega (arith, w .below); room = rw j (omega (arith, room)) }
 
-  module _ {mem₁ : List ℕ} {middle : ℕ} (ls : PutOf (includesNumbers f) mem mem₁ p (q + 1) middle) where
-    includes-put : Put mem mem₁ (q + 1) (includesNumbers f (w .item)) middle
+  module _ {joins : Bool} (j : joins ≡ f .joins) {mem₁ : List ℕ} {middle : ℕ} (ls : PutOf (includesNumbers joins) mem mem₁ p (q + 1) middle) where
+    includes-put : Put mem mem₁ (q + 1) (includesNumbers (f .joins) (w .item)) middle
     unfolding includes-at
-    includes-put = ls includes-at
+    includes-put = subst (λ b. Put mem mem₁ (q + 1) (includesNumbers b (w .item)) middle) j (ls (includes-at j))
 
     -- .. its excludes behind them ..
-    pub excludes-at : RoomAt (excludesNumbers s f) mem₁ p middle
+    pub excludes-at : RoomAt (excludesNumbers f) mem₁ p middle
     excludes-at =
         let v = includes-put in
         let held = match-below v (omega (arith, w .below)) (w .held) in
@@ -237,52 +238,56 @@ module _ (s : Section) (f : Filter) {mem : List ℕ} {p q : ℕ} (w : RoomAt (ke
           room = omega (arith, room, length-put v, v .next-is);
         }
 
-    module _ {mem₂ : List ℕ} {end : ℕ} (rs : PutOf (excludesNumbers s f) mem₁ mem₂ p middle end) where
-      excludes-put : Put mem₁ mem₂ middle (excludesNumbers s f (w .item)) end
+    module _ {mem₂ : List ℕ} {end : ℕ} (rs : PutOf (excludesNumbers f) mem₁ mem₂ p middle end) where
+      excludes-put : Put mem₁ mem₂ middle (excludesNumbers f (w .item)) end
       unfolding excludes-at
       excludes-put = rs excludes-at
 
-      includes-many : (middle - (q + 1)) / 2 ≡ length (includesKept f (w .item))
-      includes-many = omega (arith, includes-put .next-is, length-strsOf 0 (includesKept f (w .item)))
+      includes-many : (middle - (q + 1)) / 2 ≡ length (keptMatch f (w .item) .includes)
+      includes-many = omega (arith, includes-put .next-is, length-strsOf 0 (keptMatch f (w .item) .includes))
 
-      excludes-many : (end - middle) / 2 ≡ length (excludesKept s f (w .item))
-      excludes-many = omega (arith, excludes-put .next-is, length-strsOf 1 (excludesKept s f (w .item)))
+      excludes-many : (end - middle) / 2 ≡ length (keptMatch f (w .item) .excludes)
+      excludes-many = omega (arith, excludes-put .next-is, length-strsOf 1 (keptMatch f (w .item) .excludes))
 
       pub ends-found : MatchEnds (length mem₂) q middle end
       ends-found =
           let counts : Counts ((middle - (q + 1)) / 2) ((end - middle) / 2) =
-          omega (arith, includes-many, excludes-many, w .held .few, length-includes f (w .item), length-keep (staysOf s f (w .item .includes)) (w .item .excludes)) in
+          omega (arith, includes-many, excludes-many, w .held .few, length-kept f (w .item), length-keep (f .stays (w .item .includes)) (w .item .excludes)) in
           omega (arith, includes-put .next-is, excludes-put .next-is, length-put includes-put, length-put excludes-put, room)
 
       -- .. and the header in front
       pub put-whole : {header : ℕ} → header ≡ headerOf ((middle - (q + 1)) / 2) ((end - middle) / 2)
-          → Put mem (set mem₂ q header) q (keptNumbers s f (w .item)) end
-      put-whole h = put-match (keptMatch s f (w .item)) (put-append includes-put excludes-put) (h ∙ ap₂ headerOf includes-many excludes-many)
+          → Put mem (set mem₂ q header) q (keptNumbers f (w .item)) end
+      put-whole h = put-match (keptMatch f (w .item)) (put-append includes-put excludes-put) (h ∙ ap₂ headerOf includes-many excludes-many)
 
 -- ---- a match
 
-module _ (s : Section) (f : Filter) {mem : List ℕ} {p q : ℕ} (w : OneAt (keptOf s f) mem p q) {n : ℕ} {test : Bool}
-    (e : n ≡ includesIn (getD mem p 0)) (t : test ≡ keepsOf s f (strsIn mem (p + 1) (p + 1 + 2 * n))) where
+-- what is made of a list in a slot isn't too long
+pub small-kept : (f : Keeping) {mem : List ℕ} {src : ℕ} {list : List Match} → SlotHolds mem src list → Small (flatMap (kept f) list)
+small-kept f {list = list} h = flatMap-small (kept f) (size-kept f) list (slot-small h)
+
+module _ (f : Keeping) {mem : List ℕ} {p q : ℕ} (w : OneAt (kept f) mem p q) {n : ℕ} {test : Bool}
+    (e : n ≡ includesIn (getD mem p 0)) (t : test ≡ f .keeps (strsIn mem (p + 1) (p + 1 + 2 * n))) where
   -- the test on the includes, as they are read
-  tested : keepsOf s f (w .item .includes) ≡ test
-  tested = sym (t ∙ ap (keepsOf s f) (includes-read (w .one .held) (p + 1) (p + 1 + 2 * n) refl (omega arith)))
+  tested : f .keeps (w .item .includes) ≡ test
+  tested = sym (t ∙ ap (f .keeps) (includes-read (w .one .held) (p + 1) (p + 1 + 2 * n) refl (omega arith)))
 
   -- a match that is dropped, and one that is kept
-  pub put-nothing : test ≡ false → Put mem mem q (matchesNumbers (keptOf s f (w .item))) q
-  unfolding keptOf
-  put-nothing h = put-dropped (keptMatch s f (w .item)) mem q (tested ∙ h)
+  pub put-nothing : test ≡ false → Put mem mem q (matchesNumbers (kept f (w .item))) q
+  unfolding kept
+  put-nothing h = put-dropped (keptMatch f (w .item)) mem q (tested ∙ h)
 
   module _ (h : test ≡ true) where
-    pub kept-at : RoomAt (keptNumbers s f) mem p q
-    unfolding keptOf
+    pub kept-at : RoomAt (keptNumbers f) mem p q
+    unfolding kept
     kept-at =
         record {
           item = w .item;
           held = w .one .held;
           below = w .one .below;
-          room = subst (λ xs. q + length xs ≤ length mem) (matches-kept (keptMatch s f (w .item)) (tested ∙ h)) (w .one .room);
+          room = subst (λ xs. q + length xs ≤ length mem) (matches-kept (keptMatch f (w .item)) (tested ∙ h)) (w .one .room);
         }
 
-    pub put-one : {mem' : List ℕ} {next : ℕ} → PutOf (keptNumbers s f) mem mem' p q next → Put mem mem' q (matchesNumbers (keptOf s f (w .item))) next
-    unfolding keptOf kept-at
-    put-one v = put-kept (keptMatch s f (w .item)) (tested ∙ h) (v kept-at)
+    pub put-one : {mem' : List ℕ} {next : ℕ} → PutOf (keptNumbers f) mem mem' p q next → Put mem mem' q (matchesNumbers (kept f (w .item))) next
+    unfolding kept kept-at
+    put-one v = put-kept (keptMatch f (w .item)) (tested ∙ h) (v kept-at)

@@ -1,3 +1,2 @@
--- The filters by three functions, and what is written of a match.
-pub mod Keeping
+-- What is written of a match.
 pub mod Writing

@@ -1,34 +1,32 @@
 -- What is written of a match that is kept, part by part, and what the functions that write it require.
 use Prim.Native.Nat.{ℕ, _+_, _-_, _≤_, min}
-use mathlib.Core.Bool.{cond}
+use mathlib.Core.Bool.{Bool, cond}
 use mathlib.Core.List.{List, [], _∷_}
 use lib.ListN.{length, take, drop, getD}
-use Rattle.model.specs.declared.Filter.{Filter}
 use Rattle.model.specs.Matches.{Str, Match}
-use Rattle.model.specs.Section.{Section}
+use Rattle.model.specs.Rules.{Keeping, join, keptMatch}
 use Rattle.store.specs.Each.{OneAt}
 use Rattle.store.specs.Layout.{matchLength, matchNumbers, matchesNumbers}
 use Rattle.store.specs.Put.{Put}
 use Rattle.store.specs.Stream.{MatchHolds}
 use Rattle.strings.specs.Strings.{strOf, strsOf, strsAt}
-use Rattle.filters.specs.Keeping.{staysOf, includesKept, excludesKept, keptMatch}
 
-abbrev pub includesNumbers : Filter → Match → List ℕ
-includesNumbers f m = strsOf 0 (includesKept f m)
+abbrev pub includesNumbers : Bool → Match → List ℕ
+includesNumbers joins m = strsOf 0 (cond joins (join (m .includes)) (m .includes))
 
-abbrev pub excludesNumbers : Section → Filter → Match → List ℕ
-excludesNumbers s f m = strsOf 1 (excludesKept s f m)
+abbrev pub excludesNumbers : Keeping → Match → List ℕ
+excludesNumbers f m = strsOf 1 (keptMatch f m .excludes)
 
-abbrev pub keptNumbers : Section → Filter → Match → List ℕ
-keptNumbers s f m = matchNumbers (keptMatch s f m)
+abbrev pub keptNumbers : Keeping → Match → List ℕ
+keptNumbers f m = matchNumbers (keptMatch f m)
 
 -- the strings of the part `&mem[a..e]`
 abbrev pub strsIn : List ℕ → ℕ → ℕ → List Str
 strsIn mem a e = strsAt (take (e - a) (drop a mem))
 
 -- the two numbers of the exclude at k, if it stays beside the includes from a to b
-abbrev pub stayNumbers : Section → Filter → List ℕ → ℕ → ℕ → ℕ → List ℕ
-stayNumbers s f mem a b k = let span = getD mem k 0 in let tag = getD mem (k + 1) 0 in cond (staysOf s f (strsIn mem a b) (strOf span tag)) (span ∷ tag ∷ []) []
+abbrev pub stayNumbers : Keeping → List ℕ → ℕ → ℕ → ℕ → List ℕ
+stayNumbers f mem a b k = let span = getD mem k 0 in let tag = getD mem (k + 1) 0 in cond (f .stays (strsIn mem a b) (strOf span tag)) (span ∷ tag ∷ []) []
 
 -- a match at p, below q, and room there for the numbers that N makes of it
 pub record RoomAt (N : Match → List ℕ) (mem : List ℕ) (p q : ℕ) : Type 0 where

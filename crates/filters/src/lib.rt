@@ -1,25 +1,21 @@
-// The nine filters that keep a match or drop it: all but window. One loop over a list's matches, one writer, and for each filter a test on the includes
-// and a test that an exclude stays by.
-mod keeping;
+// The nine filters that keep a match or drop it: one loop over a list's matches and one writer, by each filter's rule.
 mod writing;
 
-use model::Filter;
+use filter_rules::Keeper;
 use store::Built;
-ghost use mathlib.Core.Path.{_≡_};
 ghost use lib.ListN.{length};
 ghost use Rattle.model.specs.AllMatches.{filterList};
 ghost use Rattle.model.specs.Section.{sectionOf};
-ghost use Rattle.model.specs.Selection.{filterKind};
+ghost use Rattle.filter_rules.specs.Keepers.{keeperFilter};
 ghost use Rattle.store.specs.Outcome.{Outcome};
 ghost use Rattle.store.specs.Places.{Under};
 ghost use Rattle.store.specs.Slot.{SlotAt};
 
-// Builds the list that a filter, no window, gives of the list in the slot at src.
-pub fn filter_list(section: &[u32], filter: Filter, mem: &mut [u32], src: usize, at: usize) -> Built
-    requires { ⌜ (filterKind filter ≡ 7 → ⊥) ⌝ }
+// Builds the list that a filter gives of the list in the slot at src.
+pub fn filter_list(section: &[u32], keeper: Keeper, mem: &mut [u32], src: usize, at: usize) -> Built
     requires { ⌜ SlotAt (now mem) src ⌝ }
     requires { ⌜ Under (length (now mem)) src at ⌝ }
-    ensures { λ r. ⌜ ((w : SlotAt (now (mem .entry)) src) → Outcome (filterList (sectionOf (now (section .entry))) filter (w .list)) (now (mem .entry)) (now (mem .exit)) at r) ⌝ }
+    ensures { λ r. ⌜ ((w : SlotAt (now (mem .entry)) src) → Outcome (filterList (sectionOf (now (section .entry))) (keeperFilter keeper) (w .list)) (now (mem .entry)) (now (mem .exit)) at r) ⌝ }
 {
     let n = mem[src] as usize;
     let mut p = src + 2;
@@ -28,7 +24,7 @@ pub fn filter_list(section: &[u32], filter: Filter, mem: &mut [u32], src: usize,
     let mut i = 0;
     while i < n {
         let length = store::match_length(mem[p]);
-        let next = writing::put_filtered(section, filter, mem, p, q);
+        let next = writing::put_filtered(section, keeper, mem, p, q);
         matches = store::count_one(matches, q, next);
         q = next;
         p += length;

@@ -1,5 +1,5 @@
 -- The join's numbers, gathered string by string: the least of the starts passed and the greatest of the ends passed stand for the strings passed.
-use Prim.Native.Nat.{ℕ, _+_, _-_, _*_, _/_, _%_, _≤_, _<_, _^_, min, max}
+use Prim.Native.Nat.{ℕ, _-_, _/_, _%_, _≤_, _<_, _^_, min, max}
 use native.Mathlib.Omega.{arith}
 use mathlib.Core.Bool.{Bool, true, false, _&&_, and-true, and-false}
 use mathlib.Core.List.{List, [], _∷_}

@@ -2,8 +2,8 @@
 -- drop them; only join makes a new one, so that P has to be closed under it. Spans within the section and query positions among the ranks are.
 use Prim.Native.Nat.{ℕ, _+_, _-_, _≤_}
 use native.Mathlib.Omega.{arith}
-use mathlib.Core.Path.{_≡_, refl}
-use mathlib.Core.Bool.{Bool, true, false, _&&_}
+use mathlib.Core.Path.{_≡_}
+use mathlib.Core.Bool.{Bool, true, false, _&&_, cond}
 use mathlib.Core.List.{List, [], _∷_}
 use borrow.Author.Tests.{leb-true}
 use lib.Dec.{leb, eqb}
@@ -14,7 +14,7 @@ use Rattle.model.specs.declared.Pair.{Pair}
 use Rattle.model.specs.declared.Pair.the-variants.{Or, And, MildNot}
 use Rattle.model.specs.Lists.{allOf, keep, fromTo}
 use Rattle.model.specs.Matches.{Str, Match}
-use Rattle.model.specs.Rules.{standFrom, found, phraseList, orList, joined, andList, noStrings, withInclude, withExclude, notList, reachesBeyond, mildNotList, keptIf, ordered, join, insideWindow, windowTo, windowEnds, window, distance, same, different, atStart, atEnd, entireContent}
+use Rattle.model.specs.Rules.{standFrom, found, phraseList, orList, joined, andList, noStrings, withInclude, withExclude, notList, reachesBeyond, mildNotList, Keeping, keptIf, keptMatch, kept, join, insideWindow, windowTo, windowEnds, window}
 use Rattle.model.specs.Choices.{turnedStrings}
 use Rattle.model.specs.AllStrings.{Every, AllStrs, AllMatch, AllList, Within, Ranked, EveryPhrase, RankUpTo, RanksUpTo}
 use Rattle.model.specs.AllMatches.{pairList, filterMatch, filterList, allMatches}
@@ -22,7 +22,7 @@ use Rattle.model.specs.Section.{Section}
 use Rattle.model.specs.Trees.{Tree, phrase, pair, negation, filter}
 use Rattle.model.proofs.EveryLaws.{every-weaker, every-append, every-value, every-map, every-flatMap, every-kept, every-keep, every-range}
 use Rattle.model.proofs.TestsLaws.{both-true}
-use Rattle.model.proofs.RulesLaws.{not-and, Kept, kept-ordered, kept-distance, kept-same, kept-different, kept-atStart, kept-atEnd, kept-entireContent, leastStart-bound, greatestEnd-bound, leastStart-greatestEnd}
+use Rattle.model.proofs.RulesLaws.{not-and, leastStart-bound, greatestEnd-bound, leastStart-greatestEnd}
 
 -- ---- phrase
 
@@ -103,39 +103,7 @@ module _ (P : Str → Type 0) where
 
   -- ---- filters
 
-  -- what a filter keeps, where P holds of the includes that it gives ..
-  pub all-kept : (m : Match) (includes : List Str) (given : List Match) → Kept m includes given → AllStrs P includes → AllStrs P (m .excludes) → AllList P given
-  unfolding Every
-  all-kept m includes given k a b = rw (k .is) (at (k .test))
-    where
-      at : (test : Bool) → AllList P (keptIf test (record { includes = includes; excludes = keep (k .passes) (m .excludes) }))
-      at true = (record { includes = a; excludes = every-keep P (k .passes) (m .excludes) b }, tt)
-      at false = tt
-
-  -- .. as it does where the filter leaves the includes as they are.
-  all-plain : (m : Match) (given : List Match) → Kept m (m .includes) given → AllMatch P m → AllList P given
-  all-plain m given k a = all-kept m (m .includes) given k (a .includes) (a .excludes)
-
-  pub all-ordered : (m : Match) → AllMatch P m → AllList P (ordered m)
-  all-ordered m a = all-plain m _ (kept-ordered m) a
-
-  pub all-same : (unit : ℕ → ℕ) (m : Match) → AllMatch P m → AllList P (same unit m)
-  all-same unit m a = all-plain m _ (kept-same unit m) a
-
-  pub all-different : (unit : ℕ → ℕ) (m : Match) → AllMatch P m → AllList P (different unit m)
-  all-different unit m a = all-plain m _ (kept-different unit m) a
-
-  pub all-atStart : (s : Section) (m : Match) → AllMatch P m → AllList P (atStart s m)
-  all-atStart s m a = all-plain m _ (kept-atStart s m) a
-
-  pub all-atEnd : (s : Section) (m : Match) → AllMatch P m → AllList P (atEnd s m)
-  all-atEnd s m a = all-plain m _ (kept-atEnd s m) a
-
-  pub all-entireContent : (s : Section) (m : Match) → AllMatch P m → AllList P (entireContent s m)
-  all-entireContent s m a = all-plain m _ (kept-entireContent s m) a
-
   module _ (closed : Closed P) where
-    -- Window and distance join the includes.
     pub all-window : (n : ℕ) (m : Match) → AllMatch P m → AllList P (window n m)
     unfolding window
     all-window n m a =
@@ -143,20 +111,29 @@ module _ (P : Str → Type 0) where
         (λ last. record { includes = closed (m .includes) (a .includes); excludes = every-keep P (insideWindow n last) (m .excludes) (a .excludes) })
         (windowEnds n (m .includes))
 
-    pub all-distance : (a b : ℕ) (m : Match) → AllMatch P m → AllList P (distance a b m)
-    all-distance a b m h = all-kept m _ _ (kept-distance a b m) (closed (m .includes) (h .includes)) (h .excludes)
+    pub all-kept : (k : Keeping) (m : Match) → AllMatch P m → AllList P (kept k m)
+    unfolding kept Every
+    all-kept k m a = at (k .keeps (m .includes))
+      where
+        includes : (joins : Bool) → AllStrs P (cond joins (join (m .includes)) (m .includes))
+        includes true = closed (m .includes) (a .includes)
+        includes false = a .includes
+
+        at : (test : Bool) → AllList P (keptIf test (keptMatch k m))
+        at true = (record { includes = includes (k .joins); excludes = every-keep P (k .stays (m .includes)) (m .excludes) (a .excludes) }, tt)
+        at false = tt
 
     pub all-filter : (s : Section) (f : Filter) (m : Match) → AllMatch P m → AllList P (filterMatch s f m)
-    all-filter s Ordered m a = all-ordered m a
+    all-filter s Ordered m a = all-kept _ m a
     all-filter s (Window n) m a = all-window n m a
-    all-filter s (Distance least most) m a = all-distance least most m a
-    all-filter s SameSentence m a = all-same (s .sentence) m a
-    all-filter s SameParagraph m a = all-same (s .paragraph) m a
-    all-filter s DifferentSentence m a = all-different (s .sentence) m a
-    all-filter s DifferentParagraph m a = all-different (s .paragraph) m a
-    all-filter s AtStart m a = all-atStart s m a
-    all-filter s AtEnd m a = all-atEnd s m a
-    all-filter s EntireContent m a = all-entireContent s m a
+    all-filter s (Distance least most) m a = all-kept _ m a
+    all-filter s SameSentence m a = all-kept _ m a
+    all-filter s SameParagraph m a = all-kept _ m a
+    all-filter s DifferentSentence m a = all-kept _ m a
+    all-filter s DifferentParagraph m a = all-kept _ m a
+    all-filter s AtStart m a = all-kept _ m a
+    all-filter s AtEnd m a = all-kept _ m a
+    all-filter s EntireContent m a = all-kept _ m a
 
     -- ---- allMatches
 

@@ -4,21 +4,16 @@ use Prim.Native.Nat.{ℕ, zero, suc, _+_, _-_, _*_, _/_, _%_, _≤_, _<_}
 use native.Mathlib.Omega.{arith}
 use native.Mathlib.Nat.{mul-zero, zero-mul, div-add-mod', mod-lt, div-lt-iff-lt-mul}
 use mathlib.Core.Path.{_≡_, refl, sym, ap, ap₂, _∙_}
-use mathlib.Core.Bool.{Bool, true, false, _&&_, cond}
+use mathlib.Core.Bool.{Bool, true, false, cond}
 use mathlib.Core.List.{List, [], _∷_, _++_, map, flatMap}
-use lib.Dec.{leb}
 use lib.ListN.{length, getD, length-append, length-map, List·getD-append}
 use lib.Seq.{getD-append-add}
-use Rattle.model.specs.declared.Filter.{Filter}
-use Rattle.model.specs.declared.Filter.the-variants.{Ordered, Window, Distance, SameSentence, SameParagraph, DifferentSentence, DifferentParagraph, AtStart, AtEnd, EntireContent}
-use Rattle.model.specs.Lists.{allOf, keep, allPairs, neighbours, sort, fromTo}
+use Rattle.model.specs.Lists.{allOf, keep, fromTo}
 use Rattle.model.specs.Matches.{Str, Match, stringsIn, strings}
-use Rattle.model.specs.Rules.{standFrom, found, phraseList, orList, joined, andList, noStrings, withInclude, withExclude, notList, reachesBeyond, covered, mildNotList, keptIf, agree, ordered, leastStart, greatestEnd, join, insideWindow, windowTo, windowEnds, window, notAfter, distanceOf, within, distance, inUnitOf, same, hasUnits, apart, different, atStart, atEnd, entireContent}
+use Rattle.model.specs.Rules.{standFrom, found, phraseList, orList, joined, andList, noStrings, withInclude, withExclude, notList, reachesBeyond, mildNotList, Keeping, keptIf, keptMatch, kept, leastStart, greatestEnd, join, insideWindow, windowTo, windowEnds, window}
 use Rattle.model.specs.Choices.{choices, turnedStrings, choice}
 use Rattle.model.specs.AllStrings.{Every, AllStrs}
-use Rattle.model.specs.AllMatches.{filterMatch}
 use Rattle.model.specs.Section.{Section}
-use Rattle.model.specs.Selection.{filterKind}
 use Rattle.model.proofs.ListsLaws.{flatMap-append, length-keep, length-range}
 use Rattle.model.proofs.EveryLaws.{every-weaker, every-append, every-value, every-getD}
 
@@ -195,45 +190,12 @@ pub strings-mildNot : (ls rs : List Match) → strings (mildNotList ls rs) ≤ s
 unfolding mildNotList
 strings-mildNot ls rs = strings-keep (λ l. allOf (reachesBeyond l) rs) ls
 
--- ---- filters
-
--- the shape of what a filter other than window gives of a match: one match or none, with these includes and those of the match's excludes that pass
-pub record Kept (m : Match) (includes : List Str) (given : List Match) : Type 0 where
-  pub test : Bool
-  pub passes : Str → Bool
-  pub is : given ≡ keptIf test (record { includes = includes; excludes = keep passes (m .excludes) })
+-- ---- a filter that keeps a match or drops it
 
 -- one match or none, with no more strings than the match that it comes from
 pub record AtMostOne (m : Match) (given : List Match) : Type 0 where
   pub matches : length given ≤ 1
   pub fewer : strings given ≤ stringsIn m
-
-pub size-kept : (m : Match) (includes : List Str) (given : List Match) → length includes ≤ length (m .includes) → Kept m includes given → AtMostOne m given
-unfolding strings
-size-kept m includes given h k = rw (k .is) (at (k .test))
-  where
-    at : (test : Bool) → AtMostOne m (keptIf test (record { includes = includes; excludes = keep (k .passes) (m .excludes) }))
-    at true = omega (arith, length-keep (k .passes) (m .excludes))
-    at false = omega arith
-
--- a filter that leaves the includes as they are
-size-plain : (m : Match) (given : List Match) → Kept m (m .includes) given → AtMostOne m given
-size-plain m given k = size-kept m (m .includes) given (omega arith) k
-
-pub keep-all : {A : Type 0} (xs : List A) → keep (λ x. true) xs ≡ xs
-unfolding keep
-keep-all [] = refl
-keep-all (x ∷ xs) = ap (λ ys. x ∷ ys) (keep-all xs)
-
--- a filter that keeps a match as it is
-kept-whole : (test : Bool) (m : Match) → Kept m (m .includes) (keptIf test m)
-kept-whole test m = record { test = test; passes = λ e. true; is = rw keep-all }
-
--- ---- ordered
-
-pub kept-ordered : (m : Match) → Kept m (m .includes) (ordered m)
-unfolding ordered
-kept-ordered m = record { test = allPairs agree (m .includes); passes = λ e. allOf (agree e) (m .includes); is = refl }
 
 -- ---- join
 
@@ -270,6 +232,24 @@ unfolding join
 length-join [] = omega arith
 length-join (s ∷ ss) = omega arith
 
+-- ---- filters other than window
+
+-- the includes are as many, or their join
+pub length-kept : (k : Keeping) (m : Match) → length (keptMatch k m .includes) ≤ length (m .includes)
+length-kept k m = at (k .joins)
+  where
+    at : (joins : Bool) → length (cond joins (join (m .includes)) (m .includes)) ≤ length (m .includes)
+    at true = length-join (m .includes)
+    at false = omega arith
+
+pub size-kept : (k : Keeping) (m : Match) → AtMostOne m (kept k m)
+unfolding kept strings
+size-kept k m = at (k .keeps (m .includes))
+  where
+    at : (test : Bool) → AtMostOne m (keptIf test (keptMatch k m))
+    at true = omega (arith, length-kept k m, length-keep (k .stays (m .includes)) (m .excludes))
+    at false = omega arith
+
 -- ---- window
 
 -- a match is listed once for each last position of a window around its includes
@@ -290,57 +270,3 @@ strings-windowTo n m s ss e last = rw e
 pub window-none : (n : ℕ) (m : Match) → m .includes ≡ [] → window n m ≡ []
 unfolding window windowEnds
 window-none n m e = ap (λ is. map (windowTo n m) (windowEnds n is)) e
-
--- ---- distance
-
-pub kept-distance : (a b : ℕ) (m : Match) → Kept m (join (m .includes)) (distance a b m)
-unfolding distance
-kept-distance a b m =
-    record {
-      test = neighbours (λ s t. within a b (distanceOf s t)) (sort notAfter (m .includes));
-      passes = λ e. allOf (λ s. within a b (distanceOf e s)) (m .includes);
-      is = refl;
-    }
-
--- ---- same, different
-
-pub kept-same : (unit : ℕ → ℕ) (m : Match) → Kept m (m .includes) (same unit m)
-unfolding same
-kept-same unit m = record { test = allOf (inUnitOf unit (m .includes)) (m .includes); passes = inUnitOf unit (m .includes); is = refl }
-
-pub kept-different : (unit : ℕ → ℕ) (m : Match) → Kept m (m .includes) (different unit m)
-unfolding different
-kept-different unit m =
-    record {
-      test = leb 2 (length (m .includes)) && allOf (hasUnits unit) (m .includes) && allPairs (apart unit) (m .includes);
-      passes = λ e. hasUnits unit e && allOf (apart unit e) (m .includes);
-      is = refl;
-    }
-
--- ---- at start, at end, entire content
-
-pub kept-atStart : (s : Section) (m : Match) → Kept m (m .includes) (atStart s m)
-unfolding atStart
-kept-atStart s m = kept-whole (leb 1 (s .tokens) && covered (m .includes) 1) m
-
-pub kept-atEnd : (s : Section) (m : Match) → Kept m (m .includes) (atEnd s m)
-unfolding atEnd
-kept-atEnd s m = kept-whole (leb 1 (s .tokens) && covered (m .includes) (s .tokens)) m
-
-pub kept-entireContent : (s : Section) (m : Match) → Kept m (m .includes) (entireContent s m)
-unfolding entireContent
-kept-entireContent s m = kept-whole (allOf (covered (keep (λ i. i .contiguous) (m .includes))) (fromTo 1 (s .tokens))) m
-
--- ---- every filter but window, which is kind 7
-
-pub size-filter : (s : Section) (f : Filter) (m : Match) → (filterKind f ≡ 7 → ⊥) → AtMostOne m (filterMatch s f m)
-size-filter s Ordered m h = size-plain _ _ (kept-ordered m)
-size-filter s (Window n) m h = absurd (h refl)
-size-filter s (Distance a b) m h = size-kept _ _ _ (length-join (m .includes)) (kept-distance a b m)
-size-filter s SameSentence m h = size-plain _ _ (kept-same (s .sentence) m)
-size-filter s SameParagraph m h = size-plain _ _ (kept-same (s .paragraph) m)
-size-filter s DifferentSentence m h = size-plain _ _ (kept-different (s .sentence) m)
-size-filter s DifferentParagraph m h = size-plain _ _ (kept-different (s .paragraph) m)
-size-filter s AtStart m h = size-plain _ _ (kept-atStart s m)
-size-filter s AtEnd m h = size-plain _ _ (kept-atEnd s m)
-size-filter s EntireContent m h = size-plain _ _ (kept-entireContent s m)

@@ -1,7 +1,7 @@
 -- Booleans and options taken apart.
 use mathlib.Core.Path.{_≡_, refl}
 use mathlib.Core.Bool.{Bool, true, false, _&&_, _||_, cond, xor, false≢true, true≢false}
-use mathlib.Core.Option.{Option, some, none, Option·some-ne-none}
+use mathlib.Core.Option.{some, none, Option·some-ne-none}
 
 pub false-true : {A : Type 0} → false ≡ true → A
 false-true e = absurd (false≢true e)

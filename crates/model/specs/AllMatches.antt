@@ -6,7 +6,7 @@ use Rattle.model.specs.declared.Filter.the-variants.{Ordered, Window, Di
 use Rattle.model.specs.declared.Pair.{Pair}
 use Rattle.model.specs.declared.Pair.the-variants.{Or, And, MildNot}
 use Rattle.model.specs.Matches.{Match}
-use Rattle.model.specs.Rules.{phraseList, orList, andList, notList, mildNotList, ordered, window, distance, same, different, atStart, atEnd, entireContent}
+use Rattle.model.specs.Rules.{phraseList, orList, andList, notList, mildNotList, kept, ordered, window, distance, same, different, atStart, atEnd, entireContent}
 use Rattle.model.specs.Section.{Section}
 use Rattle.model.specs.Trees.{Tree, phrase, pair, negation, filter}
 
@@ -17,16 +17,16 @@ pairList MildNot = mildNotList
 
 -- what a filter gives of one match
 abbrev pub filterMatch : Section → Filter → Match → List Match
-filterMatch s Ordered = ordered
+filterMatch s Ordered = kept ordered
 filterMatch s (Window n) = window n
-filterMatch s (Distance a b) = distance a b
-filterMatch s SameSentence = same (s .sentence)
-filterMatch s SameParagraph = same (s .paragraph)
-filterMatch s DifferentSentence = different (s .sentence)
-filterMatch s DifferentParagraph = different (s .paragraph)
-filterMatch s AtStart = atStart s
-filterMatch s AtEnd = atEnd s
-filterMatch s EntireContent = entireContent s
+filterMatch s (Distance a b) = kept (distance a b)
+filterMatch s SameSentence = kept (same (s .sentence))
+filterMatch s SameParagraph = kept (same (s .paragraph))
+filterMatch s DifferentSentence = kept (different (s .sentence))
+filterMatch s DifferentParagraph = kept (different (s .paragraph))
+filterMatch s AtStart = kept (atStart s)
+filterMatch s AtEnd = kept (atEnd s)
+filterMatch s EntireContent = kept (entireContent s)
 
 unfoldable pub filterList : Section → Filter → List Match → List Match
 filterList s f ms = flatMap (filterMatch s f) ms

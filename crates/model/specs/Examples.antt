@@ -16,7 +16,7 @@ use Rattle.model.specs.Checks.{tried, wrongSection, faultyAt, faultyPosi
 use Rattle.model.specs.Limits.{workLength, bufferLength, radix}
 use Rattle.model.specs.Lists.{allOf, anyOf, isEmpty, keep, first, allPairs, neighbours, insertSorted, sort, upFrom, fromTo}
 use Rattle.model.specs.Matches.{Str, Match, strings}
-use Rattle.model.specs.Rules.{standFrom, phraseList, noStrings, andList, notList, mildNotList, ordered, leastStart, greatestEnd, join, windowEnds, window, distance, inUnitOf, same, different, atStart, atEnd, entireContent}
+use Rattle.model.specs.Rules.{standFrom, phraseList, noStrings, andList, notList, mildNotList, leastStart, greatestEnd, join, kept, windowEnds, window, inUnitFor}
 use Rattle.model.specs.Section.{wellSized}
 use Rattle.model.specs.Selection.{upTo, codesOf}
 use Rattle.model.specs.Trees.{placeOf, combine, wrap, read, readAll, topTree, treeOf, parts}
@@ -145,7 +145,7 @@ entries =
 pub examples-hold : allOf right entries ≡ true
 unfolding eachSame sameStr sameMatch countsMatches countsStrings listingSays quickSays buffered holds right inParagraph select one six emptySection four entries
     xor allOf anyOf isEmpty keep first allPairs neighbours insertSorted sort upFrom fromTo flatMap wellSized upTo codesOf breakFrom placeOf combine wrap read readAll topTree treeOf parts strings
-    standFrom phraseList andList notList mildNotList ordered leastStart greatestEnd join windowEnds window distance inUnitOf same different atStart atEnd entireContent filterList allMatches
+    standFrom phraseList andList notList mildNotList leastStart greatestEnd join kept windowEnds window inUnitFor filterList allMatches
     tried wrongSection faultyAt faultyPosition wrongSelection unknownKind filterOperandFits operandFits wrongOperand wrongShape notUnderMildNot sectionRefusal selectionRefusal inputRefusal listingChecks quickChecks
     firstTooLong build walk listingRefusal listingAnswer listingNumbers listingBuffer quickAnswer
 examples-hold = refl

@@ -1,6 +1,6 @@
 -- "The lists", rule by rule in document 01's order. L is the left list, R the right. No rule knows a limit.
 use Prim.Native.Nat.{ℕ, _+_, _-_, min, max}
-use mathlib.Core.Bool.{Bool, true, not, _&&_, _||_, cond}
+use mathlib.Core.Bool.{Bool, true, false, not, _&&_, _||_, cond}
 use mathlib.Core.List.{List, [], _∷_, _++_, map, flatMap}
 use lib.Dec.{leb, ltb, eqb}
 use lib.ListN.{length}
@@ -67,7 +67,16 @@ reachesBeyond l r = anyOf (λ s. anyOf (λ p. not (covered (r .includes) p)) (po
 unfoldable pub mildNotList : List Match → List Match → List Match
 mildNotList ls rs = keep (λ l. allOf (reachesBeyond l) rs) ls
 
--- A filter works on one match: the matches that it gives, in order.
+-- A filter works on one match: the matches that it gives, in order. Window, which may give several, is a rule of its own. Every other filter keeps
+-- the match or drops it, by what its sentence says of three things.
+
+pub record Keeping : Type 0 where
+  -- "kept if ..", of the includes
+  pub keeps : List Str → Bool
+  -- "an exclude stays if ..", of the includes and the exclude
+  pub stays : List Str → Str → Bool
+  -- "the result holds the join", in place of the includes
+  pub joins : Bool
 
 abbrev pub keptIf : Bool → Match → List Match
 keptIf test m = cond test (m ∷ []) []
@@ -78,8 +87,8 @@ keptIf test m = cond test (m ∷ []) []
 abbrev pub agree : Str → Str → Bool
 agree a b = leb (a .start) (b .start) && leb (a .query) (b .query) || leb (b .start) (a .start) && leb (b .query) (a .query)
 
-unfoldable pub ordered : Match → List Match
-ordered m = keptIf (allPairs agree (m .includes)) (record { includes = m .includes; excludes = keep (λ e. allOf (agree e) (m .includes)) (m .excludes) })
+abbrev pub ordered : Keeping
+ordered = record { keeps = allPairs agree; stays = λ is e. allOf (agree e) is; joins = false }
 
 -- Join: "no includes give none. Otherwise one include from least start to greatest end, with the first include's query position; contiguous if
 -- every position in it is covered and all were contiguous."
@@ -101,6 +110,14 @@ join (s ∷ ss) =
       query = s .query;
       contiguous = allOf (covered (s ∷ ss)) (fromTo (leastStart s ss) (greatestEnd s ss)) && allOf (λ t. t .contiguous) (s ∷ ss);
     } ∷ []
+
+-- What a filter other than window gives of a match: the match that is kept, or none.
+
+abbrev pub keptMatch : Keeping → Match → Match
+keptMatch k m = record { includes = cond (k .joins) (join (m .includes)) (m .includes); excludes = keep (k .stays (m .includes)) (m .excludes) }
+
+unfoldable pub kept : Keeping → Match → List Match
+kept k m = keptIf (k .keeps (m .includes)) (keptMatch k m)
 
 -- Window: "for each match with includes and each W from (greatest end − N + 1) up to least start, one match: the join, and the excludes inside
 -- W to W + N − 1. W may be zero or negative. Equal copies are all listed. A match without includes is dropped."
@@ -136,56 +153,80 @@ distanceOf s t = cond (notAfter s t) (between s t) (between t s)
 abbrev pub within : ℕ → ℕ → ℕ → Bool
 within a b d = leb a d && leb d b
 
-unfoldable pub distance : ℕ → ℕ → Match → List Match
-distance a b m =
-    keptIf (neighbours (λ s t. within a b (distanceOf s t)) (sort notAfter (m .includes)))
-    (record { includes = join (m .includes); excludes = keep (λ e. allOf (λ s. within a b (distanceOf e s)) (m .includes)) (m .excludes) })
+abbrev pub distance : ℕ → ℕ → Keeping
+distance a b =
+    record {
+      keeps = λ is. neighbours (λ s t. within a b (distanceOf s t)) (sort notAfter is);
+      stays = λ is e. allOf (λ s. within a b (distanceOf e s)) is;
+      joins = true;
+    }
 
 -- "A sentence or paragraph of a span's start or end is that of the token there." A unit is either, as the number at a position.
 
-abbrev pub inUnit : (ℕ → ℕ) → ℕ → Str → Bool
-inUnit unit u s = not (eqb u 0) && eqb (unit (s .start)) u && eqb (unit (s .end)) u
+pub record UnitRange : Type 0 where
+  pub first : ℕ
+  pub last : ℕ
+
+abbrev pub unitRange : (ℕ → ℕ) → Str → UnitRange
+unitRange unit s = record { first = unit (s .start); last = unit (s .end) }
 
 -- Same: "kept if each include starts and ends in one nonzero unit, the same for all (none passes). An exclude stays if it does so in the
 -- includes' unit; without includes, in any one nonzero unit."
 
-abbrev pub inOneUnit : (ℕ → ℕ) → Str → Bool
-inOneUnit unit s = inUnit unit (unit (s .start)) s
+-- "starts and ends in one nonzero unit", which is u
+abbrev pub inUnit : ℕ → UnitRange → Bool
+inUnit u r = not (eqb u 0) && eqb (r .first) u && eqb (r .last) u
 
--- the unit that every string is held to, as a test
-unfoldable pub inUnitOf : (ℕ → ℕ) → List Str → Str → Bool
-inUnitOf unit [] = inOneUnit unit
-inUnitOf unit (s ∷ ss) = inUnit unit (unit (s .start))
+-- the unit that a string is held to: the includes', or its own
+abbrev pub unitFor : (ℕ → ℕ) → List Str → Str → ℕ
+unitFor unit [] e = unit (e .start)
+unitFor unit (i ∷ is) e = unit (i .start)
 
-unfoldable pub same : (ℕ → ℕ) → Match → List Match
-same unit m = keptIf (allOf (inUnitOf unit (m .includes)) (m .includes)) (record { includes = m .includes; excludes = keep (inUnitOf unit (m .includes)) (m .excludes) })
+unfoldable pub inUnitFor : (ℕ → ℕ) → List Str → Str → Bool
+inUnitFor unit is e = inUnit (unitFor unit is e) (unitRange unit e)
+
+abbrev pub same : (ℕ → ℕ) → Keeping
+same unit = record { keeps = λ is. allOf (inUnitFor unit is) is; stays = inUnitFor unit; joins = false }
 
 -- Different: "at least two includes, all units nonzero, and no two includes' unit ranges overlapping. An exclude stays if its units are nonzero
 -- and overlap no include's."
 
-abbrev pub hasUnits : (ℕ → ℕ) → Str → Bool
-hasUnits unit s = not (eqb (unit (s .start)) 0) && not (eqb (unit (s .end)) 0)
+abbrev pub nonzero : UnitRange → Bool
+nonzero r = not (eqb (r .first) 0) && not (eqb (r .last) 0)
 
-abbrev pub apart : (ℕ → ℕ) → Str → Str → Bool
-apart unit s t = ltb (unit (s .end)) (unit (t .start)) || ltb (unit (t .end)) (unit (s .start))
+abbrev pub apart : UnitRange → UnitRange → Bool
+apart r t = ltb (r .last) (t .first) || ltb (t .last) (r .first)
 
-unfoldable pub different : (ℕ → ℕ) → Match → List Match
-different unit m =
-    keptIf (leb 2 (length (m .includes)) && allOf (hasUnits unit) (m .includes) && allPairs (apart unit) (m .includes))
-    (record { includes = m .includes; excludes = keep (λ e. hasUnits unit e && allOf (apart unit e) (m .includes)) (m .excludes) })
+abbrev pub unitsNonzero : (ℕ → ℕ) → Str → Bool
+unitsNonzero unit s = nonzero (unitRange unit s)
+
+abbrev pub unitsApart : (ℕ → ℕ) → Str → Str → Bool
+unitsApart unit s t = apart (unitRange unit s) (unitRange unit t)
+
+abbrev pub different : (ℕ → ℕ) → Keeping
+different unit =
+    record {
+      keeps = λ is. leb 2 (length is) && allOf (unitsNonzero unit) is && allPairs (unitsApart unit) is;
+      stays = λ is e. unitsNonzero unit e && allOf (unitsApart unit e) is;
+      joins = false;
+    }
 
 -- "At start, at end: some include covers position 1, or n. With n = 0 none does."
 
-abbrev pub atPosition : Section → ℕ → Match → List Match
-atPosition s p m = keptIf (leb 1 (s .tokens) && covered (m .includes) p) m
+-- a match that is kept stays as it is
+abbrev pub keepsWhole : (List Str → Bool) → Keeping
+keepsWhole test = record { keeps = test; stays = λ is e. true; joins = false }
 
-unfoldable pub atStart : Section → Match → List Match
-atStart s m = atPosition s 1 m
+abbrev pub atPosition : Section → ℕ → Keeping
+atPosition s p = keepsWhole (λ is. leb 1 (s .tokens) && covered is p)
 
-unfoldable pub atEnd : Section → Match → List Match
-atEnd s m = atPosition s (s .tokens) m
+abbrev pub atStart : Section → Keeping
+atStart s = atPosition s 1
+
+abbrev pub atEnd : Section → Keeping
+atEnd s = atPosition s (s .tokens)
 
 -- "Entire content: every position 1 to n is covered by some contiguous include."
 
-unfoldable pub entireContent : Section → Match → List Match
-entireContent s m = keptIf (allOf (covered (keep (λ i. i .contiguous) (m .includes))) (fromTo 1 (s .tokens))) m
+abbrev pub entireContent : Section → Keeping
+entireContent s = keepsWhole (λ is. allOf (covered (keep (λ i. i .contiguous) is)) (fromTo 1 (s .tokens)))

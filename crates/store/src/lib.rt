@@ -15,6 +15,7 @@ ghost use Rattle.store.specs.Built.{sizedAs};
 ghost use Rattle.store.specs.Places.{Closing, Copy, CopyDown, CopyUp, Counts};
 ghost use Rattle.store.specs.Layout.{excludesIn, headerOf, includesIn, matchLength, slotLength, slotNumbers, slotSize};
 ghost use Rattle.store.specs.Outcome.{Closed};
+ghost use Rattle.store.specs.Put.{Put};
 ghost use Rattle.store.specs.Slot.{Heads, SlotAt};
 
 // How many numbers a slot takes at most: 2 + 256 + 2 × 512.
@@ -155,4 +156,14 @@ pub fn close_slot(mem: &mut [u32], at: usize, next: usize, matches: u32) -> Buil
     let strings = ((next - (at + 2) - matches as usize) / 2) as u32;
     put_heads(mem, at, matches, strings);
     Built::Made { matches, strings }
+}
+
+// Writes a string.
+pub fn put_string(mem: &mut [u32], q: usize, span: u32, tag: u32) -> usize
+    requires { ⌜ q + 2 ≤ length (now mem) ⌝ }
+    ensures { λ r. ⌜ Put (now (mem .entry)) (now (mem .exit)) q (span ∷ tag ∷ []) r ⌝ }
+{
+    mem[q] = span;
+    mem[q + 1] = tag;
+    q + 2
 }

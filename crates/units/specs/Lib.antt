@@ -1,2 +1,2 @@
--- The tests of same and different, by unit.
+-- The counting that a unit names.
 pub mod Units

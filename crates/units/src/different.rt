@@ -5,13 +5,14 @@ use super::paragraphs::paragraphs_of;
 use super::sentences;
 use super::sentences::sentences_of;
 ghost use mathlib.Core.Path.{_≡_};
-ghost use Rattle.model.specs.Rules.{apart, hasUnits};
+ghost use Rattle.model.specs.Rules.{different, unitsApart, unitsNonzero};
+ghost use Rattle.model.specs.Section.{sectionOf};
 ghost use Rattle.strings.specs.Strings.{strOf, strsAt};
-ghost use Rattle.units.specs.Units.{allDiffer, differs, unitAt};
+ghost use Rattle.units.specs.Units.{unitIn};
 
 // "its units are nonzero"
 fn has_units(section: &[u32], unit: Unit, span: u32) -> bool
-    ensures { λ r. ⌜ r ≡ hasUnits (unitAt unit (now (section .entry))) (strOf span 0) ⌝ }
+    ensures { λ r. ⌜ r ≡ unitsNonzero (unitIn (sectionOf (now (section .entry))) unit) (strOf span 0) ⌝ }
 {
     match unit {
         Unit::Sentence => sentences::all_nonzero(sentences_of(section, span)),
@@ -21,7 +22,7 @@ fn has_units(section: &[u32], unit: Unit, span: u32) -> bool
 
 // Do the units of two strings not overlap?
 fn apart(section: &[u32], unit: Unit, span: u32, other: u32) -> bool
-    ensures { λ r. ⌜ r ≡ apart (unitAt unit (now (section .entry))) (strOf span 0) (strOf other 0) ⌝ }
+    ensures { λ r. ⌜ r ≡ unitsApart (unitIn (sectionOf (now (section .entry))) unit) (strOf span 0) (strOf other 0) ⌝ }
 {
     match unit {
         Unit::Sentence => sentences::apart(
@@ -37,7 +38,7 @@ fn apart(section: &[u32], unit: Unit, span: u32, other: u32) -> bool
 
 // "its units are nonzero and overlap no include's"
 pub fn differs(section: &[u32], unit: Unit, strs: &[u32], span: u32) -> bool
-    ensures { λ r. ⌜ r ≡ differs (unitAt unit (now (section .entry))) (strsAt (now (strs .entry))) (strOf span 0) ⌝ }
+    ensures { λ r. ⌜ r ≡ different (unitIn (sectionOf (now (section .entry))) unit) .stays (strsAt (now (strs .entry))) (strOf span 0) ⌝ }
 {
     if !has_units(section, unit, span) {
         return false;
@@ -54,7 +55,7 @@ pub fn differs(section: &[u32], unit: Unit, strs: &[u32], span: u32) -> bool
 
 // "at least two includes, all units nonzero, and no two includes' unit ranges overlapping"
 pub fn all_differ(section: &[u32], unit: Unit, strs: &[u32]) -> bool
-    ensures { λ r. ⌜ r ≡ allDiffer (unitAt unit (now (section .entry))) (strsAt (now (strs .entry))) ⌝ }
+    ensures { λ r. ⌜ r ≡ different (unitIn (sectionOf (now (section .entry))) unit) .keeps (strsAt (now (strs .entry))) ⌝ }
 {
     if strs.len() < 4 {
         return false;

@@ -1,10 +1,11 @@
 // The units that strings start and end in, as numbers of one counting, whichever it is.
 ghost use mathlib.Core.Path.{_≡_};
-ghost use Rattle.units.specs.Units.{allNonzero, inOne, rangesApart};
+ghost use Rattle.model.specs.Rules.{apart, inUnit, nonzero};
+ghost use Rattle.units.specs.Units.{range};
 
 // "starts and ends in one nonzero unit": in this one
 pub fn in_one(unit: u32, first: u32, last: u32) -> bool
-    ensures { λ r. ⌜ r ≡ inOne unit first last ⌝ }
+    ensures { λ r. ⌜ r ≡ inUnit unit (range first last) ⌝ }
 {
     if unit == 0 {
         return false;
@@ -17,7 +18,7 @@ pub fn in_one(unit: u32, first: u32, last: u32) -> bool
 
 // "its units are nonzero"
 pub fn all_nonzero(first: u32, last: u32) -> bool
-    ensures { λ r. ⌜ r ≡ allNonzero first last ⌝ }
+    ensures { λ r. ⌜ r ≡ nonzero (range first last) ⌝ }
 {
     if first == 0 {
         return false;
@@ -27,7 +28,7 @@ pub fn all_nonzero(first: u32, last: u32) -> bool
 
 // no "unit ranges overlapping"
 pub fn apart(first: u32, last: u32, other_first: u32, other_last: u32) -> bool
-    ensures { λ r. ⌜ r ≡ rangesApart first last «other_first» «other_last» ⌝ }
+    ensures { λ r. ⌜ r ≡ apart (range first last) (range «other_first» «other_last») ⌝ }
 {
     if last < other_first {
         return true;

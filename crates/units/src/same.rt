@@ -7,14 +7,14 @@ use super::sentences::sentences_of;
 ghost use mathlib.Core.Path.{_≡_};
 ghost use Prim.Native.Nat.{ℕ, _/_};
 ghost use Rattle.model.specs.Limits.{radix};
-ghost use Rattle.model.specs.Lists.{allOf};
-ghost use Rattle.model.specs.Rules.{inUnit, inUnitOf};
+ghost use Rattle.model.specs.Rules.{inUnit, same, unitRange};
+ghost use Rattle.model.specs.Section.{sectionOf};
 ghost use Rattle.strings.specs.Strings.{strOf, strsAt};
-ghost use Rattle.units.specs.Units.{unitAt};
+ghost use Rattle.units.specs.Units.{unitIn};
 
 // Does a string start and end in the unit that another starts in, a nonzero one?
 fn in_unit_of(section: &[u32], unit: Unit, span: u32, other: u32) -> bool
-    ensures { λ r. ⌜ r ≡ inUnit (unitAt unit (now (section .entry))) (unitAt unit (now (section .entry)) (other / radix)) (strOf span 0) ⌝ }
+    ensures { λ r. ⌜ r ≡ inUnit (unitIn (sectionOf (now (section .entry))) unit (other / radix)) (unitRange (unitIn (sectionOf (now (section .entry))) unit) (strOf span 0)) ⌝ }
 {
     match unit {
         Unit::Sentence => {
@@ -30,7 +30,7 @@ fn in_unit_of(section: &[u32], unit: Unit, span: u32, other: u32) -> bool
 
 // "it does so in the includes' unit; without includes, in any one nonzero unit"
 pub fn in_same(section: &[u32], unit: Unit, strs: &[u32], span: u32) -> bool
-    ensures { λ r. ⌜ ((tag : ℕ) → r ≡ inUnitOf (unitAt unit (now (section .entry))) (strsAt (now (strs .entry))) (strOf span tag)) ⌝ }
+    ensures { λ r. ⌜ ((tag : ℕ) → r ≡ same (unitIn (sectionOf (now (section .entry))) unit) .stays (strsAt (now (strs .entry))) (strOf span tag)) ⌝ }
 {
     if strs.len() < 2 {
         return in_unit_of(section, unit, span, span);
@@ -40,7 +40,7 @@ pub fn in_same(section: &[u32], unit: Unit, strs: &[u32], span: u32) -> bool
 
 // "each include starts and ends in one nonzero unit, the same for all (none passes)"
 pub fn all_in_same(section: &[u32], unit: Unit, strs: &[u32]) -> bool
-    ensures { λ r. ⌜ r ≡ allOf (inUnitOf (unitAt unit (now (section .entry))) (strsAt (now (strs .entry)))) (strsAt (now (strs .entry))) ⌝ }
+    ensures { λ r. ⌜ r ≡ same (unitIn (sectionOf (now (section .entry))) unit) .keeps (strsAt (now (strs .entry))) ⌝ }
 {
     let mut i = 0;
     while i + 1 < strs.len() {

@@ -5,29 +5,32 @@ use native.Mathlib.Omega.{arith}
 use mathlib.Core.Path.{_≡_, refl}
 use borrow.Author.Needs.{needs}
 use lib.ListN.{length}
+use Rattle.model.specs.Rules.{kept}
 use Rattle.model.specs.Section.{sectionOf}
+use Rattle.model.proofs.RulesLaws.{size-kept}
+use Rattle.filter_rules.specs.Keepers.{keepingOf}
 use Rattle.store.specs.Each.{OneAt}
 use Rattle.store.specs.Slot.{SlotAt}
 use Rattle.store.proofs.EachLaws.{Counting, item, slot-each, count-start, count-most, count-one, count-finish}
 use Rattle.store.proofs.Slots.{closing, closed}
-use Rattle.filters.specs.Keeping.{keptOf}
-use Rattle.filters.proofs.KeepingLaws.{one-at-most, small-kept, filter-list}
+use Rattle.filter_rules.proofs.KeepersLaws.{keeper-list}
+use Rattle.filters.proofs.WritingLaws.{small-kept}
 use Rattle.filters.proofs.filter_list.Statement.{statement}
 use Rattle.filters.proofs.filter_list.Tie as tie
 
 abbrev Inv-loop : tie.InvT-loop
-Inv-loop section filter mem₀ src at n p₀ q₀ matches₀ i₀ mem p q matches i =
+Inv-loop section keeper mem₀ src at n p₀ q₀ matches₀ i₀ mem p q matches i =
     (i ≤ n) × (length mem ≡ length mem₀)
-    × ((w : SlotAt mem₀ src) → Counting (keptOf (sectionOf section) filter) (w .list) mem₀ n (at + 2) mem p q i matches)
+    × ((w : SlotAt mem₀ src) → Counting (kept (keepingOf (sectionOf section) keeper)) (w .list) mem₀ n (at + 2) mem p q i matches)
 
 abbrev μ-loop : tie.MeasureT-loop
-μ-loop section filter mem₀ src at n p₀ q₀ matches₀ i₀ mem p q matches i = n - i
+μ-loop section keeper mem₀ src at n p₀ q₀ matches₀ i₀ mem p q matches i = n - i
 
 -- the match in hand
 one : (c : tie.In-loop Inv-loop μ-loop)
-    → OneAt (keptOf (sectionOf (c .before .before .before .before .before .args .section .now)) (c .before .before .before .before .before .args .filter))
-    (c .before .loop .mem) (c .before .loop .p) (c .before .loop .q)
-one c = item (c .before .loop .inv .2 (c .before .before .before .before .before .pre .1 .0) .going) (c .loop-test .taken)
+    → let a = c .before .before .before .before .before .args in
+    OneAt (kept (keepingOf (sectionOf (a .section .now)) (a .keeper))) (c .before .loop .mem) (c .before .loop .p) (c .before .loop .q)
+one c = item (c .before .loop .inv .2 (c .before .before .before .before .before .pre .0) .going) (c .loop-test .taken)
 
 mul-n : tie.Need-mul-n Inv-loop μ-loop
 mul-n c = search needs
@@ -47,7 +50,7 @@ add-q c = search needs
 loop-holds : tie.Need-loop-holds Inv-loop μ-loop
 loop-holds c =
     let s = c .before .before .before in
-    (search needs, refl, λ w. count-start (slot-each (w .slot) (s .pre .1 .1) (small-kept (sectionOf (s .args .section .now)) (s .args .filter) (w .slot)) _ refl))
+    (search needs, refl, λ w. count-start (slot-each (w .slot) (s .pre .1) (small-kept (keepingOf (sectionOf (s .args .section .now)) (s .args .keeper)) (w .slot)) _ refl))
 
 mul-match-length : tie.Need-mul-match-length Inv-loop μ-loop
 mul-match-length c = omega (arith, one c .one .held .header)
@@ -65,8 +68,8 @@ count-one-requires : tie.Need-count-one-requires Inv-loop μ-loop
 count-one-requires c κs =
     let l = c .before .before .before .before .before .before .before in
     let s = l .before .before .before .before in
-    let w = s .pre .1 .0 in
-    omega (arith, count-most (l .loop .inv .2 w), small-kept (sectionOf (s .args .section .now)) (s .args .filter) (w .slot))
+    let w = s .pre .0 in
+    omega (arith, count-most (l .loop .inv .2 w), small-kept (keepingOf (sectionOf (s .args .section .now)) (s .args .keeper)) (w .slot))
 
 add-p-2 : tie.Need-add-p-2 Inv-loop μ-loop
 add-p-2 c =
@@ -88,16 +91,16 @@ loop-again c =
       search needs,
       search needs,
       λ w. count-one (g w) (l .loop-test .taken) (r .put-filtered .ensures (item (g w .going) (l .loop-test .taken)))
-          (k .match-length .ensures) (one-at-most _ _ _ .matches) (c .count-one .ensures),
+          (k .match-length .ensures) (size-kept _ _ .matches) (c .count-one .ensures),
     )
 
 close-slot-requires : tie.Need-close-slot-requires Inv-loop μ-loop
 close-slot-requires c κs =
     let l = c .before .before in
     let s = l .before .before .before .before in
-    let w = s .pre .1 .0 in
-    let small = small-kept (sectionOf (s .args .section .now)) (s .args .filter) (w .slot) in
-    closing small (count-finish (l .loop .inv .2 w) (c .before .loop-test .left)) (s .pre .1 .1 .room)
+    let w = s .pre .0 in
+    let small = small-kept (keepingOf (sectionOf (s .args .section .now)) (s .args .keeper)) (w .slot) in
+    closing small (count-finish (l .loop .inv .2 w) (c .before .loop-test .left)) (s .pre .1 .room)
 
 same-length : tie.Need-same-length Inv-loop μ-loop
 same-length c = search needs
@@ -107,8 +110,8 @@ returns c w =
     let l = c .before .before .before .before in
     let s = l .before .before .before .before .before in
     let S = sectionOf (s .args .section .now) in
-    rw (← filter-list S (s .args .filter) (s .pre .0) (w .list))
-    (closed (small-kept S (s .args .filter) (w .slot)) (count-finish (l .before .loop .inv .2 w) (l .loop-test .left)) (c .before .before .close-slot .ensures))
+    rw (← keeper-list S (s .args .keeper) (w .list))
+    (closed (small-kept (keepingOf S (s .args .keeper)) (w .slot)) (count-finish (l .before .loop .inv .2 w) (l .loop-test .left)) (c .before .before .close-slot .ensures))
 
 pub filter-list-spec : {M : Type 1} → statement M
 filter-list-spec =

@@ -1,29 +1,38 @@
--- A window goes by its own rule; the tags of the others say that they are none.
+-- Each rule has a function of its own, and the filter is what its rule says.
 use Rattle.model.specs.Section.{sectionOf}
-use Rattle.building.proofs.StepsLaws.{by-window, no-window}
+use Rattle.building.proofs.StepsLaws.{is-window, by-window, by-keeper}
 use borrow.Author.Needs.{needs}
 use Rattle.building.proofs.steps.filtered.Statement.{statement}
 use Rattle.building.proofs.steps.filtered.Tie as tie
 
-enum-known-filter : tie.Need-enum-known-filter
-enum-known-filter c = search needs
+rule-of-requires : tie.Need-rule-of-requires
+rule-of-requires c κs = search needs
+
+enum-known-n : tie.Need-enum-known-n
+enum-known-n c = search needs
+
+window-list-requires : tie.Need-window-list-requires
+window-list-requires c κs =
+    let n = c .before .before in
+    let f = n .before .before in
+    let r = f .before .before .before .pre in
+    (r .0 (n .n .given .0 .0) (is-window (f .rule-of .ensures) (n .n .given .1)), (r .1 .0, r .1 .1))
+
+enum-known-keeper : tie.Need-enum-known-keeper
+enum-known-keeper c = search needs
 
 filter-list-requires : tie.Need-filter-list-requires
-filter-list-requires c κs =
-    let r = c .before .before .before .before .pre in
-    (λ e. no-window (c .before .before .before .before .args .filter) (c .before .match .keys2) e, (r .1 .0, r .1 .1))
+filter-list-requires c κs = let r = c .before .before .before .before .before .before .before .pre in (r .1 .0, r .1 .1)
 
 same-length : tie.Need-same-length
 same-length c = search needs
 
 returns : tie.Need-returns
-returns c = search needs
-
-window-list-requires : tie.Need-window-list-requires
-window-list-requires c κs =
-    let f = c .before .before in
-    let r = f .before .before .before .before .pre in
-    (r .0 (f .filter .given .0 .0) (f .filter .given .1), (r .1 .0, r .1 .1))
+returns c w =
+    let b = c .before .before in
+    let n = b .before .before .before in
+    let f = n .before .before in
+    by-window (f .rule-of .ensures) (sectionOf (f .before .before .before .args .section .now)) (w .list) (n .n .given .1) (b .window-list .ensures w)
 
 same-length-2 : tie.Need-same-length-2
 same-length-2 c = search needs
@@ -31,17 +40,20 @@ same-length-2 c = search needs
 returns-2 : tie.Need-returns-2
 returns-2 c w =
     let b = c .before .before in
-    let f = b .before .before .before in
-    by-window (sectionOf (f .before .before .before .before .args .section .now)) (w .list) (f .filter .given .1) (b .window-list .ensures w)
+    let k = b .before .before .before in
+    let f = k .before .before in
+    by-keeper (f .rule-of .ensures) (sectionOf (f .before .before .before .args .section .now)) (w .list) (k .keeper .given .1) (b .filter-list .ensures w)
 
 pub filtered-spec : {M : Type 1} → statement M
 filtered-spec =
     tie.close
     (tie.spec
-    enum-known-filter
+    rule-of-requires
+    enum-known-n
+    window-list-requires
+    enum-known-keeper
     filter-list-requires
     same-length
     returns
-    window-list-requires
     same-length-2
     returns-2)

@@ -5,18 +5,19 @@ use mathlib.Core.Path.{_≡_, refl}
 use borrow.Author.Needs.{needs}
 use lib.ListN.{length}
 use Rattle.model.specs.Section.{sectionOf}
+use Rattle.filter_rules.specs.Keepers.{keepingOf}
 use Rattle.filters.specs.Writing.{RoomAt, excludesNumbers}
 use Rattle.filters.proofs.WritingLaws.{Staying, stay-start, exclude-fits, stay-step, stay-finish}
 use Rattle.filters.proofs.writing.put_excludes.Statement.{statement}
 use Rattle.filters.proofs.writing.put_excludes.Tie as tie
 
 abbrev Inv-loop : tie.InvT-loop
-Inv-loop section filter mem₀ p to header a b e k₀ q₀ mem k q =
+Inv-loop section keeper mem₀ p to header a b e k₀ q₀ mem k q =
     (length mem ≡ length mem₀)
-    × ((w : RoomAt (excludesNumbers (sectionOf section) filter) mem₀ p to) → Staying (sectionOf section) filter (w .item) mem₀ e to mem k q)
+    × ((w : RoomAt (excludesNumbers (keepingOf (sectionOf section) keeper)) mem₀ p to) → Staying (keepingOf (sectionOf section) keeper) (w .item) mem₀ e to mem k q)
 
 abbrev μ-loop : tie.MeasureT-loop
-μ-loop section filter mem₀ p to header a b e k₀ q₀ mem k q = e - k
+μ-loop section keeper mem₀ p to header a b e k₀ q₀ mem k q = e - k
 
 mul-header : tie.Need-mul-header Inv-loop μ-loop
 mul-header c = search needs
@@ -48,14 +49,14 @@ add-e c = search needs
 loop-holds : tie.Need-loop-holds Inv-loop μ-loop
 loop-holds c =
     let a = c .before .before .before .before .before .args in
-    (refl, λ w. stay-start (sectionOf (a .section .now)) (a .filter) w (c .before .includes-in .ensures) (c .excludes-in .ensures))
+    (refl, λ w. stay-start (keepingOf (sectionOf (a .section .now)) (a .keeper)) w (c .before .includes-in .ensures) (c .excludes-in .ensures))
 
 put-exclude-requires : tie.Need-put-exclude-requires Inv-loop μ-loop
 put-exclude-requires c κs =
     let l = c .before .before in
     let i = l .before in
     let s = i .before .before .before .before .before in
-    exclude-fits (sectionOf (s .args .section .now)) (s .args .filter) (s .pre) (i .before .includes-in .ensures) (i .excludes-in .ensures)
+    exclude-fits (keepingOf (sectionOf (s .args .section .now)) (s .args .keeper)) (s .pre) (i .before .includes-in .ensures) (i .excludes-in .ensures)
     (l .loop .inv .1 (s .pre)) (c .before .loop-test .taken)
 
 add-k : tie.Need-add-k Inv-loop μ-loop
@@ -71,7 +72,7 @@ loop-again c =
     let i = t .before .before in
     let a = i .before .before .before .before .before .args in (
       search needs,
-      λ w. stay-step (sectionOf (a .section .now)) (a .filter) w (i .before .includes-in .ensures) (i .excludes-in .ensures)
+      λ w. stay-step (keepingOf (sectionOf (a .section .now)) (a .keeper)) w (i .before .includes-in .ensures) (i .excludes-in .ensures)
           (t .before .loop .inv .1 w) (t .loop-test .taken) (k .put-exclude .ensures),
     )
 
@@ -83,7 +84,7 @@ returns c w =
     let l = c .before in
     let i = l .before in
     let a = i .before .before .before .before .before .args in
-    stay-finish (sectionOf (a .section .now)) (a .filter) w (i .before .includes-in .ensures) (i .excludes-in .ensures) (l .loop .inv .1 w) (c .loop-test .left)
+    stay-finish (keepingOf (sectionOf (a .section .now)) (a .keeper)) w (i .before .includes-in .ensures) (i .excludes-in .ensures) (l .loop .inv .1 w) (c .loop-test .left)
 
 pub put-excludes-spec : {M : Type 1} → statement M
 put-excludes-spec =

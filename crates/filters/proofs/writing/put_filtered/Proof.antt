@@ -2,6 +2,7 @@
 use borrow.Author.Needs.{needs}
 use borrow.Author.Tests.{not-true, not-false}
 use Rattle.model.specs.Section.{sectionOf}
+use Rattle.filter_rules.specs.Keepers.{keepingOf}
 use Rattle.filters.proofs.WritingLaws.{put-nothing, kept-at, put-one}
 use Rattle.filters.proofs.writing.put_filtered.Statement.{statement}
 use Rattle.filters.proofs.writing.put_filtered.Tie as tie
@@ -47,14 +48,14 @@ returns c w =
     let k = c .before in
     let i = k .before .before .before in
     let a = i .before .before .before .before .args in
-    put-nothing (sectionOf (a .section .now)) (a .filter) w (i .includes-in .ensures) (k .keeps .ensures) (not-true _ (c .if1 .taken))
+    put-nothing (keepingOf (sectionOf (a .section .now)) (a .keeper)) w (i .includes-in .ensures) (k .keeps .ensures) (not-true _ (c .if1 .taken))
 
 put-kept-requires : tie.Need-put-kept-requires
 put-kept-requires c κs =
     let t = c .before in
     let i = t .before .before .before .before in
     let s = i .before .before .before .before in
-    kept-at (sectionOf (s .args .section .now)) (s .args .filter) (s .pre) (i .includes-in .ensures) (t .before .keeps .ensures) (not-false _ (t .if1 .left))
+    kept-at (keepingOf (sectionOf (s .args .section .now)) (s .args .keeper)) (s .pre) (i .includes-in .ensures) (t .before .keeps .ensures) (not-false _ (t .if1 .left))
 
 same-length-2 : tie.Need-same-length-2
 same-length-2 c = search needs
@@ -65,7 +66,7 @@ returns-2 c w =
     let t = k .before .before in
     let i = t .before .before .before .before in
     let a = i .before .before .before .before .args in
-    put-one (sectionOf (a .section .now)) (a .filter) w (i .includes-in .ensures) (t .before .keeps .ensures) (not-false _ (t .if1 .left)) (k .put-kept .ensures)
+    put-one (keepingOf (sectionOf (a .section .now)) (a .keeper)) w (i .includes-in .ensures) (t .before .keeps .ensures) (not-false _ (t .if1 .left)) (k .put-kept .ensures)
 
 pub put-filtered-spec : {M : Type 1} → statement M
 put-filtered-spec =

@@ -1,5 +1,4 @@
 -- The witness's includes are the strings of the part; where they are not joined, their numbers are copied.
-use mathlib.Core.Path.{sym, _∙_}
 use borrow.Author.Needs.{needs}
 use Rattle.filters.proofs.WritingLaws.{join-fits, put-joined, copy-fits, put-plain}
 use Rattle.filters.proofs.writing.put_includes.Statement.{statement}
@@ -20,18 +19,14 @@ includes-in-requires c κs = search needs
 mul-n : tie.Need-mul-n
 mul-n c = search needs
 
-joins-requires : tie.Need-joins-requires
-joins-requires c κs = search needs
-
 add-put-join : tie.Need-add-put-join
 add-put-join c = search needs
 
 put-join-requires : tie.Need-put-join-requires
 put-join-requires c κs =
-    let j = c .before .before in
-    let i = j .before in
+    let i = c .before .before in
     let s = i .before .before .before in
-    join-fits (s .args .filter) (s .pre) (i .includes-in .ensures) (sym (j .joins .ensures) ∙ c .before .if1 .taken)
+    join-fits (s .args .joins) (s .pre) (i .includes-in .ensures) (c .before .if1 .taken)
 
 same-length : tie.Need-same-length
 same-length c = search needs
@@ -40,15 +35,14 @@ returns : tie.Need-returns
 returns c w =
     let k = c .before .before in
     let t = k .before .before in
-    let i = t .before .before in
-    put-joined (i .before .before .before .args .filter) w (i .includes-in .ensures) (sym (t .before .joins .ensures) ∙ t .if1 .taken) (k .put-join .ensures)
+    let i = t .before in
+    put-joined (i .before .before .before .args .joins) w (i .includes-in .ensures) (t .if1 .taken) (k .put-join .ensures)
 
 copy-up-requires : tie.Need-copy-up-requires
 copy-up-requires c κs =
-    let j = c .before .before in
-    let i = j .before in
+    let i = c .before .before in
     let s = i .before .before .before in
-    copy-fits (s .args .filter) (s .pre) (i .includes-in .ensures) (sym (j .joins .ensures) ∙ c .before .if1 .left)
+    copy-fits (s .args .joins) (s .pre) (i .includes-in .ensures) (c .before .if1 .left)
 
 add-result : tie.Need-add-result
 add-result c = search needs
@@ -60,8 +54,8 @@ returns-2 : tie.Need-returns-2
 returns-2 c w =
     let k = c .before .before in
     let t = k .before .before in
-    let i = t .before .before in
-    put-plain (i .before .before .before .args .filter) w (i .includes-in .ensures) (sym (t .before .joins .ensures) ∙ t .if1 .left) (k .copy-up .ensures)
+    let i = t .before in
+    put-plain (i .before .before .before .args .joins) w (i .includes-in .ensures) (t .if1 .left) (k .copy-up .ensures)
 
 pub put-includes-spec : {M : Type 1} → statement M
 put-includes-spec =
@@ -72,7 +66,6 @@ put-includes-spec =
     slice-read-includes-in
     includes-in-requires
     mul-n
-    joins-requires
     add-put-join
     put-join-requires
     same-length

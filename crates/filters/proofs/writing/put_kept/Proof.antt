@@ -3,6 +3,7 @@ use native.Mathlib.Omega.{arith}
 use borrow.Author.Needs.{needs}
 use lib.ListN.{length, length-set}
 use Rattle.model.specs.Section.{sectionOf}
+use Rattle.filter_rules.specs.Keepers.{keepingOf}
 use Rattle.filters.proofs.WritingLaws.{includes-at, excludes-at, MatchEnds, ends-found, put-whole}
 use Rattle.filters.proofs.writing.put_kept.Statement.{statement}
 use Rattle.filters.proofs.writing.put_kept.Tie as tie
@@ -10,26 +11,35 @@ use Rattle.filters.proofs.writing.put_kept.Tie as tie
 ends : (c : tie.After-slice-known3)
     → let r = c .before .before in
     let l = r .before .before .before .before in
-    MatchEnds (length (r .put-excludes .last .1 .1 .0)) (l .before .before .before .before .args .q) (l .put-includes .result) (r .put-excludes .result)
+    MatchEnds (length (r .put-excludes .last .1 .1 .0)) (l .before .before .before .before .before .args .q) (l .put-includes .result) (r .put-excludes .result)
 ends c =
     let r = c .before .before in
     let l = r .before .before .before .before in
-    let s = l .before .before .before .before in
-    ends-found (sectionOf (s .args .section .now)) (s .args .filter) (s .pre) (l .put-includes .ensures) (r .put-excludes .ensures)
+    let j = l .before .before in
+    let s = j .before .before .before in
+    let S = sectionOf (s .args .section .now) in
+    ends-found (keepingOf S (s .args .keeper)) (s .pre) (j .joins .ensures S) (l .put-includes .ensures) (r .put-excludes .ensures)
 
 add-start : tie.Need-add-start
 add-start c = search needs
 
+joins-requires : tie.Need-joins-requires
+joins-requires c κs = search needs
+
 put-includes-requires : tie.Need-put-includes-requires
 put-includes-requires c κs =
-    let s = c .before .before .before in
-    includes-at (sectionOf (s .args .section .now)) (s .args .filter) (s .pre)
+    let j = c .before in
+    let s = j .before .before .before in
+    let S = sectionOf (s .args .section .now) in
+    includes-at (keepingOf S (s .args .keeper)) (s .pre) (j .joins .ensures S)
 
 put-excludes-requires : tie.Need-put-excludes-requires
 put-excludes-requires c κs =
     let l = c .before .before .before in
-    let s = l .before .before .before .before in
-    excludes-at (sectionOf (s .args .section .now)) (s .args .filter) (s .pre) (l .put-includes .ensures)
+    let j = l .before .before in
+    let s = j .before .before .before in
+    let S = sectionOf (s .args .section .now) in
+    excludes-at (keepingOf S (s .args .keeper)) (s .pre) (j .joins .ensures S) (l .put-includes .ensures)
 
 sub-header : tie.Need-sub-header
 sub-header c = ends c .includes
@@ -55,14 +65,17 @@ returns : tie.Need-returns
 returns c w =
     let r = c .before .before .before in
     let l = r .before .before .before .before in
-    let a = l .before .before .before .before .args in
-    put-whole (sectionOf (a .section .now)) (a .filter) w (l .put-includes .ensures) (r .put-excludes .ensures) (c .header .ensures)
+    let j = l .before .before in
+    let a = j .before .before .before .args in
+    let S = sectionOf (a .section .now) in
+    put-whole (keepingOf S (a .keeper)) w (j .joins .ensures S) (l .put-includes .ensures) (r .put-excludes .ensures) (c .header .ensures)
 
 pub put-kept-spec : {M : Type 1} → statement M
 put-kept-spec =
     tie.close
     (tie.spec
     add-start
+    joins-requires
     put-includes-requires
     put-excludes-requires
     sub-header

@@ -5,21 +5,22 @@ use mathlib.Core.Path.{sym, _∙_}
 use borrow.Author.Needs.{needs}
 use borrow.Author.Tests.{not-true, not-false}
 use lib.ListN.{length}
+use Rattle.model.specs.Section.{sectionOf}
 use Rattle.strings.specs.Strings.{strsAt}
-use Rattle.units.specs.Units.{unitAt}
+use Rattle.units.specs.Units.{unitIn}
 use Rattle.strings.proofs.StringsLaws.{Left, left-start, decided-here, decided-later, decided-end, drop-whole}
 use Rattle.units.proofs.UnitsLaws.{bothTests, decides-differ, too-few, enough}
 use Rattle.units.proofs.different.all_differ.Statement.{statement}
 use Rattle.units.proofs.different.all_differ.Tie as tie
 
 abbrev Inv-loop : tie.InvT-loop
-Inv-loop section unit strs i₀ i = Left (bothTests (unitAt unit section) (strsAt strs)) (bothTests (unitAt unit section)) strs i
+Inv-loop section unit strs i₀ i = Left (bothTests (unitIn (sectionOf section) unit) (strsAt strs)) (bothTests (unitIn (sectionOf section) unit)) strs i
 
 abbrev μ-loop : tie.MeasureT-loop
 μ-loop section unit strs i₀ i = length strs - i
 
 returns : tie.Need-returns Inv-loop μ-loop
-returns c = let a = c .before .before .before .args in too-few (unitAt (a .unit) (a .section .now)) (a .strs .now) (c .if1 .taken)
+returns c = let a = c .before .before .before .args in too-few (unitIn (sectionOf (a .section .now)) (a .unit)) (a .strs .now) (c .if1 .taken)
 
 loop-holds : tie.Need-loop-holds Inv-loop μ-loop
 loop-holds c = left-start _ _
@@ -56,7 +57,7 @@ returns-2 c =
     let t = c .before .before .before .before in
     let f = t .before .before in
     let a = f .before .before .before .args in
-    let u = unitAt (a .unit) (a .section .now) in
+    let u = unitIn (sectionOf (a .section .now)) (a .unit) in
     let e = sym (c .before .differs .ensures) ∙ not-true _ (c .if2 .taken) in
     enough u (a .strs .now) (f .if1 .left) (decided-here (decides-differ u) (t .before .loop .inv) (t .loop-test .taken) (rw drop-whole at e))
 
@@ -67,7 +68,7 @@ loop-again : tie.Need-loop-again Inv-loop μ-loop
 loop-again c =
     let t = c .before .before .before .before in
     let a = t .before .before .before .before .before .args in
-    let u = unitAt (a .unit) (a .section .now) in
+    let u = unitIn (sectionOf (a .section .now)) (a .unit) in
     let e = sym (c .before .differs .ensures) ∙ not-false _ (c .if2 .left) in
     decided-later (decides-differ u) (t .before .loop .inv) (t .loop-test .taken) (rw drop-whole at e)
 
@@ -75,7 +76,7 @@ returns-3 : tie.Need-returns-3 Inv-loop μ-loop
 returns-3 c =
     let f = c .before .before in
     let a = f .before .before .before .args in
-    let u = unitAt (a .unit) (a .section .now) in
+    let u = unitIn (sectionOf (a .section .now)) (a .unit) in
     enough u (a .strs .now) (f .if1 .left) (decided-end (decides-differ u) (c .before .loop .inv) (c .loop-test .left))
 
 pub all-differ-spec : {M : Type 1} → statement M

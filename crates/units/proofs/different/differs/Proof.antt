@@ -5,15 +5,16 @@ use borrow.Author.Needs.{needs}
 use borrow.Author.Tests.{not-true, not-false}
 use lib.ListN.{length}
 use Rattle.model.specs.Lists.{allOf}
-use Rattle.model.specs.Rules.{apart}
+use Rattle.model.specs.Rules.{unitsApart}
+use Rattle.model.specs.Section.{sectionOf}
 use Rattle.strings.specs.Strings.{strOf, strsAt}
-use Rattle.units.specs.Units.{unitAt}
+use Rattle.units.specs.Units.{unitIn}
 use Rattle.strings.proofs.StringsLaws.{Left, left-start, decides-all, decided-here, decided-later, decided-end}
 use Rattle.units.proofs.different.differs.Statement.{statement}
 use Rattle.units.proofs.different.differs.Tie as tie
 
 abbrev Inv-loop : tie.InvT-loop
-Inv-loop section unit strs span i₀ i = Left (allOf (apart (unitAt unit section) (strOf span 0)) (strsAt strs)) (allOf (apart (unitAt unit section) (strOf span 0))) strs i
+Inv-loop section unit strs span i₀ i = Left (allOf (unitsApart (unitIn (sectionOf section) unit) (strOf span 0)) (strsAt strs)) (allOf (unitsApart (unitIn (sectionOf section) unit) (strOf span 0))) strs i
 
 abbrev μ-loop : tie.MeasureT-loop
 μ-loop section unit strs span i₀ i = length strs - i

@@ -5,15 +5,16 @@ use borrow.Author.Needs.{needs}
 use borrow.Author.Tests.{not-true, not-false}
 use lib.ListN.{length}
 use Rattle.model.specs.Lists.{allOf}
-use Rattle.model.specs.Rules.{inUnitOf}
+use Rattle.model.specs.Rules.{inUnitFor}
+use Rattle.model.specs.Section.{sectionOf}
 use Rattle.strings.specs.Strings.{strsAt}
-use Rattle.units.specs.Units.{unitAt}
+use Rattle.units.specs.Units.{unitIn}
 use Rattle.strings.proofs.StringsLaws.{Left, left-start, decides-all, decided-here, decided-later, decided-end}
 use Rattle.units.proofs.same.all_in_same.Statement.{statement}
 use Rattle.units.proofs.same.all_in_same.Tie as tie
 
 abbrev Inv-loop : tie.InvT-loop
-Inv-loop section unit strs i₀ i = Left (allOf (inUnitOf (unitAt unit section) (strsAt strs)) (strsAt strs)) (allOf (inUnitOf (unitAt unit section) (strsAt strs))) strs i
+Inv-loop section unit strs i₀ i = Left (allOf (inUnitFor (unitIn (sectionOf section) unit) (strsAt strs)) (strsAt strs)) (allOf (inUnitFor (unitIn (sectionOf section) unit) (strsAt strs))) strs i
 
 abbrev μ-loop : tie.MeasureT-loop
 μ-loop section unit strs i₀ i = length strs - i

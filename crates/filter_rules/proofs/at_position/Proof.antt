@@ -2,8 +2,8 @@
 use mathlib.Core.Path.{sym}
 use borrow.Author.Needs.{needs}
 use borrow.Author.Tests.{le-leb, lt-leb}
-use Rattle.filters.proofs.keeping.at_position.Statement.{statement}
-use Rattle.filters.proofs.keeping.at_position.Tie as tie
+use Rattle.filter_rules.proofs.at_position.Statement.{statement}
+use Rattle.filter_rules.proofs.at_position.Tie as tie
 
 number-at-requires : tie.Need-number-at-requires
 number-at-requires c κs = search needs

@@ -1,0 +1,40 @@
+-- What a filter that keeps a match or drops it gives, by its three things: its definition.
+use mathlib.Core.Path.{_≡_, refl, ap}
+use mathlib.Core.Bool.{false}
+use mathlib.Core.List.{List, [], _∷_, flatMap}
+use denote.Enum.Declared.{tagOf}
+use types.Run.{OneOf, miss}
+use Rattle.model.specs.AllMatches.{filterMatch, filterList}
+use Rattle.model.specs.Matches.{Match}
+use Rattle.model.specs.Rules.{kept}
+use Rattle.model.specs.Section.{Section}
+use Rattle.units.specs.declared.Unit.the-variants.{Sentence, Paragraph}
+use Rattle.filter_rules.specs.declared.Keeper.{Keeper}
+use Rattle.filter_rules.specs.declared.Keeper.the-variants.{Ordered, Distance, Same, Different, AtStart, AtEnd, EntireContent}
+use Rattle.filter_rules.proofs.Keeper.{the-type}
+use Rattle.filter_rules.specs.Keepers.{keeperFilter, keepingOf}
+
+keeper-match : (s : Section) (k : Keeper) → kept (keepingOf s k) ≡ filterMatch s (keeperFilter k)
+keeper-match s Ordered = refl
+keeper-match s (Distance a b) = refl
+keeper-match s (Same Sentence) = refl
+keeper-match s (Same Paragraph) = refl
+keeper-match s (Different Sentence) = refl
+keeper-match s (Different Paragraph) = refl
+keeper-match s AtStart = refl
+keeper-match s AtEnd = refl
+keeper-match s EntireContent = refl
+
+pub keeper-list : (s : Section) (k : Keeper) (ms : List Match) → flatMap (kept (keepingOf s k)) ms ≡ filterList s (keeperFilter k) ms
+unfolding filterList
+keeper-list s k ms = ap (λ F. flatMap F ms) (keeper-match s k)
+
+-- the tags of all but distance
+pub no-join : (s : Section) (k : Keeper) → OneOf (0 ∷ 2 ∷ 3 ∷ 4 ∷ 5 ∷ 6 ∷ []) (tagOf the-type k) → false ≡ keepingOf s k .joins
+no-join s Ordered t = refl
+no-join s (Distance a b) t = absurd (miss (0 ∷ 2 ∷ 3 ∷ 4 ∷ 5 ∷ 6 ∷ []) 1 tt t)
+no-join s (Same unit) t = refl
+no-join s (Different unit) t = refl
+no-join s AtStart t = refl
+no-join s AtEnd t = refl
+no-join s EntireContent t = refl

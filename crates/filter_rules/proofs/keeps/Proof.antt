@@ -1,0 +1,101 @@
+-- Each arm is the test of its filter.
+use borrow.Author.Needs.{needs}
+use Rattle.filter_rules.proofs.keeps.Statement.{statement}
+use Rattle.filter_rules.proofs.keeps.Tie as tie
+
+enum-told : tie.Need-enum-told
+enum-told c = search needs
+
+all-agree-requires : tie.Need-all-agree-requires
+all-agree-requires c κs = search needs
+
+enum-known-keeper : tie.Need-enum-known-keeper
+enum-known-keeper c = search needs
+
+sorted-within-requires : tie.Need-sorted-within-requires
+sorted-within-requires c κs = search needs
+
+enum-known-keeper-2 : tie.Need-enum-known-keeper-2
+enum-known-keeper-2 c = search needs
+
+all-in-same-requires : tie.Need-all-in-same-requires
+all-in-same-requires c κs = search needs
+
+enum-known-keeper-3 : tie.Need-enum-known-keeper-3
+enum-known-keeper-3 c = search needs
+
+all-differ-requires : tie.Need-all-differ-requires
+all-differ-requires c κs = search needs
+
+enum-told-2 : tie.Need-enum-told-2
+enum-told-2 c = search needs
+
+at-position-requires : tie.Need-at-position-requires
+at-position-requires c κs = search needs
+
+enum-told-3 : tie.Need-enum-told-3
+enum-told-3 c = search needs
+
+number-at-requires : tie.Need-number-at-requires
+number-at-requires c κs = search needs
+
+at-position-requires-2 : tie.Need-at-position-requires-2
+at-position-requires-2 c κs = search needs
+
+enum-told-4 : tie.Need-enum-told-4
+enum-told-4 c = search needs
+
+number-at-requires-2 : tie.Need-number-at-requires-2
+number-at-requires-2 c κs = search needs
+
+run-covered-requires : tie.Need-run-covered-requires
+run-covered-requires c κs = search needs
+
+returns : tie.Need-returns
+returns c = rw (c .before .enum-told .given .1) (c .all-agree .ensures)
+
+returns-2 : tie.Need-returns-2
+returns-2 c = rw (c .before .before .keeper .given .1) (c .sorted-within .ensures)
+
+returns-3 : tie.Need-returns-3
+returns-3 c = rw (c .before .before .keeper2 .given .1) (c .all-in-same .ensures)
+
+returns-4 : tie.Need-returns-4
+returns-4 c = rw (c .before .before .keeper3 .given .1) (c .all-differ .ensures)
+
+returns-5 : tie.Need-returns-5
+returns-5 c = rw (c .before .enum-told2 .given .1) (c .at-position .ensures)
+
+returns-6 : tie.Need-returns-6
+returns-6 c = rw (c .before .before .enum-told3 .given .1) (rw (c .before .number-at .ensures) at (c .at-position2 .ensures))
+
+returns-7 : tie.Need-returns-7
+returns-7 c = rw (c .before .before .enum-told4 .given .1) (rw (c .before .number-at2 .ensures) at (c .run-covered .ensures))
+
+pub keeps-spec : {M : Type 1} → statement M
+keeps-spec =
+    tie.close
+    (tie.spec
+    enum-told
+    all-agree-requires
+    enum-known-keeper
+    sorted-within-requires
+    enum-known-keeper-2
+    all-in-same-requires
+    enum-known-keeper-3
+    all-differ-requires
+    enum-told-2
+    at-position-requires
+    enum-told-3
+    number-at-requires
+    at-position-requires-2
+    enum-told-4
+    number-at-requires-2
+    run-covered-requires
+    returns
+    returns-2
+    returns-3
+    returns-4
+    returns-5
+    returns-6
+    returns-7)

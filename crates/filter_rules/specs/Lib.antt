@@ -1,0 +1,2 @@
+-- The keepers in the model's words.
+pub mod Keepers
