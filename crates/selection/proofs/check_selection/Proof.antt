@@ -1,6 +1,6 @@
 -- Each return is one case of the checks in their order (Checking); a shape without a break is one tree.
-use Rattle.selection.proofs.Checking.{wrong-size, kind-refused, operand-refused, shape-refused, mild-not-refused, none-refused}
-use Rattle.model.proofs.WaitingLaws.{break-none}
+use Rattle.selection.proofs.CheckLaws.{wrong-size, kind-refused, operand-refused, shape-refused, mild-not-refused, none-refused}
+use Rattle.model.proofs.WaitingLaws.{misfit-none}
 use Rattle.model.proofs.AnswersLaws.{fault-nowhere}
 use Rattle.model.specs.Section.{size}
 use Rattle.model.specs.Selection.{codesOf}
@@ -83,7 +83,7 @@ unfolding wrongShape
 not-under-mild-not-requires c κs =
     let h = c .before .before in
     let s = h .before .before .before .before .before .before .before .before .before .before .args .selection .now in
-    break-none (codesOf s) .0 (fault-nowhere (wrongShape s) (sym (h .wrong-shape .ensures) ∙ c .enum-told3 .given .1))
+    misfit-none (codesOf s) .0 (fault-nowhere (wrongShape s) (sym (h .wrong-shape .ensures) ∙ c .enum-told3 .given .1))
 
 enum-known-under : tie.Need-enum-known-under
 enum-known-under c = search needs
