@@ -1,5 +1,5 @@
--- Code by code: the lists of the trees that wait behind the first codes of a part lie in memory, and none of the lists built so far is too long. The
--- next code adds one list, which is that of the next part in postfix order; behind the last code the part's own list lies alone.
+-- Code by code: the lists of the trees that wait after the first codes of a part lie in memory, and none of the lists built so far is too long. The
+-- next code adds one list, which is that of the next part in postfix order; after the last code the part's own list lies alone.
 use Prim.Native.Nat.{ℕ, suc, _+_, _-_, _≤_, _<_}
 use native.Mathlib.Omega.{arith}
 use mathlib.Core.Path.{_≡_, refl, sym, ap, ap₂, _∙_, subst}
@@ -15,20 +15,21 @@ use Rattle.model.specs.Accepted.{maxPhrases}
 use Rattle.model.specs.AllMatches.{allMatches}
 use Rattle.model.specs.AllStrings.{Every, RanksUpTo}
 use Rattle.model.specs.Checks.{refusal}
+use Rattle.model.specs.Kinds.{arity}
 use Rattle.model.specs.Limits.{maxWaiting}
 use Rattle.model.specs.Lists.{first}
-use Rattle.model.specs.Parts.{newest, rankAfter, stateAt, waitingParts}
+use Rattle.model.specs.Parts.{partEndedBy, phrasesEnded, rankAfter, stateAt, waitingParts}
 use Rattle.model.specs.Section.{Section, size, sectionOf}
 use Rattle.model.specs.Selection.{codeAt}
 use Rattle.model.specs.Trees.{State, Tree, parts, read}
-use Rattle.model.specs.Waiting.{fits, listsBehind}
+use Rattle.model.specs.Waiting.{fits, listsAfter}
 use Rattle.model.specs.Walk.{firstTooLong}
 use Rattle.model.proofs.BuildLaws.{Fits, built-fits, built-parts, built-tree, part-below, place-state}
 use Rattle.model.proofs.PartsLaws.{start-le}
 use Rattle.model.proofs.TestsLaws.{both-true}
-use Rattle.model.proofs.WaitingLaws.{step}
+use Rattle.model.proofs.WaitingLaws.{fit-of, step}
 use Rattle.model.proofs.WalkLaws.{firstTooLong-append}
-use Rattle.selection.specs.Phrases.{isPhrase, phraseWords}
+use Rattle.selection.specs.Phrases.{phraseWords}
 use Rattle.store.specs.declared.Built.{Built}
 use Rattle.store.specs.declared.Built.the-variants.{Made, TooLong}
 use Rattle.store.specs.Slot.{SlotHolds}
@@ -36,26 +37,26 @@ use Rattle.store.specs.Stack.{Stack}
 use Rattle.store.proofs.StackLaws.{stack-last}
 use Rattle.building.specs.declared.Part.the-variants as part
 use Rattle.building.specs.PartList.{PartList}
-use Rattle.building.specs.State.{Buildable, Waits, WaitsAt, BehindCode}
+use Rattle.building.specs.State.{Buildable, Waits, WaitsAt, AfterCode}
 use Rattle.building.proofs.RanksLaws.{part-formed, ranks-state, phrases-below, rank-read, rank-state}
 use Rattle.building.proofs.WordsLaws.{Loose, loose-state, phrase-words, window-size}
 
 module _ {section sel mem₀ : List ℕ} {lo hi rank : ℕ} (w : Buildable section sel mem₀ lo hi rank) where
-  -- what waits behind the first n codes of the part
-  abbrev pub waitsBehind : ℕ → State
-  waitsBehind n = stateAt (codeAt sel) lo (rankAfter (w .part .below)) n
+  -- what waits after the first n codes of the part
+  abbrev pub waitsAfter : ℕ → State
+  waitsAfter n = stateAt (codeAt sel) lo (rankAfter (w .part .below)) n
 
   pub record Going (mem : List ℕ) (lists next c : ℕ) : Type 0 where
     pub n : ℕ
     pub here : c ≡ lo + n
     pub up-to : c ≤ hi
     pub long : length mem ≡ length mem₀
-    pub stack : Stack mem (map (allMatches (sectionOf section)) (waitsBehind n .trees))
-    pub count : lists ≡ length (waitsBehind n .trees)
-    pub rank-is : next ≡ waitsBehind n .rank
-    pub fine : firstTooLong (sectionOf section) (waitingParts (waitsBehind n .trees)) ≡ none
+    pub stack : Stack mem (map (allMatches (sectionOf section)) (waitsAfter n .trees))
+    pub count : lists ≡ length (waitsAfter n .trees)
+    pub rank-is : next ≡ waitsAfter n .rank
+    pub fine : firstTooLong (sectionOf section) (waitingParts (waitsAfter n .trees)) ≡ none
 
-  fits-next : (n : ℕ) → n < hi - lo → Fits (codeAt sel (lo + suc n)) (waitsBehind n)
+  fits-next : (n : ℕ) → n < hi - lo → Fits (codeAt sel (lo + suc n)) (waitsAfter n)
   fits-next = built-fits (codeAt sel) hi lo (w .part) (w .lo-is) (part-formed sel (w .in-selection) hi (w .part) (w .up-to))
 
   pub lo-le : lo ≤ hi
@@ -86,26 +87,29 @@ module _ {section sel mem₀ : List ℕ} {lo hi rank : ℕ} (w : Buildable secti
       inside : g .n < hi - lo
       inside = omega (arith, g .here)
 
-      fits-here : fits code (length (waitsBehind (g .n) .trees)) (length (waitsBehind (g .n) .words)) ≡ true
-      fits-here = ap (λ (x : Code). fits x (length (waitsBehind (g .n) .trees)) (length (waitsBehind (g .n) .words))) code-next ∙ fits-next (g .n) inside .here
+      fits-here : fits code (length (waitsAfter (g .n) .trees)) (length (waitsAfter (g .n) .words)) ≡ true
+      fits-here = ap (λ (x : Code). fits x (length (waitsAfter (g .n) .trees)) (length (waitsAfter (g .n) .words))) code-next ∙ fits-next (g .n) inside .here
 
-      words-here : (k : ℕ) → code ≡ Phrase k → phraseWords sel c' ≡ waitsBehind (g .n) .words
+      pub lists-found : arity code ≤ lists
+      lists-found = omega (arith, g .count, fit-of code (length (waitsAfter (g .n) .trees)) (length (waitsAfter (g .n) .words)) fits-here .finds)
+
+      words-here : (k : ℕ) → code ≡ Phrase k → phraseWords sel c' ≡ waitsAfter (g .n) .words
       words-here k q =
-          let ws = waitsBehind (g .n) .words in
-          let ts = waitsBehind (g .n) .trees in
+          let ws = waitsAfter (g .n) .words in
+          let ts = waitsAfter (g .n) .trees in
           let f : (eqb (length ws) k && ltb (length ts) maxWaiting) ≡ true = ap (λ (x : Code). fits x (length ts) (length ws)) (sym q) ∙ fits-here in
           let l = eqb-true (length ws) k (both-true (eqb (length ws) k) (ltb (length ts) maxWaiting) f .0) in
           let loose = loose-state sel (w .in-selection) lo (rankAfter (w .part .below)) (g .n) (omega (arith, w .up-to, g .here)) (λ i j. fits-next i (omega (arith, inside))) in
           phrase-words sel (w .in-selection) c' (omega arith) (omega (arith, w .up-to)) k ws (sym e ∙ q) l (subst (λ (i : ℕ). Loose sel i ws) (sym place-next) loose)
 
-      ranks-here : Every (RanksUpTo maxPhrases) (read code (waitsBehind (g .n)) .trees)
+      ranks-here : Every (RanksUpTo maxPhrases) (read code (waitsAfter (g .n)) .trees)
       unfolding stateAt
       ranks-here =
-          subst (λ (x : Code). Every (RanksUpTo maxPhrases) (read x (waitsBehind (g .n)) .trees)) (sym code-next)
+          subst (λ (x : Code). Every (RanksUpTo maxPhrases) (read x (waitsAfter (g .n)) .trees)) (sym code-next)
           (ranks-state sel (w .in-selection) hi (w .part) (w .up-to) lo (w .lo-is) (suc (g .n)) inside)
 
       -- it fits where it stands
-      pub waits-facts : Waits section sel mem code (waitsBehind (g .n)) c' next lists
+      pub waits-facts : Waits section sel mem code (waitsAfter (g .n)) c' next lists
       waits-facts =
           record {
             accepted = w .in-section;
@@ -123,38 +127,38 @@ module _ {section sel mem₀ : List ℕ} {lo hi rank : ℕ} (w : Buildable secti
           }
 
       unfoldable pub waits-next : WaitsAt section sel mem code c' next lists
-      waits-next = record { state = waitsBehind (g .n); waits = waits-facts }
+      waits-next = record { state = waitsAfter (g .n); waits = waits-facts }
 
-      module _ {mem' : List ℕ} {built : Built} (f : (v : WaitsAt section sel mem code c' next lists) → BehindCode (sectionOf section) code (v .state) c' mem' built) where
-        behind : BehindCode (sectionOf section) (codeAt sel (lo + suc (g .n))) (waitsBehind (g .n)) c' mem' built
+      module _ {mem' : List ℕ} {built : Built} (f : (v : WaitsAt section sel mem code c' next lists) → AfterCode (sectionOf section) code (v .state) c' mem' built) where
+        after : AfterCode (sectionOf section) (codeAt sel (lo + suc (g .n))) (waitsAfter (g .n)) c' mem' built
         unfolding waits-next
-        behind = subst (λ (x : Code). BehindCode (sectionOf section) x (waitsBehind (g .n)) c' mem' built) code-next (f waits-next)
+        after = subst (λ (x : Code). AfterCode (sectionOf section) x (waitsAfter (g .n)) c' mem' built) code-next (f waits-next)
 
         -- the parts that end so far, with the code's own
-        found : (o : Option ℕ) → firstTooLong (sectionOf section) (newest (codeAt sel (lo + suc (g .n))) (waitsBehind (suc (g .n)) .trees)) ≡ o
-            → firstTooLong (sectionOf section) (waitingParts (waitsBehind (suc (g .n)) .trees)) ≡ o
+        found : (o : Option ℕ) → firstTooLong (sectionOf section) (partEndedBy (codeAt sel (lo + suc (g .n))) (waitsAfter (suc (g .n)) .trees)) ≡ o
+            → firstTooLong (sectionOf section) (waitingParts (waitsAfter (suc (g .n)) .trees)) ≡ o
         unfolding stateAt orElse
         found o q =
             let S = sectionOf section in
-            let s = waitsBehind (g .n) in
+            let s = waitsAfter (g .n) in
             let x = codeAt sel (lo + suc (g .n)) in
             let more = step x (s .trees) (s .words) (s .place) (s .rank) (fits-next (g .n) inside .here) .adds in
-            ap (firstTooLong S) more ∙ firstTooLong-append S (waitingParts (s .trees)) (newest x (read x s .trees)) ∙ ap₂ orElse (g .fine) q
+            ap (firstTooLong S) more ∙ firstTooLong-append S (waitingParts (s .trees)) (partEndedBy x (read x s .trees)) ∙ ap₂ orElse (g .fine) q
 
         -- its list is too long: the first that is
         pub refuse : built ≡ TooLong → firstTooLong (sectionOf section) (parts (w .part .tree)) ≡ some c'
         unfolding stateAt orElse
         refuse t =
             let S = sectionOf section in
-            let ts = waitsBehind (suc (g .n)) .trees in
+            let ts = waitsAfter (suc (g .n)) .trees in
             let b = built-parts (codeAt sel) hi lo (w .part) (w .lo-is) (part-formed sel (w .in-selection) hi (w .part) (w .up-to)) (suc (g .n)) inside in
-            ap (firstTooLong S) (b .1) ∙ firstTooLong-append S (waitingParts ts) (b .0) ∙ ap (λ (o : Option ℕ). orElse o (firstTooLong S (b .0))) (found (some c') (behind .long t))
+            ap (firstTooLong S) (b .1) ∙ firstTooLong-append S (waitingParts ts) (b .0) ∙ ap (λ (o : Option ℕ). orElse o (firstTooLong S (b .0))) (found (some c') (after .long t))
 
         -- its list waits: the next code
-        pub go-on : {m s lists' next' : ℕ} → built ≡ Made m s → length mem' ≡ length mem → lists' ≡ listsBehind code lists → next' ≡ next + isPhrase code → Going mem' lists' next' c'
+        pub go-on : {m s lists' next' : ℕ} → built ≡ Made m s → length mem' ≡ length mem → lists' ≡ listsAfter code lists → next' ≡ next + phrasesEnded code → Going mem' lists' next' c'
         unfolding stateAt
         go-on {m} {s} {lists'} {next'} b l i j =
-            let z = waitsBehind (g .n) in
+            let z = waitsAfter (g .n) in
             let x = codeAt sel (lo + suc (g .n)) in
             let more = step x (z .trees) (z .words) (z .place) (z .rank) (fits-next (g .n) inside .here) in
             record {
@@ -162,18 +166,18 @@ module _ {section sel mem₀ : List ℕ} {lo hi rank : ℕ} (w : Buildable secti
               here = place-next;
               up-to = omega arith;
               long = l ∙ g .long;
-              stack = behind .stack m s b;
-              count = i ∙ ap₂ listsBehind code-next (g .count) ∙ sym (more .lists);
-              rank-is = j ∙ ap₂ (λ (k : ℕ) (y : Code). k + isPhrase y) (g .rank-is) code-next ∙ sym (rank-read x z);
-              fine = found none (behind .fine m s b);
+              stack = after .stack m s b;
+              count = i ∙ ap₂ listsAfter code-next (g .count) ∙ sym (more .lists);
+              rank-is = j ∙ ap₂ (λ (k : ℕ) (y : Code). k + phrasesEnded y) (g .rank-is) code-next ∙ sym (rank-read x z);
+              fine = found none (after .fine m s b);
             }
 
-    -- behind the last code the part's tree waits alone
+    -- after the last code the part's tree waits alone
     module _ (h : hi ≤ c) where
-      state-end : waitsBehind (g .n) .trees ≡ w .part .tree ∷ []
+      state-end : waitsAfter (g .n) .trees ≡ w .part .tree ∷ []
       state-end =
           let e : g .n ≡ hi - lo = omega (arith, g .here, g .up-to) in
-          ap (λ (i : ℕ). waitsBehind i .trees) e ∙ ap (λ (s : State). s .trees) (built-tree (codeAt sel) hi lo (w .part) (w .lo-is))
+          ap (λ (i : ℕ). waitsAfter i .trees) e ∙ ap (λ (s : State). s .trees) (built-tree (codeAt sel) hi lo (w .part) (w .lo-is))
 
       pub end-slot : SlotHolds mem 0 (allMatches (sectionOf section) (w .part .tree))
       end-slot =

@@ -1,13 +1,13 @@
--- One code read: the trees that wait before it give the lists that its rule takes, and the tree that waits behind it has the list that the rule gives.
+-- One code read: the trees that wait before it give the lists that its rule takes, and the tree that waits after it has the list that the rule gives.
 use Prim.Native.Nat.{ℕ, _≤_, _<_}
 use native.Mathlib.Omega.{arith}
 use mathlib.Core.Path.{_≡_, refl, sym, ap, _∙_, subst}
 use mathlib.Core.Bool.{Bool, true, false, _&&_}
 use mathlib.Core.List.{List, [], _∷_, map}
 use mathlib.Core.Option.{some, Option·map}
-use lib.Dec.{eqb, leb, ltb}
+use lib.Dec.{eqb, ltb}
 use lib.ListN.{length, length-map}
-use borrow.Author.Tests.{leb-true, ltb-true}
+use borrow.Author.Tests.{ltb-true}
 use Rattle.model.specs.declared.Code.{Code}
 use Rattle.model.specs.declared.Code.the-variants.{Word, Phrase, Combine, Not, Filter as Filtered}
 use Rattle.model.specs.declared.Filter.{Filter}
@@ -16,10 +16,11 @@ use Rattle.model.specs.declared.Pair.{Pair}
 use Rattle.model.specs.Accepted.{maxPhrases}
 use Rattle.model.specs.AllMatches.{allMatches, pairList, filterList}
 use Rattle.model.specs.AllStrings.{Every, EveryPhrase, RanksUpTo, AllList}
+use Rattle.model.specs.Kinds.{arity}
 use Rattle.model.specs.Limits.{maxWaiting}
 use Rattle.model.specs.Lists.{first}
 use Rattle.model.specs.Matches.{Match, tooLong}
-use Rattle.model.specs.Parts.{newest, state}
+use Rattle.model.specs.Parts.{partEndedBy, state}
 use Rattle.model.specs.Rules.{phraseList, notList}
 use Rattle.model.specs.Section.{Section, sectionOf}
 use Rattle.model.specs.Trees.{Tree, phrase, pair, negation, filter, State, read, combine, wrap, placeOf, topTree}
@@ -30,11 +31,12 @@ use Rattle.store.specs.declared.Built.{Built}
 use Rattle.store.specs.declared.Built.the-variants.{Made}
 use Rattle.store.specs.Fine.{Fine}
 use Rattle.model.proofs.TestsLaws.{both-true}
+use Rattle.model.proofs.WaitingLaws.{fit-of}
 use Rattle.store.proofs.FineLaws.{fine-matches}
 use Rattle.store.proofs.Slots.{answer-made, answer-long}
 use Rattle.window.specs.Inside.{WindowSize}
 use Rattle.building.specs.Steps.{NoneTaken, OneTaken, TwoTaken, Added}
-use Rattle.building.specs.State.{Waits, Behind, BehindCode}
+use Rattle.building.specs.State.{Waits, After, AfterCode}
 
 -- ---- firstTooLong of one tree
 
@@ -44,7 +46,7 @@ first-one s t b e = rw e
 
 -- a list added is that of the tree that waits as the last
 pub grown : {s : Section} {mem : List ℕ} {built : Built} {place : ℕ} (t : Tree) (ts : List Tree) → place ≡ placeOf t
-    → Added (allMatches s t) (map (allMatches s) ts) mem built → Behind s (t ∷ []) (t ∷ ts) place mem built
+    → Added (allMatches s t) (map (allMatches s) ts) mem built → After s (t ∷ []) (t ∷ ts) place mem built
 unfolding first
 grown {s} t ts p a =
     record {
@@ -53,36 +55,32 @@ grown {s} t ts p a =
       stack = a .waits;
     }
 
--- a code that takes n lists
-takes : (n p w : ℕ) → (eqb p 0 && leb n w) ≡ true → n ≤ w
-takes n p w e = leb-true n w (both-true (eqb p 0) (leb n w) e .1)
-
 -- A code takes the last list and gives one by a rule: a not, or a filter.
 pub record Wraps (s : Section) (code : Code) (node : ℕ → Tree → Tree) (rule : List Match → List Match) : Type 0 where
   pub reads : (before : State) → read code before .trees ≡ wrap (node (before .place)) (before .trees)
-  pub ends : (ts : List Tree) → newest code ts ≡ topTree ts ∷ []
+  pub ends : (ts : List Tree) → partEndedBy code ts ≡ topTree ts ∷ []
   pub places : (p : ℕ) (t : Tree) → placeOf (node p t) ≡ p
   pub lists : (p : ℕ) (t : Tree) → allMatches s (node p t) ≡ rule (allMatches s t)
-  pub takes : (w p : ℕ) → fits code w p ≡ true → 1 ≤ w
+  pub takes : arity code ≡ 1
 
 pub not-wraps : {s : Section} {code : Code} → code ≡ Not → Wraps s code negation notList
 unfolding read placeOf allMatches
 not-wraps {s} e =
     subst (λ (c : Code). Wraps s c negation notList) (sym e)
-    (record { reads = λ b. refl; ends = λ ts. refl; places = λ p t. refl; lists = λ p t. refl; takes = λ w p h. takes 1 p w h })
+    (record { reads = λ b. refl; ends = λ ts. refl; places = λ p t. refl; lists = λ p t. refl; takes = refl })
 
 pub filter-wraps : {s : Section} {code : Code} (f : Filter) → code ≡ Filtered f → Wraps s code (filter f) (filterList s f)
 unfolding read placeOf allMatches
 filter-wraps {s} f e =
     subst (λ (c : Code). Wraps s c (filter f) (filterList s f)) (sym e)
-    (record { reads = λ b. refl; ends = λ ts. refl; places = λ p t. refl; lists = λ p t. refl; takes = λ w p h. takes 1 p w h })
+    (record { reads = λ b. refl; ends = λ ts. refl; places = λ p t. refl; lists = λ p t. refl; takes = refl })
 
 -- the tree of a phrase
 abbrev leaf : State → Tree
 leaf s = phrase (s .place) (s .rank) (s .words)
 
 module _ {section selection mem : List ℕ} {place rank lists : ℕ} where
-  -- every string of the list of the tree that waits as the last behind a code is fine
+  -- every string of the list of the tree that waits as the last after a code is fine
   fine-last : {code : Code} {s : State} (t : Tree) (ts : List Tree) → read code s .trees ≡ t ∷ ts
       → Waits section selection mem code s place rank lists → AllList Fine (allMatches (sectionOf section) t)
   unfolding Every
@@ -127,14 +125,14 @@ module _ {section selection mem : List ℕ} {place rank lists : ℕ} where
     pub phrase-taken : NoneTaken (phraseList (sectionOf section) rank ws) mem lists
     phrase-taken = none-taken
 
-    pub phrase-behind : {mem' : List ℕ} {built : Built} → ((v : NoneTaken (phraseList (sectionOf section) rank ws) mem lists)
+    pub phrase-after : {mem' : List ℕ} {built : Built} → ((v : NoneTaken (phraseList (sectionOf section) rank ws) mem lists)
         → Added (phraseList (sectionOf section) rank ws) (v .rest) mem' built)
-        → BehindCode (sectionOf section) code s place mem' built
+        → AfterCode (sectionOf section) code s place mem' built
     unfolding none-taken read topTree placeOf
-    phrase-behind {mem'} {built} f =
+    phrase-after {mem'} {built} f =
         let rest = map (allMatches (sectionOf section)) (s .trees) in
         let a = subst (λ (l : List Match). Added l rest mem' built) leaf-list (f none-taken) in
-        subst (λ (c : Code). BehindCode (sectionOf section) c s place mem' built) (sym e) (grown (leaf s) (s .trees) (w .place-is) a)
+        subst (λ (c : Code). AfterCode (sectionOf section) c s place mem' built) (sym e) (grown (leaf s) (s .trees) (w .place-is) a)
 
   -- ---- Combine
 
@@ -154,22 +152,22 @@ module _ {section selection mem : List ℕ} {place rank lists : ℕ} where
             fine = fine-last (pair k p t u) ts refl w;
           }
 
-      two-behind : {mem' : List ℕ} {built : Built} → ((v : TwoTaken (pairList k) mem lists) → Added (pairList k (v .lefts) (v .rights)) (v .rest) mem' built)
-          → BehindCode (sectionOf section) (Combine k) (state (u ∷ t ∷ ts) ws p r) place mem' built
+      two-after : {mem' : List ℕ} {built : Built} → ((v : TwoTaken (pairList k) mem lists) → Added (pairList k (v .lefts) (v .rights)) (v .rest) mem' built)
+          → AfterCode (sectionOf section) (Combine k) (state (u ∷ t ∷ ts) ws p r) place mem' built
       unfolding two-taken read combine topTree placeOf allMatches
-      two-behind f = grown (pair k p t u) ts (w .place-is) (f two-taken)
+      two-after f = grown (pair k p t u) ts (w .place-is) (f two-taken)
 
     pair-taken' : (ts : List Tree) → Waits section selection mem (Combine k) (state ts ws p r) place rank lists → TwoTaken (pairList k) mem lists
-    pair-taken' [] w = absurd (let z = takes 2 (length ws) 0 (w .here) in omega arith)
-    pair-taken' (u ∷ []) w = absurd (let z = takes 2 (length ws) 1 (w .here) in omega arith)
+    pair-taken' [] w = absurd (omega (arith, fit-of (Combine k) 0 (length ws) (w .here) .finds))
+    pair-taken' (u ∷ []) w = absurd (omega (arith, fit-of (Combine k) 1 (length ws) (w .here) .finds))
     pair-taken' (u ∷ t ∷ ts) w = two-taken u t ts w
 
-    pair-behind' : {mem' : List ℕ} {built : Built} (ts : List Tree) → Waits section selection mem (Combine k) (state ts ws p r) place rank lists
+    pair-after' : {mem' : List ℕ} {built : Built} (ts : List Tree) → Waits section selection mem (Combine k) (state ts ws p r) place rank lists
         → ((v : TwoTaken (pairList k) mem lists) → Added (pairList k (v .lefts) (v .rights)) (v .rest) mem' built)
-        → BehindCode (sectionOf section) (Combine k) (state ts ws p r) place mem' built
-    pair-behind' [] w f = absurd (let z = takes 2 (length ws) 0 (w .here) in omega arith)
-    pair-behind' (u ∷ []) w f = absurd (let z = takes 2 (length ws) 1 (w .here) in omega arith)
-    pair-behind' (u ∷ t ∷ ts) w f = two-behind u t ts w f
+        → AfterCode (sectionOf section) (Combine k) (state ts ws p r) place mem' built
+    pair-after' [] w f = absurd (omega (arith, fit-of (Combine k) 0 (length ws) (w .here) .finds))
+    pair-after' (u ∷ []) w f = absurd (omega (arith, fit-of (Combine k) 1 (length ws) (w .here) .finds))
+    pair-after' (u ∷ t ∷ ts) w f = two-after u t ts w f
 
   module _ {code : Code} {s : State} (k : Pair) (e : code ≡ Combine k) (w : Waits section selection mem code s place rank lists) where
     as-pair : Waits section selection mem (Combine k) s place rank lists
@@ -178,10 +176,10 @@ module _ {section selection mem : List ℕ} {place rank lists : ℕ} where
     pub pair-taken : TwoTaken (pairList k) mem lists
     pair-taken = pair-taken' k (s .words) (s .place) (s .rank) (s .trees) as-pair
 
-    pub pair-behind : {mem' : List ℕ} {built : Built} → ((v : TwoTaken (pairList k) mem lists) → Added (pairList k (v .lefts) (v .rights)) (v .rest) mem' built)
-        → BehindCode (sectionOf section) code s place mem' built
-    pair-behind {mem'} {built} f =
-        subst (λ (c : Code). BehindCode (sectionOf section) c s place mem' built) (sym e) (pair-behind' k (s .words) (s .place) (s .rank) (s .trees) as-pair f)
+    pub pair-after : {mem' : List ℕ} {built : Built} → ((v : TwoTaken (pairList k) mem lists) → Added (pairList k (v .lefts) (v .rights)) (v .rest) mem' built)
+        → AfterCode (sectionOf section) code s place mem' built
+    pair-after {mem'} {built} f =
+        subst (λ (c : Code). AfterCode (sectionOf section) c s place mem' built) (sym e) (pair-after' k (s .words) (s .place) (s .rank) (s .trees) as-pair f)
 
   -- ---- Not and Filter
 
@@ -203,34 +201,34 @@ module _ {section selection mem : List ℕ} {place rank lists : ℕ} where
             fine = subst (AllList Fine) (z .lists p t) (fine-last (node p t) ts wraps-last w);
           }
 
-      one-behind : {mem' : List ℕ} {built : Built} → ((v : OneTaken rule mem lists) → Added (rule (v .list)) (v .rest) mem' built)
-          → BehindCode (sectionOf section) code (state (t ∷ ts) ws p r) place mem' built
+      one-after : {mem' : List ℕ} {built : Built} → ((v : OneTaken rule mem lists) → Added (rule (v .list)) (v .rest) mem' built)
+          → AfterCode (sectionOf section) code (state (t ∷ ts) ws p r) place mem' built
       unfolding one-taken topTree
-      one-behind {mem'} {built} f =
+      one-after {mem'} {built} f =
           let S = sectionOf section in
           let a = subst (λ (l : List Match). Added l (map (allMatches S) ts) mem' built) (sym (z .lists p t)) (f one-taken) in
-          let new : newest code (read code (state (t ∷ ts) ws p r) .trees) ≡ node p t ∷ [] = ap (newest code) wraps-last ∙ z .ends (node p t ∷ ts) in
-          subst (λ (xs : List Tree). Behind S xs (read code (state (t ∷ ts) ws p r) .trees) place mem' built) (sym new)
-          (subst (λ (xs : List Tree). Behind S (node p t ∷ []) xs place mem' built) (sym wraps-last) (grown (node p t) ts (w .place-is ∙ sym (z .places p t)) a))
+          let new : partEndedBy code (read code (state (t ∷ ts) ws p r) .trees) ≡ node p t ∷ [] = ap (partEndedBy code) wraps-last ∙ z .ends (node p t ∷ ts) in
+          subst (λ (xs : List Tree). After S xs (read code (state (t ∷ ts) ws p r) .trees) place mem' built) (sym new)
+          (subst (λ (xs : List Tree). After S (node p t ∷ []) xs place mem' built) (sym wraps-last) (grown (node p t) ts (w .place-is ∙ sym (z .places p t)) a))
 
     wrap-taken' : (ts : List Tree) → Waits section selection mem code (state ts ws p r) place rank lists → OneTaken rule mem lists
-    wrap-taken' [] w = absurd (let h = z .takes 0 (length ws) (w .here) in omega arith)
+    wrap-taken' [] w = absurd (omega (arith, z .takes, fit-of code 0 (length ws) (w .here) .finds))
     wrap-taken' (t ∷ ts) w = one-taken t ts w
 
-    wrap-behind' : {mem' : List ℕ} {built : Built} (ts : List Tree) → Waits section selection mem code (state ts ws p r) place rank lists
+    wrap-after' : {mem' : List ℕ} {built : Built} (ts : List Tree) → Waits section selection mem code (state ts ws p r) place rank lists
         → ((v : OneTaken rule mem lists) → Added (rule (v .list)) (v .rest) mem' built)
-        → BehindCode (sectionOf section) code (state ts ws p r) place mem' built
-    wrap-behind' [] w f = absurd (let h = z .takes 0 (length ws) (w .here) in omega arith)
-    wrap-behind' (t ∷ ts) w f = one-behind t ts w f
+        → AfterCode (sectionOf section) code (state ts ws p r) place mem' built
+    wrap-after' [] w f = absurd (omega (arith, z .takes, fit-of code 0 (length ws) (w .here) .finds))
+    wrap-after' (t ∷ ts) w f = one-after t ts w f
 
   module _ {code : Code} {node : ℕ → Tree → Tree} {rule : List Match → List Match} {s : State} (z : Wraps (sectionOf section) code node rule)
       (w : Waits section selection mem code s place rank lists) where
     pub wrap-taken : OneTaken rule mem lists
     wrap-taken = wrap-taken' z (s .words) (s .place) (s .rank) (s .trees) w
 
-    pub wrap-behind : {mem' : List ℕ} {built : Built} → ((v : OneTaken rule mem lists) → Added (rule (v .list)) (v .rest) mem' built)
-        → BehindCode (sectionOf section) code s place mem' built
-    wrap-behind f = wrap-behind' z (s .words) (s .place) (s .rank) (s .trees) w f
+    pub wrap-after : {mem' : List ℕ} {built : Built} → ((v : OneTaken rule mem lists) → Added (rule (v .list)) (v .rest) mem' built)
+        → AfterCode (sectionOf section) code s place mem' built
+    wrap-after f = wrap-after' z (s .words) (s .place) (s .rank) (s .trees) w f
 
   -- a window's number
   pub filter-window : {code : Code} {s : State} (f : Filter) → code ≡ Filtered f → Waits section selection mem code s place rank lists → (n : ℕ) → f ≡ Window n → WindowSize n
@@ -239,10 +237,10 @@ module _ {section selection mem : List ℕ} {place rank lists : ℕ} where
   -- ---- Word
 
   -- nothing is built
-  pub word-behind : {code : Code} {s : State} {m n : ℕ} (v : ℕ) → code ≡ Word v → Waits section selection mem code s place rank lists
-      → BehindCode (sectionOf section) code s place mem (Made m n)
+  pub word-after : {code : Code} {s : State} {m n : ℕ} (v : ℕ) → code ≡ Word v → Waits section selection mem code s place rank lists
+      → AfterCode (sectionOf section) code s place mem (Made m n)
   unfolding read firstTooLong first
-  word-behind {code} {s} {m} {n} v e w =
-      let b : BehindCode (sectionOf section) (Word v) s place mem (Made m n) =
+  word-after {code} {s} {m} {n} v e w =
+      let b : AfterCode (sectionOf section) (Word v) s place mem (Made m n) =
       record { long = λ t. absurd (let z : _≡_ {A = ℕ} 0 1 = cc in omega arith); fine = λ i j q. refl; stack = λ i j q. w .stack } in
-      subst (λ (c : Code). BehindCode (sectionOf section) c s place mem (Made m n)) (sym e) b
+      subst (λ (c : Code). AfterCode (sectionOf section) c s place mem (Made m n)) (sym e) b

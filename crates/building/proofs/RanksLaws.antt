@@ -9,7 +9,7 @@ use Rattle.model.specs.declared.Code.{Code}
 use Rattle.model.specs.declared.Code.the-variants.{Word, Phrase, Combine, Not, Filter as Filtered}
 use Rattle.model.specs.Accepted.{AcceptedSelection, maxPhrases}
 use Rattle.model.specs.AllStrings.{Every, EveryPhrase, RankUpTo, RanksUpTo}
-use Rattle.model.specs.Parts.{PartAt, partStart, phrases, phrasesAll, postfix, rankAfter, spelled, stateAt}
+use Rattle.model.specs.Parts.{PartAt, partStart, phrases, phrasesAll, phrasesEnded, postfix, rankAfter, codesOfTrees, stateAt}
 use Rattle.model.specs.Parts.{fitsAll, listsAll, waitingParts, wellFormed}
 use Rattle.model.specs.Section.{size}
 use Rattle.model.specs.Selection.{codeAt, codesOf, upTo}
@@ -21,8 +21,7 @@ use Rattle.model.proofs.SelectionLaws.{upTo-split}
 use Rattle.model.proofs.TreesLaws.{length-phrase, length-pair, readAll-append}
 use Rattle.model.proofs.WaitingLaws.{fitsAll-split, formed, steps, parsed, part-lists, listsAll-append}
 use Rattle.model.proofs.WalkLaws.{parts-last}
-use Rattle.selection.specs.Phrases.{isPhrase}
-use Rattle.selection.proofs.Phrases.{isPhrase-le}
+use Rattle.selection.proofs.PhrasesLaws.{phrasesEnded-le}
 
 every-split : {A : Type 0} (P : A → Type 0) (xs ys : List A) → Every P (xs ++ ys) → Every P xs × Every P ys
 unfolding Every
@@ -65,7 +64,7 @@ module _ (sel : List ℕ) (a : AcceptedSelection sel) (hi : ℕ) (w : PartAt (co
   part-formed = part-well (codeAt sel) hi w (size sel) (a .well) up-to
 
   ranks-part : RanksUpTo maxPhrases (w .tree)
-  unfolding treeOf topTree codesOf waitingParts spelled
+  unfolding treeOf topTree codesOf waitingParts codesOfTrees
   ranks-part =
       let at = codeAt sel in
       let F = upTo at hi in
@@ -80,7 +79,7 @@ module _ (sel : List ℕ) (a : AcceptedSelection sel) (hi : ℕ) (w : PartAt (co
       let is : parts (treeOf sel) ≡ waitingParts (readAll F s .trees) ++ r .newer =
       sym whole ∙ ap (λ (l : List Code). waitingParts (readAll l s .trees)) codes ∙ ap (λ (z : State). waitingParts (z .trees)) (readAll-append F R s) ∙ r .adds in
       let every = subst (Every (RanksUpTo maxPhrases)) is (every-parts (RankUpTo maxPhrases) (treeOf sel) (a .ranks)) in
-      let lists = ap (λ (l : List Code). listsAll l 0) (w .spells) ∙ listsAll-append (spelled (w .below)) (postfix (w .tree)) 0 ∙ part-lists (w .tree) (listsAll (spelled (w .below)) 0) in
+      let lists = ap (λ (l : List Code). listsAll l 0) (w .spells) ∙ listsAll-append (codesOfTrees (w .below)) (postfix (w .tree)) 0 ∙ part-lists (w .tree) (listsAll (codesOfTrees (w .below)) 0) in
       let some : 1 ≤ length (readAll F s .trees) = omega (arith, g .lists, lists) in
       let waiting = every-waiting (RanksUpTo maxPhrases) (readAll F s .trees) (every-split (RanksUpTo maxPhrases) (waitingParts (readAll F s .trees)) (r .newer) every .0) in
       subst (RanksUpTo maxPhrases) (part-read at hi w) (every-top (RanksUpTo maxPhrases) (readAll F s .trees) some waiting)
@@ -101,12 +100,12 @@ phrases-le (pair k c t u) = omega (arith, length-pair k c t u, phrases-le t, phr
 phrases-le (negation c t) = omega (arith, length-append (postfix t) (Not ∷ []), phrases-le t)
 phrases-le (filter f c t) = omega (arith, length-append (postfix t) (Filtered f ∷ []), phrases-le t)
 
-pub phrases-below : (ts : List Tree) → phrasesAll ts ≤ length (spelled ts)
-unfolding phrasesAll spelled
+pub phrases-below : (ts : List Tree) → phrasesAll ts ≤ length (codesOfTrees ts)
+unfolding phrasesAll codesOfTrees
 phrases-below [] = omega arith
-phrases-below (t ∷ ts) = omega (arith, length-append (spelled ts) (postfix t), phrases-le t, phrases-below ts)
+phrases-below (t ∷ ts) = omega (arith, length-append (codesOfTrees ts) (postfix t), phrases-le t, phrases-below ts)
 
-pub rank-read : (c : Code) (s : State) → read c s .rank ≡ s .rank + isPhrase c
+pub rank-read : (c : Code) (s : State) → read c s .rank ≡ s .rank + phrasesEnded c
 unfolding read
 rank-read (Word v) s = omega arith
 rank-read (Phrase k) s = refl
@@ -118,4 +117,4 @@ pub rank-state : (at : ℕ → Code) (lo rank n : ℕ) → stateAt at lo rank n 
 unfolding stateAt
 rank-state at lo rank zero = omega arith
 rank-state at lo rank (suc n) =
-    omega (arith, rank-read (at (lo + suc n)) (stateAt at lo rank n), isPhrase-le (at (lo + suc n)), rank-state at lo rank n)
+    omega (arith, rank-read (at (lo + suc n)) (stateAt at lo rank n), phrasesEnded-le (at (lo + suc n)), rank-state at lo rank n)

@@ -1,4 +1,4 @@
--- The rule's list goes to the slot of the first list that it takes: what is written there leaves those below, so it waits behind them.
+-- The rule's list goes to the slot of the first list that it takes: what is written there leaves those below, so it waits after them.
 use Prim.Native.Nat.{ℕ, _+_, _-_, _*_, _≤_, _<_}
 use native.Mathlib.Omega.{arith}
 use mathlib.Core.Path.{_≡_, sym, ap, _∙_, subst}
@@ -31,7 +31,7 @@ use Rattle.filter_rules.specs.Keepers.{keeperFilter, filterOf}
 use Rattle.or_and.specs.TwoSlots.{TwoSlots}
 use Rattle.building.specs.Steps.{NoneTaken, OneTaken, TwoTaken, Fresh, Added}
 
--- a list that a rule has put behind the rest waits there
+-- a list that a rule has put after the rest waits there
 pub added : {mem mem' : List ℕ} {built : Built} (ms : List Match) (rest : List (List Match)) → length rest < maxWaiting → workLength ≤ length mem
     → AllList Fine ms → Stack mem rest → Outcome ms mem mem' (slotAt (length rest)) built → Added ms rest mem' built
 added ms rest few room f st o =

@@ -1,19 +1,20 @@
--- The words that wait are the operands just before the next code: a word's code adds its own, and behind every other code none waits. So those of a
+-- The words that wait are the operands just before the next code: a word's code adds its own, and after every other code none waits. So those of a
 -- phrase are a part of the selection.
 use Prim.Native.Nat.{ℕ, zero, suc, _+_, _-_, _≤_, _<_}
 use native.Mathlib.Omega.{arith}
 use mathlib.Core.Path.{_≡_, refl, sym, ap, ap₂, _∙_, subst}
-use mathlib.Core.Bool.{true, _&&_}
+use mathlib.Core.Bool.{true, false}
 use mathlib.Core.List.{List, [], _∷_, _++_}
-use lib.Dec.{eqb, leb}
+use lib.Dec.{leb}
 use lib.ListN.{length, take, drop, getD, length-append}
 use lib.Seq.{drop-cons}
-use borrow.Author.Tests.{eqb-true, leb-true}
+use borrow.Author.Tests.{leb-true}
 use Rattle.model.specs.declared.Code.{Code}
 use Rattle.model.specs.declared.Code.the-variants.{Word, Phrase, Combine, Not, Filter as Filtered}
 use Rattle.model.specs.declared.Filter.the-variants.{Window}
 use Rattle.model.specs.Accepted.{AcceptedSelection}
 use Rattle.model.specs.Checks.{operandFits, filterOperandFits}
+use Rattle.model.specs.Kinds.{isWord}
 use Rattle.model.specs.Limits.{maxWindow}
 use Rattle.model.specs.Parts.{stateAt}
 use Rattle.model.specs.Section.{size}
@@ -23,8 +24,9 @@ use Rattle.model.specs.Waiting.{fits}
 use Rattle.model.proofs.BuildLaws.{Fits}
 use Rattle.model.proofs.SelectionLaws.{kind-code, operand-code}
 use Rattle.model.proofs.TestsLaws.{both-true}
+use Rattle.model.proofs.WaitingLaws.{step}
 use Rattle.selection.specs.Phrases.{phraseWords}
-use Rattle.selection.proofs.Phrases.{the-words}
+use Rattle.selection.proofs.PhrasesLaws.{the-words}
 use Rattle.store.specs.Layout.{Holds}
 use Rattle.store.proofs.Memory.{holds-both, holds-part}
 use Rattle.window.specs.Inside.{WindowSize}
@@ -35,10 +37,6 @@ pub record Loose (sel : List ℕ) (c : ℕ) (ws : List ℕ) : Type 0 where
   pub ends : from + length ws ≡ size sel + c
   pub above : size sel < from
   pub held : Holds sel from ws
-
--- no word waits where so many do
-none-wait : (n p w : ℕ) → (eqb p 0 && leb n w) ≡ true → p ≡ 0
-none-wait n p w e = eqb-true p 0 (both-true (eqb p 0) (leb n w) e .0)
 
 module _ (sel : List ℕ) (a : AcceptedSelection sel) (c : ℕ) (from-one : 1 ≤ c) (up-to : c ≤ size sel) where
   operand-at : operandOf (codeAt sel c) ≡ operandAt sel c
@@ -64,13 +62,13 @@ module _ (sel : List ℕ) (a : AcceptedSelection sel) (c : ℕ) (from-one : 1 �
 
   -- ---- a code read
 
-  none-behind : (ws : List ℕ) → length ws ≡ 0 → Loose sel (c + 1) ws
-  none-behind [] e =
+  none-word-after : (ws : List ℕ) → length ws ≡ 0 → Loose sel (c + 1) ws
+  none-word-after [] e =
       record { from = size sel + (c + 1); ends = omega arith; above = omega arith; held = record { within = omega (arith, a .sized); part = refl } }
-  none-behind (w ∷ ws) e = absurd (omega arith)
+  none-word-after (w ∷ ws) e = absurd (omega arith)
 
-  pub one-behind : (v : ℕ) (ws : List ℕ) → codeAt sel c ≡ Word v → Loose sel c ws → Loose sel (c + 1) (ws ++ v ∷ [])
-  one-behind v ws e w =
+  pub one-word-after : (v : ℕ) (ws : List ℕ) → codeAt sel c ≡ Word v → Loose sel c ws → Loose sel (c + 1) (ws ++ v ∷ [])
+  one-word-after v ws e w =
       let i : w .from + length ws ≡ size sel + c = w .ends in
       let o : getD sel (w .from + length ws) 0 ≡ v = ap (λ (j : ℕ). getD sel j 0) i ∙ sym operand-at ∙ ap operandOf e in
       let h : w .from + length ws < length sel = omega (arith, a .sized) in
@@ -83,14 +81,18 @@ module _ (sel : List ℕ) (a : AcceptedSelection sel) (c : ℕ) (from-one : 1 �
         held = holds-both ws (v ∷ []) (w .held) one;
       }
 
+  -- after a code other than a word none waits
+  loose-none : (code : Code) (s : State) → isWord code ≡ false → fits code (length (s .trees)) (length (s .words)) ≡ true → Loose sel (c + 1) (read code s .words)
+  loose-none code s h f = none-word-after (read code s .words) (step code (s .trees) (s .words) (s .place) (s .rank) f .loose ∙ rw h)
+
   loose-read : (code : Code) (s : State) → codeAt sel c ≡ code → fits code (length (s .trees)) (length (s .words)) ≡ true → Loose sel c (s .words)
       → Loose sel (c + 1) (read code s .words)
   unfolding read
-  loose-read (Word v) s e f w = one-behind v (s .words) e w
-  loose-read (Phrase k) s e f w = none-behind [] refl
-  loose-read (Combine k) s e f w = none-behind (s .words) (none-wait 2 _ (length (s .trees)) f)
-  loose-read Not s e f w = none-behind (s .words) (none-wait 1 _ (length (s .trees)) f)
-  loose-read (Filtered g) s e f w = none-behind (s .words) (none-wait 1 _ (length (s .trees)) f)
+  loose-read (Word v) s e f w = one-word-after v (s .words) e w
+  loose-read (Phrase k) s e f w = loose-none (Phrase k) s refl f
+  loose-read (Combine k) s e f w = loose-none (Combine k) s refl f
+  loose-read Not s e f w = loose-none Not s refl f
+  loose-read (Filtered g) s e f w = loose-none (Filtered g) s refl f
 
 module _ (sel : List ℕ) (a : AcceptedSelection sel) (lo rank : ℕ) where
   pub loose-state : (n : ℕ) → lo + n ≤ size sel → ((i : ℕ) → i < n → Fits (codeAt sel (lo + suc i)) (stateAt (codeAt sel) lo rank i))

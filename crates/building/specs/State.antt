@@ -1,4 +1,4 @@
--- What a part is built from, and what waits before and behind each of its codes.
+-- What a part is built from, and what waits before and after each of its codes.
 use Prim.Native.Nat.{ℕ, _≤_}
 use mathlib.Core.Bool.{true}
 use mathlib.Core.List.{List, map}
@@ -12,7 +12,7 @@ use Rattle.model.specs.Accepted.{AcceptedSection, AcceptedSelection, maxPhrases
 use Rattle.model.specs.AllMatches.{allMatches}
 use Rattle.model.specs.AllStrings.{Every, RanksUpTo}
 use Rattle.model.specs.Limits.{maxWaiting, workLength}
-use Rattle.model.specs.Parts.{PartAt, newest, partStart, rankAfter}
+use Rattle.model.specs.Parts.{PartAt, partEndedBy, partStart, rankAfter}
 use Rattle.model.specs.Section.{Section, sectionOf, size}
 use Rattle.model.specs.Selection.{codeAt}
 use Rattle.model.specs.Trees.{State, Tree, read}
@@ -53,11 +53,11 @@ pub record WaitsAt (section selection mem : List ℕ) (code : Code) (place rank 
   pub state : State
   pub waits : Waits section selection mem code state place rank lists
 
--- Behind the code: either the list of the part that it ends is too long, or the lists of the trees that then wait lie in memory.
-pub record Behind (s : Section) (new trees : List Tree) (place : ℕ) (mem : List ℕ) (built : Built) : Type 0 where
+-- After the code: either the list of the part that it ends is too long, or the lists of the trees that then wait lie in memory.
+pub record After (s : Section) (new trees : List Tree) (place : ℕ) (mem : List ℕ) (built : Built) : Type 0 where
   pub long : built ≡ TooLong → firstTooLong s new ≡ some place
   pub fine : (m n : ℕ) → built ≡ Made m n → firstTooLong s new ≡ none
   pub stack : (m n : ℕ) → built ≡ Made m n → Stack mem (map (allMatches s) trees)
 
-abbrev pub BehindCode : Section → Code → State → ℕ → List ℕ → Built → Type 0
-BehindCode s code before place mem built = Behind s (newest code (read code before .trees)) (read code before .trees) place mem built
+abbrev pub AfterCode : Section → Code → State → ℕ → List ℕ → Built → Type 0
+AfterCode s code before place mem built = After s (partEndedBy code (read code before .trees)) (read code before .trees) place mem built

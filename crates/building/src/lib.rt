@@ -1,13 +1,8 @@
 // The list of a part of a selection, built code by code in the slots of working memory.
 mod steps; // one code's list, from the lists that wait
 
-use model::Code;
 use model::Refusal;
 use store::Built;
-ghost use mathlib.Core.Path.{_≡_};
-ghost use Prim.Native.Nat.{_≤_};
-ghost use Rattle.model.specs.Limits.{maxCodes};
-ghost use Rattle.model.specs.Waiting.{listsBehind};
 ghost use Rattle.model.specs.Section.{sectionOf};
 ghost use Rattle.building.specs.State.{Buildable};
 ghost use Rattle.building.specs.PartList.{PartList};
@@ -18,20 +13,6 @@ pub enum Part {
     Built,
     // refusal 9: the list of the code at its place, the first such code, has over 256 matches or 512 strings
     Refused(Refusal),
-}
-
-// The lists that wait behind a code.
-fn lists_behind(code: Code, lists: usize) -> usize
-    requires { ⌜ lists ≤ maxCodes ⌝ }
-    ensures { λ r. ⌜ r ≡ listsBehind code lists ⌝ }
-{
-    match code {
-        Code::Word(_) => lists,
-        Code::Phrase(_) => lists + 1,
-        Code::Combine(_) => if 0 < lists { lists - 1 } else { 0 },
-        Code::Not => lists,
-        Code::Filter(_) => lists,
-    }
 }
 
 // "it builds that code's whole part by the rules above, left to right": the codes at the places lo + 1 to hi, the first phrase among them with the given
@@ -59,8 +40,8 @@ pub fn build(
         let Built::Made { .. } = built else {
             return Part::Refused(Refusal { number: 9, place });
         };
-        lists = lists_behind(code, lists);
-        next += selection::parts::count_phrase(code);
+        lists = selection::waiting::lists_after(code, lists);
+        next += codes::phrases_ended(code);
     }
     Part::Built
 }

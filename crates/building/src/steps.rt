@@ -18,7 +18,7 @@ ghost use Rattle.store.specs.Outcome.{Outcome};
 ghost use Rattle.store.specs.Places.{Under};
 ghost use Rattle.store.specs.Slot.{SlotAt};
 ghost use Rattle.window.specs.Inside.{WindowSize};
-ghost use Rattle.building.specs.State.{BehindCode, WaitsAt};
+ghost use Rattle.building.specs.State.{AfterCode, WaitsAt};
 ghost use Rattle.building.specs.Steps.{Added, Fresh, NoneTaken, OneTaken, TwoTaken};
 
 // Copies a list that was built in the slot for that down to `at`, unless it is too long.
@@ -33,7 +33,7 @@ fn settle(mem: &mut [u32], built: Built, at: usize) -> Built
     built
 }
 
-// A phrase's list, behind those that wait.
+// A phrase's list, after those that wait.
 fn build_phrase(section: &[u32], words: &[u32], rank: u32, mem: &mut [u32], lists: usize) -> Built
     requires { ⌜ AcceptedSection (now section) ⌝ }
     requires { ⌜ length (now words) ≤ maxWaiting ⌝ }
@@ -139,7 +139,7 @@ pub fn build_code(
     requires { ⌜ WaitsAt (now section) (now selection) (now mem) code place rank lists ⌝ }
     ensures { λ r.
         ⌜ ((w : WaitsAt (now (section .entry)) (now (selection .entry)) (now (mem .entry)) code place rank lists)
-        → BehindCode (sectionOf (now (section .entry))) code (w .state) place (now (mem .exit)) r) ⌝ }
+        → AfterCode (sectionOf (now (section .entry))) code (w .state) place (now (mem .exit)) r) ⌝ }
 {
     match code {
         Code::Word(_) => Built::Made {

@@ -6,6 +6,8 @@ use model::Filter;
 use model::Pair;
 use model::RADIX;
 ghost use mathlib.Core.Path.{_≡_};
+ghost use Rattle.model.specs.Kinds.{arity, isWord};
+ghost use Rattle.model.specs.Parts.{isMildNot, isNotCode, partsEnded, phrasesEnded};
 ghost use Rattle.model.specs.Selection.{codeAt, codeOf, combinationOf, filterOf};
 
 // "2 to 5 combine"
@@ -62,4 +64,80 @@ pub fn code_at(selection: &[u32], place: u32) -> Code
     let kind = lent::number_at(selection, place as usize);
     let operand = lent::second_at(selection, place);
     code_of(kind, operand)
+}
+
+pub fn is_word(code: Code) -> bool
+    ensures { λ r. ⌜ r ≡ isWord code ⌝ }
+{
+    match code {
+        Code::Word(_) => true,
+        Code::Phrase(_) => false,
+        Code::Combine(_) => false,
+        Code::Not => false,
+        Code::Filter(_) => false,
+    }
+}
+
+// How many lists a code takes.
+pub fn lists_taken(code: Code) -> usize
+    ensures { λ r. ⌜ r ≡ arity code ⌝ }
+{
+    match code {
+        Code::Word(_) => 0,
+        Code::Phrase(_) => 0,
+        Code::Combine(_) => 2,
+        Code::Not => 1,
+        Code::Filter(_) => 1,
+    }
+}
+
+// One for every code other than a word.
+pub fn parts_ended(code: Code) -> u32
+    ensures { λ r. ⌜ r ≡ partsEnded code ⌝ }
+{
+    if is_word(code) {
+        return 0;
+    }
+    1
+}
+
+// One for a phrase, none for another code.
+pub fn phrases_ended(code: Code) -> u32
+    ensures { λ r. ⌜ r ≡ phrasesEnded code ⌝ }
+{
+    if is_word(code) {
+        return 0;
+    }
+    if lists_taken(code) != 0 {
+        return 0;
+    }
+    1
+}
+
+pub fn is_not(code: Code) -> bool
+    ensures { λ r. ⌜ r ≡ isNotCode code ⌝ }
+{
+    match code {
+        Code::Word(_) => false,
+        Code::Phrase(_) => false,
+        Code::Combine(_) => false,
+        Code::Not => true,
+        Code::Filter(_) => false,
+    }
+}
+
+pub fn is_mild_not(code: Code) -> bool
+    ensures { λ r. ⌜ r ≡ isMildNot code ⌝ }
+{
+    match code {
+        Code::Word(_) => false,
+        Code::Phrase(_) => false,
+        Code::Combine(pair) => match pair {
+            Pair::Or => false,
+            Pair::And => false,
+            Pair::MildNot => true,
+        },
+        Code::Not => false,
+        Code::Filter(_) => false,
+    }
 }

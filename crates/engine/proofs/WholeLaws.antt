@@ -8,7 +8,7 @@ use lib.ListN.{length}
 use Rattle.model.specs.Accepted.{AcceptedSection, AcceptedSelection}
 use Rattle.model.specs.Checks.{inputRefusal, sectionRefusal, selectionRefusal}
 use Rattle.model.specs.Limits.{workLength}
-use Rattle.model.specs.Parts.{PartAt, spelled, phrasesAll}
+use Rattle.model.specs.Parts.{PartAt, codesOfTrees, phrasesAll}
 use Rattle.model.specs.Section.{size}
 use Rattle.model.specs.Selection.{codeAt, upTo, codesOf}
 use Rattle.model.specs.Trees.{topTree, readAll, fresh, treeOf}
@@ -28,7 +28,7 @@ module _ (section selection : List ℕ) (passes : inputRefusal section selection
 
   -- nothing stands below the whole: it starts before the first code, and its first phrase has rank 1
   pub whole-built : (mem : List ℕ) → workLength ≤ length mem → Buildable section selection mem 0 (size selection) 1
-  unfolding accepted-part spelled phrasesAll
+  unfolding accepted-part codesOfTrees phrasesAll
   whole-built mem room =
       let part = accepted-part selection selection-accepted in
       record {

@@ -13,10 +13,10 @@ use Rattle.model.specs.Limits.{maxWaiting}
 use Rattle.model.specs.Selection.{upTo}
 use Rattle.model.specs.Waiting.{fits}
 use Rattle.model.specs.Trees.{Tree, State, read, readAll, fresh, parts}
-use Rattle.model.specs.Parts.{heads, postfix, phrases, placed, state, spelled, placeAfter, rankAfter}
+use Rattle.model.specs.Parts.{partCount, postfix, phrases, renumbered, state, codesOfTrees, placeAfter, rankAfter}
 use Rattle.model.specs.Parts.{waitingParts, fitsAll, listsAll, wordsAll, wellFormed, partStart, PartAt, stateAt}
 use Rattle.model.proofs.SelectionLaws.{length-upTo, upTo-split, upTo-front}
-use Rattle.model.proofs.TreesLaws.{readAll-append, readAll-snoc, read-part, heads-append, length-parts}
+use Rattle.model.proofs.TreesLaws.{readAll-append, readAll-snoc, read-part, partCount-append, length-parts}
 use Rattle.model.proofs.WaitingLaws.{fitsAll-split, listsAll-few, wordsAll-few, formed, steps}
 use Rattle.model.proofs.PartsLaws.{part-start, part-length, fits-at}
 
@@ -58,7 +58,7 @@ module _ (at : ℕ → Code) (hi lo : ℕ) (w : PartAt at hi) (e : lo ≡ partSt
   abbrev rank : ℕ
   rank = rankAfter (w .below)
 
-  pub part-below : lo ≡ length (spelled (w .below))
+  pub part-below : lo ≡ length (codesOfTrees (w .below))
   part-below = e ∙ part-start at (w .below) (w .tree) hi (w .spells)
 
   part-ends : lo + length (postfix (w .tree)) ≡ hi
@@ -67,27 +67,27 @@ module _ (at : ℕ → Code) (hi lo : ℕ) (w : PartAt at hi) (e : lo ≡ partSt
   pub part-size : hi - lo ≡ length (postfix (w .tree))
   part-size = omega (arith, part-ends)
 
-  -- the part's own codes are those behind lo
+  -- the part's own codes are those after lo
   pub part-codes : upTo (λ i. at (lo + i)) (hi - lo) ≡ postfix (w .tree)
-  unfolding spelled
+  unfolding codesOfTrees
   part-codes =
       sym (drop-at (upTo at lo) (upTo own (hi - lo)) lo (length-upTo at lo)) ∙ ap (drop lo) (sym (upTo-split at lo hi (omega (arith, part-ends))) ∙ w .spells)
-      ∙ drop-at (spelled (w .below)) (postfix (w .tree)) lo (sym part-below)
+      ∙ drop-at (codesOfTrees (w .below)) (postfix (w .tree)) lo (sym part-below)
 
   -- it has as many parts as codes but words
-  pub part-heads : heads (upTo at lo) + length (parts (w .tree)) ≡ heads (upTo at hi)
-  unfolding spelled
-  part-heads =
-      let front-is : upTo at lo ≡ spelled (w .below) = ap (upTo at) part-below ∙ upTo-front at hi (spelled (w .below)) (postfix (w .tree)) (w .spells) in
-      ap₂ (λ (a b : ℕ). a + b) (ap heads front-is) (length-parts (w .tree)) ∙ sym (ap heads (w .spells) ∙ heads-append (spelled (w .below)) (postfix (w .tree)))
+  pub part-count : partCount (upTo at lo) + length (parts (w .tree)) ≡ partCount (upTo at hi)
+  unfolding codesOfTrees
+  part-count =
+      let front-is : upTo at lo ≡ codesOfTrees (w .below) = ap (upTo at) part-below ∙ upTo-front at hi (codesOfTrees (w .below)) (postfix (w .tree)) (w .spells) in
+      ap₂ (λ (a b : ℕ). a + b) (ap partCount front-is) (length-parts (w .tree)) ∙ sym (ap partCount (w .spells) ∙ partCount-append (codesOfTrees (w .below)) (postfix (w .tree)))
 
-  -- behind its last code the part's tree waits alone, with the places and ranks that it has in the whole
+  -- after its last code the part's tree waits alone, with the places and ranks that it has in the whole
   pub built-tree : stateAt at lo (rankAfter (w .below)) (hi - lo) ≡ state (w .tree ∷ []) [] (hi + 1) (rankAfter (w .below) + phrases (w .tree))
   built-tree =
       let p : lo + 1 ≡ placeAfter (w .below) = omega (arith, part-below) in
       let q : lo + 1 + length (postfix (w .tree)) ≡ hi + 1 = omega (arith, part-ends) in
       state-read at lo rank (hi - lo) ∙ ap (λ (l : List Code). readAll l (fresh (lo + 1) rank)) part-codes ∙ read-part (w .tree) [] (lo + 1) rank
-      ∙ ap₂ (λ (t : Tree) (k : ℕ). state (t ∷ []) [] k (rank + phrases (w .tree))) (ap (λ (k : ℕ). placed k rank (w .tree)) p ∙ w .numbered) q
+      ∙ ap₂ (λ (t : Tree) (k : ℕ). state (t ∷ []) [] k (rank + phrases (w .tree))) (ap (λ (k : ℕ). renumbered k rank (w .tree)) p ∙ w .numbered) q
 
   module _ (fine : wellFormed (postfix (w .tree)) ≡ true) where
     alone : wellFormed (upTo own (hi - lo)) ≡ true

@@ -18,7 +18,7 @@ use Rattle.model.specs.Lists.{allOf, anyOf, first, fromTo}
 use Rattle.model.specs.Section.{size, wellSized, sentenceAt, paragraphAt}
 use Rattle.model.specs.Selection.{kindAt, operandAt, codeOf, codeAt, codesOf}
 use Rattle.model.specs.Trees.{Tree, phrase, pair, negation, filter, placeOf, topTree, treeOf, parts}
-use Rattle.model.specs.Parts.{isNotCode, hasWords, postfix, placed, wellFormed, PartAt, spelled, phrasesAll}
+use Rattle.model.specs.Parts.{isNotCode, hasWords, postfix, renumbered, wellFormed, PartAt, codesOfTrees, phrasesAll}
 use Rattle.model.specs.Checks.{refusal, otherwise, Check, tried, wrongSection, faultyIn, faultyAt, faultyPosition, sectionRefusal, wrongSelection, unknownKind}
 use Rattle.model.specs.Checks.{operandFits, wrongOperand, wrongShape, isNot, hasNot, mildOverNot, notUnderMildNot, selectionRefusal}
 use Rattle.model.specs.Accepted.{ReportedOrNot, AcceptedSection, maxPhrases, AcceptedSelection}
@@ -27,7 +27,7 @@ use Rattle.model.proofs.SectionLaws.{WellSized, well-sized}
 use Rattle.model.proofs.TestsLaws.{both-true, both-false, xor-false, cond-none}
 use Rattle.model.proofs.SelectionLaws.{codeOf-cases, length-upTo, all-upTo}
 use Rattle.model.proofs.TreesLaws.{phrases-few, ranks-to}
-use Rattle.model.proofs.WaitingLaws.{break-none, parsed}
+use Rattle.model.proofs.WaitingLaws.{misfit-none, parsed}
 
 -- ---- otherwise, tried: no check refuses where all of them together do not
 
@@ -169,12 +169,12 @@ has-words k o h = codeOf-cases (λ c. hasWords c ≡ true) k o (λ e. refl) some
     some e = both-true (leb 1 o) (leb o maxWaiting) (ap (λ (n : ℕ). operandFits n o) (sym e) ∙ h) .0
 
 -- a selection that passes the rule is its tree
-tree-spelt : (sel : List ℕ) → wellFormed (codesOf sel) ≡ true → (postfix (treeOf sel) ≡ codesOf sel) × (placed 1 1 (treeOf sel) ≡ treeOf sel)
+tree-spelt : (sel : List ℕ) → wellFormed (codesOf sel) ≡ true → (postfix (treeOf sel) ≡ codesOf sel) × (renumbered 1 1 (treeOf sel) ≡ treeOf sel)
 unfolding treeOf topTree
 tree-spelt sel well =
     let P = parsed (codesOf sel) well in
     let is : treeOf sel ≡ P .tree = ap topTree (P .alone) in
-    (ap postfix is ∙ P .spelt, ap (placed 1 1) is ∙ P .numbered ∙ sym is)
+    (ap postfix is ∙ P .spelt, ap (renumbered 1 1) is ∙ P .numbered ∙ sym is)
 
 -- what holds of a selection that is not refused
 pub accepted-selection : (sel : List ℕ) → selectionRefusal sel ≡ none → AcceptedSelection sel
@@ -188,7 +188,7 @@ accepted-selection sel h =
     let size-is = sized-selection sel (three .0) in
     let operands = fitting-operands sel (five .0) in
     let codes = all-upTo (codeAt sel) hasWords (size sel) (λ c l g. has-words (kindAt sel c) (operandAt sel c) (operands c l g)) in
-    let well = break-none (codesOf sel) .0 (six .0) in
+    let well = misfit-none (codesOf sel) .0 (six .0) in
     let tree = tree-spelt sel well in
     let words = ap (allOf hasWords) (tree .0) ∙ codes in
     let half = phrases-few (treeOf sel) words in
@@ -207,5 +207,5 @@ accepted-selection sel h =
 
 -- its tree is the part that ends at its last code
 unfoldable pub accepted-part : (sel : List ℕ) → AcceptedSelection sel → PartAt (codeAt sel) (size sel)
-unfolding spelled codesOf phrasesAll
+unfolding codesOfTrees codesOf phrasesAll
 accepted-part sel a = record { tree = treeOf sel; below = []; spells = sym (a .spelt); numbered = a .numbered }

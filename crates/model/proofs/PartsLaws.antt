@@ -1,5 +1,5 @@
--- Laws of parts. The walk back from a part's last code counts the trees still to be found, so it ends behind the codes below the part; every code
--- but a word ends a part, because behind it some tree waits and no word; and a part's sides are parts too.
+-- Laws of parts. The walk back from a part's last code counts the trees still to be found, so it ends after the codes below the part; every code
+-- but a word ends a part, because after it some tree waits and no word; and a part's sides are parts too.
 use Prim.Native.Nat.{ℕ, zero, suc, _+_, _-_, _≤_, _<_}
 use native.Mathlib.Omega.{arith}
 use mathlib.Core.Path.{_≡_, refl, sym, ap, ap₂, _∙_}
@@ -16,25 +16,33 @@ use Rattle.model.specs.declared.Pair.{Pair}
 use Rattle.model.specs.Lists.{keep, upFrom, fromTo}
 use Rattle.model.specs.Section.{size}
 use Rattle.model.specs.Selection.{kindAt, operandAt, codeOf, codeAt, upTo, codesOf}
+use Rattle.model.specs.Kinds.{isWord, arity}
 use Rattle.model.specs.Waiting.{fits}
 use Rattle.model.specs.Trees.{topTree, Tree, phrase, pair, negation, filter, placeOf, State, readAll, fresh, treeOf, parts}
-use Rattle.model.specs.Parts.{headOf, heads, postfix, phrases, placed, state, spelled, phrasesAll, placeAfter, rankAfter}
-use Rattle.model.specs.Parts.{fitsAll, listsAll, wordsAll, wellFormed, stops, needs, back, partStart, PartAt}
+use Rattle.model.specs.Parts.{partsEnded, partCount, postfix, phrases, renumbered, state, codesOfTrees, phrasesAll, placeAfter, rankAfter}
+use Rattle.model.specs.Parts.{fitsAll, listsAll, wordsAll, wellFormed, stops, treesNeeded, scanBack, partStart, PartAt}
 use Rattle.model.specs.Walk.{ownCount}
-use Rattle.model.proofs.TestsLaws.{false-true}
+use Rattle.model.proofs.TestsLaws.{false-true, positive, cond-le}
 use Rattle.model.proofs.SelectionLaws.{codeOf-cases, upTo-map, length-upTo, upTo-split, upTo-front, Ends, ends}
 use Rattle.model.proofs.TreesLaws.{readAll-append, read-part, place-of, length-parts}
-use Rattle.model.proofs.WaitingLaws.{behind-head, fitsAll-split, fitsAll-cons, listsAll-append, wordsAll-append, formed, steps, part-alone}
+use Rattle.model.proofs.WaitingLaws.{after-part, fitsAll-split, fitsAll-cons, listsAll-append, wordsAll-append, formed, steps, part-alone}
 
--- ---- back
+-- ---- scanBack
+
+pub arity-le : (c : Code) → arity c ≤ 2
+arity-le (Word w) = omega arith
+arity-le (Phrase k) = omega arith
+arity-le (Combine k) = omega arith
+arity-le Not = omega arith
+arity-le (Filtered f) = omega arith
 
 -- a code adds at most one to what is to be found
-pub needs-le : (c : Code) (n : ℕ) → needs c n ≤ n + 1
-needs-le (Word w) n = omega arith
-needs-le (Phrase k) n = omega arith
-needs-le (Combine k) n = omega arith
-needs-le Not n = omega arith
-needs-le (Filtered f) n = omega arith
+pub treesNeeded-le : (c : Code) (n : ℕ) → treesNeeded c n ≤ n + 1
+treesNeeded-le c n = let two = arity-le c in cond-le (isWord c) _ _ _ (omega arith) (omega arith)
+
+-- where a code other than a word does not stop the walk, some tree is to be found
+pub stops-on : (c : Code) (n : ℕ) → isWord c ≡ false → stops c n ≡ false → 1 ≤ n
+stops-on c n w s = positive n (sym (rw w) ∙ s)
 
 -- a tree's last code, and those before it
 unfoldable lastCode : Tree → Code
@@ -64,97 +72,93 @@ stops-last (negation c t) = refl
 stops-last (filter f c t) = refl
 
 module _ (at : ℕ → Code) where
-  pub back-none : (n : ℕ) → back at 0 n ≡ 0
-  unfolding back
-  back-none n = refl
+  pub scanBack-none : (n : ℕ) → scanBack at 0 n ≡ 0
+  unfolding scanBack
+  scanBack-none n = refl
 
   -- the turns of the walk
-  pub back-stop : (i n : ℕ) → 0 < i → stops (at i) n ≡ true → back at i n ≡ i
-  unfolding back
-  back-stop zero n h s = absurd (omega arith)
-  back-stop (suc i) n h s = rw s
+  pub scanBack-stop : (i n : ℕ) → 0 < i → stops (at i) n ≡ true → scanBack at i n ≡ i
+  unfolding scanBack
+  scanBack-stop zero n h s = absurd (omega arith)
+  scanBack-stop (suc i) n h s = rw s
 
-  pub back-on : (i n : ℕ) → 0 < i → stops (at i) n ≡ false → back at i n ≡ back at (i - 1) (needs (at i) n)
-  unfolding back
-  back-on zero n h s = absurd (omega arith)
-  back-on (suc i) n h s = let e : i ≡ suc i - 1 = omega arith in rw s (ap (λ (k : ℕ). back at k (needs (at (suc i)) n)) e)
+  pub scanBack-on : (i n : ℕ) → 0 < i → stops (at i) n ≡ false → scanBack at i n ≡ scanBack at (i - 1) (treesNeeded (at i) n)
+  unfolding scanBack
+  scanBack-on zero n h s = absurd (omega arith)
+  scanBack-on (suc i) n h s = let e : i ≡ suc i - 1 = omega arith in rw s (ap (λ (k : ℕ). scanBack at k (treesNeeded (at (suc i)) n)) e)
 
-  cond-le : (b : Bool) (i j : ℕ) → j ≤ i → cond b (suc i) j ≤ suc i
-  cond-le true i j h = omega arith
-  cond-le false i j h = omega arith
-
-  pub back-le : (i n : ℕ) → back at i n ≤ i
-  unfolding back
-  back-le zero n = omega arith
-  back-le (suc i) n = cond-le (stops (at (suc i)) n) i _ (back-le i (needs (at (suc i)) n))
+  pub scanBack-le : (i n : ℕ) → scanBack at i n ≤ i
+  unfolding scanBack
+  scanBack-le zero n = omega arith
+  scanBack-le (suc i) n = let before = scanBack-le i (treesNeeded (at (suc i)) n) in cond-le (stops (at (suc i)) n) _ _ _ (omega arith) (omega arith)
 
   pub start-le : (hi : ℕ) → partStart at hi ≤ hi
   unfolding partStart
-  start-le hi = back-le hi 1
+  start-le hi = scanBack-le hi 1
 
   -- a row that spells trees ends in the last tree's last code
-  ends-last : (hi : ℕ) (t : Tree) (ts : List Tree) → upTo at hi ≡ spelled (t ∷ ts) → Ends at hi (spelled ts ++ front t) (lastCode t)
-  unfolding spelled
+  ends-last : (hi : ℕ) (t : Tree) (ts : List Tree) → upTo at hi ≡ codesOfTrees (t ∷ ts) → Ends at hi (codesOfTrees ts ++ front t) (lastCode t)
+  unfolding codesOfTrees
   ends-last hi t ts e =
-      let ended = ap (λ (l : List Code). spelled ts ++ l) (front-last t) ∙ sym (append-assoc (spelled ts) (front t) (lastCode t ∷ [])) in
-      ends at hi (spelled ts ++ front t) (lastCode t) (e ∙ ended)
+      let ended = ap (λ (l : List Code). codesOfTrees ts ++ l) (front-last t) ∙ sym (append-assoc (codesOfTrees ts) (front t) (lastCode t ∷ [])) in
+      ends at hi (codesOfTrees ts ++ front t) (lastCode t) (e ∙ ended)
 
   -- one step back
-  on : (hi n m : ℕ) (xs : List Code) (c : Code) → Ends at hi xs c → stops c n ≡ false → needs c n ≡ m → back at hi n ≡ back at (length xs) m
+  on : (hi n m : ℕ) (xs : List Code) (c : Code) → Ends at hi xs c → stops c n ≡ false → treesNeeded c n ≡ m → scanBack at hi n ≡ scanBack at (length xs) m
   on hi n m xs c e s d =
       let one : hi - 1 ≡ length xs = omega (arith, e .hi-is) in
-      back-on hi n (omega (arith, e .hi-is)) (ap (λ (x : Code). stops x n) (e .code) ∙ s) ∙ ap₂ (back at) one (ap (λ (x : Code). needs x n) (e .code) ∙ d)
+      scanBack-on hi n (omega (arith, e .hi-is)) (ap (λ (x : Code). stops x n) (e .code) ∙ s) ∙ ap₂ (scanBack at) one (ap (λ (x : Code). treesNeeded x n) (e .code) ∙ d)
 
-  back-words : (ws : List ℕ) (hi n : ℕ) (rest : List Code) → upTo at hi ≡ rest ++ map Word ws → back at hi n ≡ back at (length rest) n
-  back-words [] hi n rest e = ap (λ (k : ℕ). back at k n) (sym (length-upTo at hi) ∙ ap length (e ∙ append-nil rest))
-  back-words (w ∷ ws) hi n rest e =
+  scanBack-words : (ws : List ℕ) (hi n : ℕ) (rest : List Code) → upTo at hi ≡ rest ++ map Word ws → scanBack at hi n ≡ scanBack at (length rest) n
+  scanBack-words [] hi n rest e = ap (λ (k : ℕ). scanBack at k n) (sym (length-upTo at hi) ∙ ap length (e ∙ append-nil rest))
+  scanBack-words (w ∷ ws) hi n rest e =
       let e' : upTo at hi ≡ rest ++ Word w ∷ [] ++ map Word ws = e ∙ sym (append-snoc rest (Word w) (map Word ws)) in
       let f = upTo-front at hi (rest ++ Word w ∷ []) (map Word ws) e' in
-      back-words ws hi n (rest ++ Word w ∷ []) e' ∙ on _ n n rest (Word w) (ends at _ rest (Word w) f) refl refl
+      scanBack-words ws hi n (rest ++ Word w ∷ []) e' ∙ on _ n n rest (Word w) (ends at _ rest (Word w) f) refl refl
 
   -- a tree is found: one less is to be found before it
-  back-tree : (t : Tree) (hi n : ℕ) (rest : List Code) → upTo at hi ≡ rest ++ postfix t → back at hi (suc n) ≡ back at (length rest) n
+  scanBack-tree : (t : Tree) (hi n : ℕ) (rest : List Code) → upTo at hi ≡ rest ++ postfix t → scanBack at hi (suc n) ≡ scanBack at (length rest) n
   unfolding postfix
-  back-tree (phrase c r ws) hi n rest e =
+  scanBack-tree (phrase c r ws) hi n rest e =
       let f = ends at hi (rest ++ map Word ws) (Phrase (length ws)) (e ∙ sym (append-assoc rest (map Word ws) (Phrase (length ws) ∷ []))) in
-      on hi (suc n) n _ _ f (ne-eqb (suc n) 0 (omega arith)) (omega arith) ∙ back-words ws _ n rest (f .rest)
-  back-tree (pair k c t u) hi n rest e =
+      on hi (suc n) n _ _ f (ne-eqb (suc n) 0 (omega arith)) (omega arith) ∙ scanBack-words ws _ n rest (f .rest)
+  scanBack-tree (pair k c t u) hi n rest e =
       let f = ends at hi (rest ++ postfix t ++ postfix u) (Combine k) (e ∙ simp append-assoc) in
-      on hi (suc n) (suc (suc n)) _ _ f (ne-eqb (suc n) 0 (omega arith)) (omega arith) ∙ back-tree u _ (suc n) (rest ++ postfix t) (f .rest)
-      ∙ back-tree t _ n rest (upTo-front at _ (rest ++ postfix t) (postfix u) (f .rest))
-  back-tree (negation c t) hi n rest e =
+      on hi (suc n) (suc (suc n)) _ _ f (ne-eqb (suc n) 0 (omega arith)) (omega arith) ∙ scanBack-tree u _ (suc n) (rest ++ postfix t) (f .rest)
+      ∙ scanBack-tree t _ n rest (upTo-front at _ (rest ++ postfix t) (postfix u) (f .rest))
+  scanBack-tree (negation c t) hi n rest e =
       let f = ends at hi (rest ++ postfix t) Not (e ∙ sym (append-assoc rest (postfix t) (Not ∷ []))) in
-      on hi (suc n) (suc n) _ _ f (ne-eqb (suc n) 0 (omega arith)) refl ∙ back-tree t _ n rest (f .rest)
-  back-tree (filter g c t) hi n rest e =
+      on hi (suc n) (suc n) _ _ f (ne-eqb (suc n) 0 (omega arith)) (omega arith) ∙ scanBack-tree t _ n rest (f .rest)
+  scanBack-tree (filter g c t) hi n rest e =
       let f = ends at hi (rest ++ postfix t) (Filtered g) (e ∙ sym (append-assoc rest (postfix t) (Filtered g ∷ []))) in
-      on hi (suc n) (suc n) _ _ f (ne-eqb (suc n) 0 (omega arith)) refl ∙ back-tree t _ n rest (f .rest)
+      on hi (suc n) (suc n) _ _ f (ne-eqb (suc n) 0 (omega arith)) (omega arith) ∙ scanBack-tree t _ n rest (f .rest)
 
-  -- with no tree left to find, the walk stops where it is, behind a tree's last code
-  stay : (ts : List Tree) → upTo at (length (spelled ts)) ≡ spelled ts → back at (length (spelled ts)) 0 ≡ length (spelled ts)
-  unfolding spelled
-  stay [] e = back-none 0
-  stay (t ∷ ts) e = let f = ends-last _ t ts e in back-stop _ 0 (omega (arith, f .hi-is)) (ap (λ (x : Code). stops x 0) (f .code) ∙ stops-last t)
+  -- with no tree left to find, the walk stops where it is, after a tree's last code
+  stay : (ts : List Tree) → upTo at (length (codesOfTrees ts)) ≡ codesOfTrees ts → scanBack at (length (codesOfTrees ts)) 0 ≡ length (codesOfTrees ts)
+  unfolding codesOfTrees
+  stay [] e = scanBack-none 0
+  stay (t ∷ ts) e = let f = ends-last _ t ts e in scanBack-stop _ 0 (omega (arith, f .hi-is)) (ap (λ (x : Code). stops x 0) (f .code) ∙ stops-last t)
 
-  -- the walk back from a part's last code ends behind the codes below it
-  pub part-start : (ts : List Tree) (t : Tree) (hi : ℕ) → upTo at hi ≡ spelled (t ∷ ts) → partStart at hi ≡ length (spelled ts)
-  unfolding spelled partStart
-  part-start ts t hi e = back-tree t hi 0 (spelled ts) e ∙ stay ts (upTo-front at hi (spelled ts) (postfix t) e)
+  -- the walk back from a part's last code ends after the codes below it
+  pub part-start : (ts : List Tree) (t : Tree) (hi : ℕ) → upTo at hi ≡ codesOfTrees (t ∷ ts) → partStart at hi ≡ length (codesOfTrees ts)
+  unfolding codesOfTrees partStart
+  part-start ts t hi e = scanBack-tree t hi 0 (codesOfTrees ts) e ∙ stay ts (upTo-front at hi (codesOfTrees ts) (postfix t) e)
 
 -- ---- part-at
 
 -- reading the codes of waiting trees from the start numbers them
-unfoldable placedAll : List Tree → List Tree
-placedAll [] = []
-placedAll (t ∷ ts) = placed (placeAfter ts) (rankAfter ts) t ∷ placedAll ts
+unfoldable renumberedAll : List Tree → List Tree
+renumberedAll [] = []
+renumberedAll (t ∷ ts) = renumbered (placeAfter ts) (rankAfter ts) t ∷ renumberedAll ts
 
-read-spelled : (ts : List Tree) → readAll (spelled ts) (fresh 1 1) ≡ state (placedAll ts) [] (placeAfter ts) (rankAfter ts)
-unfolding spelled readAll placedAll phrasesAll
-read-spelled [] = refl
-read-spelled (t ∷ ts) =
-    let place : placeAfter ts + length (postfix t) ≡ placeAfter (t ∷ ts) = omega (arith, length-append (spelled ts) (postfix t)) in
+read-trees : (ts : List Tree) → readAll (codesOfTrees ts) (fresh 1 1) ≡ state (renumberedAll ts) [] (placeAfter ts) (rankAfter ts)
+unfolding codesOfTrees readAll renumberedAll phrasesAll
+read-trees [] = refl
+read-trees (t ∷ ts) =
+    let place : placeAfter ts + length (postfix t) ≡ placeAfter (t ∷ ts) = omega (arith, length-append (codesOfTrees ts) (postfix t)) in
     let rank : rankAfter ts + phrases t ≡ rankAfter (t ∷ ts) = omega arith in
-    readAll-append (spelled ts) (postfix t) (fresh 1 1) ∙ ap (readAll (postfix t)) (read-spelled ts) ∙ read-part t (placedAll ts) (placeAfter ts) (rankAfter ts)
-    ∙ ap₂ (state (placedAll (t ∷ ts)) []) place rank
+    readAll-append (codesOfTrees ts) (postfix t) (fresh 1 1) ∙ ap (readAll (postfix t)) (read-trees ts) ∙ read-part t (renumberedAll ts) (placeAfter ts) (rankAfter ts)
+    ∙ ap₂ (state (renumberedAll (t ∷ ts)) []) place rank
 
 -- The codes before a place fit, and so does the next.
 pub record FitsAt (at : ℕ → Code) (n : ℕ) : Type 0 where
@@ -174,26 +178,26 @@ fits-at at m fine n h =
 -- trees that are read are those that their codes are read into: so they are numbered
 module _ (at : ℕ → Code) (hi : ℕ) where
   part-of : (ts : List Tree) (ws : List ℕ) → readAll (upTo at hi) (fresh 1 1) .trees ≡ ts → length ws ≡ 0 → 1 ≤ length ts
-      → spelled ts ++ map Word ws ≡ upTo at hi → PartAt at hi
-  unfolding placedAll
+      → codesOfTrees ts ++ map Word ws ≡ upTo at hi → PartAt at hi
+  unfolding renumberedAll
   part-of [] ws a c d e = absurd (omega arith)
   part-of (t ∷ ts) (w ∷ ws) a c d e = absurd (omega arith)
   part-of (t ∷ ts) [] a c d e = record { tree = t; below = ts; spells = allOf; numbered = cc again }
     where
-      allOf : upTo at hi ≡ spelled (t ∷ ts)
-      allOf = sym e ∙ append-nil (spelled (t ∷ ts))
+      allOf : upTo at hi ≡ codesOfTrees (t ∷ ts)
+      allOf = sym e ∙ append-nil (codesOfTrees (t ∷ ts))
 
-      again : placed (placeAfter ts) (rankAfter ts) t ∷ placedAll ts ≡ t ∷ ts
-      again = sym (ap (λ (s : State). s .trees) (read-spelled (t ∷ ts))) ∙ ap (λ (l : List Code). readAll l (fresh 1 1) .trees) (sym allOf) ∙ a
+      again : renumbered (placeAfter ts) (rankAfter ts) t ∷ renumberedAll ts ≡ t ∷ ts
+      again = sym (ap (λ (s : State). s .trees) (read-trees (t ∷ ts))) ∙ ap (λ (l : List Code). readAll l (fresh 1 1) .trees) (sym allOf) ∙ a
 
 -- every code but a word ends a part
-pub part-at : (at : ℕ → Code) (m : ℕ) → wellFormed (upTo at m) ≡ true → (hi : ℕ) → 1 ≤ hi → hi ≤ m → headOf (at hi) ≡ 1 → PartAt at hi
-unfolding upTo listsAll wordsAll spelled
+pub part-at : (at : ℕ → Code) (m : ℕ) → wellFormed (upTo at m) ≡ true → (hi : ℕ) → 1 ≤ hi → hi ≤ m → isWord (at hi) ≡ false → PartAt at hi
+unfolding upTo listsAll wordsAll codesOfTrees
 part-at at m fine zero l h c = absurd (omega arith)
 part-at at m fine (suc n) l h c =
     let f = fits-at at m fine n h in
     let g = steps (upTo at (suc n)) (fresh 1 1) (f .both) in
-    let b = behind-head (at (suc n)) (listsAll (upTo at n) 0) (wordsAll (upTo at n) 0) (f .here) c in
+    let b = after-part (at (suc n)) (listsAll (upTo at n) 0) (wordsAll (upTo at n) 0) (f .here) c in
     let words = g .loose ∙ wordsAll-append (upTo at n) (at (suc n) ∷ []) 0 in
     let lists = g .lists ∙ listsAll-append (upTo at n) (at (suc n) ∷ []) 0 in
     let s = readAll (upTo at (suc n)) (fresh 1 1) in
@@ -201,9 +205,9 @@ part-at at m fine (suc n) l h c =
 
 module _ (at : ℕ → Code) (hi : ℕ) (w : PartAt at hi) where
   -- a part's codes stand above those below it
-  pub part-length : length (spelled (w .below)) + length (postfix (w .tree)) ≡ hi
-  unfolding spelled
-  part-length = sym (length-append (spelled (w .below)) (postfix (w .tree))) ∙ ap length (sym (w .spells)) ∙ length-upTo at hi
+  pub part-length : length (codesOfTrees (w .below)) + length (postfix (w .tree)) ≡ hi
+  unfolding codesOfTrees
+  part-length = sym (length-append (codesOfTrees (w .below)) (postfix (w .tree))) ∙ ap length (sym (w .spells)) ∙ length-upTo at hi
 
   pub part-some : 1 ≤ hi
   part-some = omega (arith, ends-last at hi (w .tree) (w .below) (w .spells) .hi-is)
@@ -214,10 +218,10 @@ module _ (at : ℕ → Code) (hi : ℕ) (w : PartAt at hi) where
 
   -- and is the last that waits when the codes up to it are read
   pub part-read : topTree (readAll (upTo at hi) (fresh 1 1) .trees) ≡ w .tree
-  unfolding topTree placedAll
+  unfolding topTree renumberedAll
   part-read =
       ap (λ (l : List Code). topTree (readAll l (fresh 1 1) .trees)) (w .spells)
-      ∙ ap (λ (s : State). topTree (s .trees)) (read-spelled (w .tree ∷ w .below))
+      ∙ ap (λ (s : State). topTree (s .trees)) (read-trees (w .tree ∷ w .below))
       ∙ w .numbered
 
   -- a part of codes that pass the rule passes it alone
@@ -249,72 +253,72 @@ pub record PhraseAt (at : ℕ → Code) (hi k rank : ℕ) (before : List Code) (
 module _ (at : ℕ → Code) (hi : ℕ) (below : List Tree) where
   -- the tree t is the part that ends at hi, above those below
   record Here (t : Tree) : Type 0 where
-    pub spells : upTo at hi ≡ spelled (t ∷ below)
-    pub numbered : placed (placeAfter below) (rankAfter below) t ≡ t
+    pub spells : upTo at hi ≡ codesOfTrees (t ∷ below)
+    pub numbered : renumbered (placeAfter below) (rankAfter below) t ≡ t
 
   -- the code at a part's place is its last, and the others stand before
   last-is : (t : Tree) → Here t → at hi ≡ lastCode t
   last-is t h = ends-last at hi t below (h .spells) .code
 
-  rest-is : (t : Tree) → Here t → upTo at (hi - 1) ≡ spelled below ++ front t
+  rest-is : (t : Tree) → Here t → upTo at (hi - 1) ≡ codesOfTrees below ++ front t
   rest-is t h =
       let f = ends-last at hi t below (h .spells) in
-      let i : hi - 1 ≡ length (spelled below ++ front t) = omega (arith, f .hi-is) in
+      let i : hi - 1 ≡ length (codesOfTrees below ++ front t) = omega (arith, f .hi-is) in
       ap (upTo at) i ∙ f .rest
 
   place-is : (t : Tree) → Here t → placeOf t ≡ hi
   place-is t h = part-place at hi (record { tree = t; below = below; spells = h .spells; numbered = h .numbered })
 
   pair-of : (t : Tree) → Here t → (k : Pair) (mid : ℕ) → mid ≡ partStart at (hi - 1) → at hi ≡ Combine k → PairAt at hi mid k t
-  unfolding lastCode front spelled placed placeOf phrasesAll
-  pair-of (phrase c r ws) h k mid m e = let z : _≡_ {A = ℕ} 0 1 = cc (last-is (phrase c r ws) h) in absurd (omega arith)
-  pair-of (negation c t) h k mid m e = let z : _≡_ {A = ℕ} 0 1 = cc (last-is (negation c t) h) in absurd (omega arith)
-  pair-of (filter f c t) h k mid m e = let z : _≡_ {A = ℕ} 0 1 = cc (last-is (filter f c t) h) in absurd (omega arith)
+  unfolding lastCode front codesOfTrees renumbered placeOf phrasesAll
+  pair-of (phrase c r ws) h k mid m e = absurd (omega (arith, ap arity (sym e ∙ last-is (phrase c r ws) h)))
+  pair-of (negation c t) h k mid m e = absurd (omega (arith, ap arity (sym e ∙ last-is (negation c t) h)))
+  pair-of (filter f c t) h k mid m e = absurd (omega (arith, ap arity (sym e ∙ last-is (filter f c t) h)))
   pair-of (pair j c t u) h k mid m e =
-      let at-mid : placeAfter below + length (postfix t) ≡ placeAfter (t ∷ below) = omega (arith, length-append (spelled below) (postfix t)) in
+      let at-mid : placeAfter below + length (postfix t) ≡ placeAfter (t ∷ below) = omega (arith, length-append (codesOfTrees below) (postfix t)) in
       let rank-mid : rankAfter below + phrases t ≡ rankAfter (t ∷ below) = omega arith in
-      let numbered : placed (placeAfter below + length (postfix t)) (rankAfter below + phrases t) u ≡ u = cc in
+      let numbered : renumbered (placeAfter below + length (postfix t)) (rankAfter below + phrases t) u ≡ u = cc in
       let right : PartAt at (hi - 1) = record {
         tree = u;
         below = t ∷ below;
-        spells = rest-is (pair j c t u) h ∙ sym (append-assoc (spelled below) (postfix t) (postfix u));
-        numbered = ap₂ (λ (x y : ℕ). placed x y u) (sym at-mid) (sym rank-mid) ∙ numbered;
+        spells = rest-is (pair j c t u) h ∙ sym (append-assoc (codesOfTrees below) (postfix t) (postfix u));
+        numbered = ap₂ (λ (x y : ℕ). renumbered x y u) (sym at-mid) (sym rank-mid) ∙ numbered;
       } in
-      let mid-is : mid ≡ length (spelled (t ∷ below)) = m ∙ part-start at (t ∷ below) u (hi - 1) (right .spells) in
+      let mid-is : mid ≡ length (codesOfTrees (t ∷ below)) = m ∙ part-start at (t ∷ below) u (hi - 1) (right .spells) in
       let left : PartAt at mid = record {
         tree = t;
         below = below;
-        spells = ap (upTo at) mid-is ∙ upTo-front at (hi - 1) (spelled (t ∷ below)) (postfix u) (right .spells);
+        spells = ap (upTo at) mid-is ∙ upTo-front at (hi - 1) (codesOfTrees (t ∷ below)) (postfix u) (right .spells);
         numbered = cc;
       } in
       let same : j ≡ k = cc (last-is (pair j c t u) h) in
       record { left = left; right = right; is = ap₂ (λ (i : Pair) (x : ℕ). pair i x t u) same (place-is (pair j c t u) h) }
 
-  wrapped : (t : Tree) → upTo at (hi - 1) ≡ spelled below ++ postfix t → placed (placeAfter below) (rankAfter below) t ≡ t → PartAt at (hi - 1)
-  unfolding spelled
+  wrapped : (t : Tree) → upTo at (hi - 1) ≡ codesOfTrees below ++ postfix t → renumbered (placeAfter below) (rankAfter below) t ≡ t → PartAt at (hi - 1)
+  unfolding codesOfTrees
   wrapped t s n = record { tree = t; below = below; spells = s; numbered = n }
 
   negation-of : (t : Tree) → Here t → at hi ≡ Not → WrapAt at hi (negation hi) t
-  unfolding lastCode front placed placeOf wrapped
-  negation-of (phrase c r ws) h e = let z : _≡_ {A = ℕ} 0 1 = cc (last-is (phrase c r ws) h) in absurd (omega arith)
-  negation-of (pair j c t u) h e = let z : _≡_ {A = ℕ} 0 1 = cc (last-is (pair j c t u) h) in absurd (omega arith)
+  unfolding lastCode front renumbered placeOf wrapped
+  negation-of (phrase c r ws) h e = absurd (omega (arith, ap arity (sym e ∙ last-is (phrase c r ws) h)))
+  negation-of (pair j c t u) h e = absurd (omega (arith, ap arity (sym e ∙ last-is (pair j c t u) h)))
   negation-of (filter f c t) h e = let z : _≡_ {A = ℕ} 0 1 = cc (last-is (filter f c t) h) in absurd (omega arith)
   negation-of (negation c t) h e = record { under = wrapped t (rest-is (negation c t) h) (cc); is = ap (λ (x : ℕ). negation x t) (place-is (negation c t) h) }
 
   filter-of : (t : Tree) → Here t → (f : Filter) → at hi ≡ Filtered f → WrapAt at hi (filter f hi) t
-  unfolding lastCode front placed placeOf wrapped
-  filter-of (phrase c r ws) h f e = let z : _≡_ {A = ℕ} 0 1 = cc (last-is (phrase c r ws) h) in absurd (omega arith)
-  filter-of (pair j c t u) h f e = let z : _≡_ {A = ℕ} 0 1 = cc (last-is (pair j c t u) h) in absurd (omega arith)
+  unfolding lastCode front renumbered placeOf wrapped
+  filter-of (phrase c r ws) h f e = absurd (omega (arith, ap arity (sym e ∙ last-is (phrase c r ws) h)))
+  filter-of (pair j c t u) h f e = absurd (omega (arith, ap arity (sym e ∙ last-is (pair j c t u) h)))
   filter-of (negation c t) h f e = let z : _≡_ {A = ℕ} 0 1 = cc (last-is (negation c t) h) in absurd (omega arith)
   filter-of (filter g c t) h f e =
       let same : g ≡ f = cc (last-is (filter g c t) h) in
       record { under = wrapped t (rest-is (filter g c t) h) (cc); is = ap₂ (λ (i : Filter) (x : ℕ). filter i x t) same (place-is (filter g c t) h) }
 
-  phrase-of : (t : Tree) → Here t → (k : ℕ) → at hi ≡ Phrase k → PhraseAt at hi k (rankAfter below) (spelled below) t
-  unfolding lastCode front placed placeOf
-  phrase-of (pair j c t u) h k e = let z : _≡_ {A = ℕ} 0 1 = cc (last-is (pair j c t u) h) in absurd (omega arith)
-  phrase-of (negation c t) h k e = let z : _≡_ {A = ℕ} 0 1 = cc (last-is (negation c t) h) in absurd (omega arith)
-  phrase-of (filter f c t) h k e = let z : _≡_ {A = ℕ} 0 1 = cc (last-is (filter f c t) h) in absurd (omega arith)
+  phrase-of : (t : Tree) → Here t → (k : ℕ) → at hi ≡ Phrase k → PhraseAt at hi k (rankAfter below) (codesOfTrees below) t
+  unfolding lastCode front renumbered placeOf
+  phrase-of (pair j c t u) h k e = absurd (omega (arith, ap arity (sym e ∙ last-is (pair j c t u) h)))
+  phrase-of (negation c t) h k e = absurd (omega (arith, ap arity (sym e ∙ last-is (negation c t) h)))
+  phrase-of (filter f c t) h k e = absurd (omega (arith, ap arity (sym e ∙ last-is (filter f c t) h)))
   phrase-of (phrase c r ws) h k e =
       let same : r ≡ rankAfter below = cc in
       let is : phrase c r ws ≡ phrase hi (rankAfter below) ws = ap₂ (λ (x y : ℕ). phrase x y ws) (place-is (phrase c r ws) h) same in
@@ -335,35 +339,35 @@ module _ (at : ℕ → Code) (hi : ℕ) (w : PartAt at hi) where
   pub filter-at : (f : Filter) → at hi ≡ Filtered f → WrapAt at hi (filter f hi) (w .tree)
   filter-at = filter-of at hi (w .below) (w .tree) (record { spells = w .spells; numbered = w .numbered })
 
-  pub phrase-at : (k : ℕ) → at hi ≡ Phrase k → PhraseAt at hi k (rankAfter (w .below)) (spelled (w .below)) (w .tree)
+  pub phrase-at : (k : ℕ) → at hi ≡ Phrase k → PhraseAt at hi k (rankAfter (w .below)) (codesOfTrees (w .below)) (w .tree)
   phrase-at = phrase-of at hi (w .below) (w .tree) (record { spells = w .spells; numbered = w .numbered })
 
--- ---- heads, ownCount
+-- ---- partCount, ownCount
 
 -- the codes that count are those of kind 1 and up
-pub head-code : (k o : ℕ) → headOf (codeOf k o) ≡ cond (leb 1 k) 1 0
-head-code k o = codeOf-cases (λ c. headOf c ≡ cond (leb 1 k) 1 0) k o (λ e. rw e) (λ e. rw e) (λ h q. some h) some (λ h f. some h)
+partsEnded-code : (k o : ℕ) → partsEnded (codeOf k o) ≡ cond (leb 1 k) 1 0
+partsEnded-code k o = codeOf-cases (λ c. partsEnded c ≡ cond (leb 1 k) 1 0) k o (λ e. rw e) (λ e. rw e) (λ h q. some h) some (λ h f. some h)
   where
-    some : 1 ≤ k → headOf Not ≡ cond (leb 1 k) 1 0
+    some : 1 ≤ k → _≡_ {A = ℕ} 1 (cond (leb 1 k) 1 0)
     some h = rw (le-leb 1 k h)
 
-heads-keep : (at : ℕ → Code) (q : ℕ → Bool) → ((c : ℕ) → headOf (at c) ≡ cond (q c) 1 0) → (xs : List ℕ) → heads (map at xs) ≡ length (keep q xs)
-unfolding heads keep
-heads-keep at q h [] = refl
-heads-keep at q h (x ∷ xs) = ap₂ (λ (a b : ℕ). a + b) (h x) (heads-keep at q h xs) ∙ add (q x)
+partCount-keep : (at : ℕ → Code) (q : ℕ → Bool) → ((c : ℕ) → partsEnded (at c) ≡ cond (q c) 1 0) → (xs : List ℕ) → partCount (map at xs) ≡ length (keep q xs)
+unfolding partCount keep
+partCount-keep at q h [] = refl
+partCount-keep at q h (x ∷ xs) = ap₂ (λ (a b : ℕ). a + b) (h x) (partCount-keep at q h xs) ∙ add (q x)
   where
     add : (b : Bool) → cond b 1 0 + length (keep q xs) ≡ length (cond b (x ∷ keep q xs) (keep q xs))
     add true = omega arith
     add false = omega arith
 
 -- a selection's own count is that of its codes but the words, and of its tree's parts
-pub heads-codes : (sel : List ℕ) → heads (codesOf sel) ≡ ownCount sel
+pub partCount-codes : (sel : List ℕ) → partCount (codesOf sel) ≡ ownCount sel
 unfolding codesOf ownCount fromTo
-heads-codes sel =
+partCount-codes sel =
     let n = size sel in
     let e : n ≡ n + 1 - 1 = omega arith in
-    ap heads (upTo-map (codeAt sel) n) ∙ heads-keep (codeAt sel) (λ c. leb 1 (kindAt sel c)) (λ c. head-code (kindAt sel c) (operandAt sel c)) (upFrom 1 n)
+    ap partCount (upTo-map (codeAt sel) n) ∙ partCount-keep (codeAt sel) (λ c. leb 1 (kindAt sel c)) (λ c. partsEnded-code (kindAt sel c) (operandAt sel c)) (upFrom 1 n)
     ∙ ap (λ (k : ℕ). length (keep (λ c. leb 1 (kindAt sel c)) (upFrom 1 k))) e
 
 pub parts-own : (sel : List ℕ) → postfix (treeOf sel) ≡ codesOf sel → length (parts (treeOf sel)) ≡ ownCount sel
-parts-own sel spelt = length-parts (treeOf sel) ∙ ap heads spelt ∙ heads-codes sel
+parts-own sel spelt = length-parts (treeOf sel) ∙ ap partCount spelt ∙ partCount-codes sel

@@ -199,7 +199,7 @@ pub record AtMostOne (m : Match) (given : List Match) : Type 0 where
 
 -- ---- join
 
--- every string starts at the least start or behind it ..
+-- every string starts at the least start or after it ..
 pub start-leastStart : (s : Str) (ss : List Str) → AllStrs (λ t. leastStart s ss ≤ t .start) (s ∷ ss)
 unfolding Every leastStart
 start-leastStart s [] = (omega arith, tt)
@@ -217,7 +217,7 @@ unfolding Every leastStart
 leastStart-bound lo s [] a = a .0
 leastStart-bound lo s (t ∷ ts) a = omega (arith, leastStart-bound lo t ts (a .1))
 
--- .. and no lesser number is at or behind every end.
+-- .. and no lesser number is at or after every end.
 pub greatestEnd-bound : (hi : ℕ) (s : Str) (ss : List Str) → AllStrs (λ t. t .end ≤ hi) (s ∷ ss) → greatestEnd s ss ≤ hi
 unfolding Every greatestEnd
 greatestEnd-bound hi s [] a = a .0

@@ -1,5 +1,5 @@
 -- Laws of codes and of rows of codes. A code and its two numbers say the same, as going through the sixteen kinds shows; and a row's first codes
--- are its codes one by one, since a row is cut before or behind any of them.
+-- are its codes one by one, since a row is cut before or after any of them.
 use Prim.Native.Nat.{ℕ, zero, suc, _+_, _-_, _*_, _/_, _%_, _≤_, _<_}
 use native.Mathlib.Nat.{add-zero}
 use native.Mathlib.Omega.{arith}
@@ -9,7 +9,7 @@ use mathlib.Core.List.{List, [], _∷_, _++_, map, map-append, append-assoc, app
 use lib.Dec.{eqb, leb}
 use lib.ListN.{length, take, drop, getD, length-append}
 use lib.Seq.{take-at, take-append-seam, drop-cons, append-snoc, getD-at, getD-append-seam}
-use borrow.Author.Tests.{eqb-true, eqb-false}
+use borrow.Author.Tests.{eqb-true}
 use Rattle.model.specs.declared.Code.{Code}
 use Rattle.model.specs.declared.Code.the-variants.{Word, Phrase, Combine, Not, Filter as Filtered}
 use Rattle.model.specs.declared.Filter.{Filter}
@@ -23,7 +23,7 @@ use Rattle.model.specs.Checks.{operandFits, filterOperandFits}
 use Rattle.model.specs.Parts.{mostOf}
 use Rattle.model.proofs.ListsLaws.{all-append}
 use Rattle.model.proofs.ListsLaws.{upFrom-snoc}
-use Rattle.model.proofs.TestsLaws.{and-join}
+use Rattle.model.proofs.TestsLaws.{and-join, positive}
 
 -- ---- kindOf, operandOf, codeOf
 
@@ -102,10 +102,6 @@ codeOf-cases P k o w p c n f =
     cond-cases P true x y t e = t refl
     cond-cases P false x y t e = e refl
 
-    positive : (k : ℕ) → eqb k 0 ≡ false → 1 ≤ k
-    positive zero z = absurd (eqb-false 0 0 z refl)
-    positive (suc k) z = omega arith
-
 -- ---- upTo
 
 module _ (at : ℕ → Code) where
@@ -123,7 +119,7 @@ module _ (at : ℕ → Code) where
       let e : n + suc k ≡ suc (n + k) = omega arith in
       ap (upTo at) e ∙ ap₂ (λ (l : List Code) (i : ℕ). l ++ at i ∷ []) (upTo-add n k) (sym e) ∙ append-assoc (upTo at n) later (at (n + suc k) ∷ [])
 
-  -- a row cut behind its first n codes
+  -- a row cut after its first n codes
   pub upTo-split : (n m : ℕ) → n ≤ m → upTo at m ≡ upTo at n ++ upTo (λ i. at (n + i)) (m - n)
   upTo-split n m h = let e : m ≡ n + (m - n) = omega arith in ap (upTo at) e ∙ upTo-add n (m - n)
 
@@ -155,7 +151,7 @@ module _ (at : ℕ → Code) where
       let same : getD (upTo at (suc n)) n (Word 0) ≡ c = ap (λ (l : List Code). getD l n (Word 0)) (ap (upTo at) (sym hi-is) ∙ e) ∙ getD-append-seam xs c [] (Word 0) in
       record { hi-is = hi-is; code = ap at hi-is ∙ sym (getD-upTo (suc n) n (omega arith) (Word 0)) ∙ same; rest = upTo-front hi xs (c ∷ []) e }
 
-  -- the codes from one place on: that code, and those behind it
+  -- the codes from one place on: that code, and those after it
   pub drop-upTo : (m i : ℕ) → i < m → drop i (upTo at m) ≡ at (i + 1) ∷ drop (i + 1) (upTo at m)
   drop-upTo m i h =
       let e : suc i ≡ i + 1 = omega arith in

@@ -13,11 +13,12 @@ use Rattle.model.specs.declared.Code.{Code}
 use Rattle.model.specs.declared.Code.the-variants.{Word, Phrase, Combine, Not, Filter as Filtered}
 use Rattle.model.specs.declared.Pair.{Pair}
 use Rattle.model.specs.Lists.{allOf}
+use Rattle.model.specs.Kinds.{isWord}
 use Rattle.model.specs.Trees.{Tree, phrase, pair, negation, filter, placeOf, State, combine, wrap, read, readAll, parts}
 use Rattle.model.specs.AllStrings.{EveryPhrase, RanksUpTo}
-use Rattle.model.specs.Parts.{headOf, heads, hasWords, postfix, phrases, placed, state}
+use Rattle.model.specs.Parts.{partsEnded, partCount, hasWords, postfix, phrases, renumbered, state}
 use Rattle.model.proofs.ListsLaws.{all-split}
-use Rattle.model.proofs.TestsLaws.{both-true}
+use Rattle.model.proofs.TestsLaws.{both-true, cond-le}
 
 -- ---- postfix
 
@@ -52,15 +53,15 @@ read-words (w ∷ ws) ts vs p r =
 
 -- the codes of one tree put that tree, numbered where it stands, on what waits
 pub read-part : (t : Tree) (ts : List Tree) (p r : ℕ)
-    → readAll (postfix t) (state ts [] p r) ≡ state (placed p r t ∷ ts) [] (p + length (postfix t)) (r + phrases t)
-unfolding postfix read placed phrases combine wrap
+    → readAll (postfix t) (state ts [] p r) ≡ state (renumbered p r t ∷ ts) [] (p + length (postfix t)) (r + phrases t)
+unfolding postfix read renumbered phrases combine wrap
 read-part (phrase c s ws) ts p r =
     readAll-snoc (map Word ws) (Phrase (length ws)) (state ts [] p r) ∙ ap (read (Phrase (length ws))) (read-words ws ts [] p r)
     ∙ same-state _ [] (omega (arith, length-phrase c s ws)) refl
 read-part (pair k c t u) ts p r =
     let s = state ts [] p r in
     let left = ap (readAll (postfix u)) (read-part t ts p r) in
-    let sides = readAll-append (postfix t) (postfix u) s ∙ left ∙ read-part u (placed p r t ∷ ts) (p + length (postfix t)) (r + phrases t) in
+    let sides = readAll-append (postfix t) (postfix u) s ∙ left ∙ read-part u (renumbered p r t ∷ ts) (p + length (postfix t)) (r + phrases t) in
     readAll-snoc (postfix t ++ postfix u) (Combine k) s ∙ ap (read (Combine k)) sides ∙ same-state _ [] (omega (arith, length-pair k c t u)) (omega arith)
 read-part (negation c t) ts p r =
     readAll-snoc (postfix t) Not (state ts [] p r) ∙ ap (read Not) (read-part t ts p r) ∙ same-state _ [] (omega (arith, length-append (postfix t) (Not ∷ []))) refl
@@ -68,18 +69,18 @@ read-part (filter f c t) ts p r =
     readAll-snoc (postfix t) (Filtered f) (state ts [] p r) ∙ ap (read (Filtered f)) (read-part t ts p r)
     ∙ same-state _ [] (omega (arith, length-append (postfix t) (Filtered f ∷ []))) refl
 
--- ---- placed
+-- ---- renumbered
 
-pub place-placed : (p r : ℕ) (t : Tree) → placeOf (placed p r t) + 1 ≡ p + length (postfix t)
-unfolding placed placeOf postfix
-place-placed p r (phrase c s ws) = omega (arith, length-phrase c s ws)
-place-placed p r (pair k c t u) = omega (arith, length-pair k c t u)
-place-placed p r (negation c t) = omega (arith, length-append (postfix t) (Not ∷ []))
-place-placed p r (filter f c t) = omega (arith, length-append (postfix t) (Filtered f ∷ []))
+pub place-renumbered : (p r : ℕ) (t : Tree) → placeOf (renumbered p r t) + 1 ≡ p + length (postfix t)
+unfolding renumbered placeOf postfix
+place-renumbered p r (phrase c s ws) = omega (arith, length-phrase c s ws)
+place-renumbered p r (pair k c t u) = omega (arith, length-pair k c t u)
+place-renumbered p r (negation c t) = omega (arith, length-append (postfix t) (Not ∷ []))
+place-renumbered p r (filter f c t) = omega (arith, length-append (postfix t) (Filtered f ∷ []))
 
 -- a tree's own code is its last
-pub place-of : (p r : ℕ) (t : Tree) → placed p r t ≡ t → placeOf t + 1 ≡ p + length (postfix t)
-place-of p r t e = ap (λ (u : Tree). placeOf u + 1) (sym e) ∙ place-placed p r t
+pub place-of : (p r : ℕ) (t : Tree) → renumbered p r t ≡ t → placeOf t + 1 ≡ p + length (postfix t)
+place-of p r t e = ap (λ (u : Tree). placeOf u + 1) (sym e) ∙ place-renumbered p r t
 
 -- ---- ranks
 
@@ -88,19 +89,19 @@ some-word : (c r : ℕ) (ws : List ℕ) → allOf hasWords (postfix (phrase c r 
 unfolding postfix allOf
 some-word c r ws h = leb-true 1 (length ws) (both-true (leb 1 (length ws)) true (all-split hasWords (map Word ws) _ h .1) .0)
 
-ranks-placed : (n p r : ℕ) (t : Tree) → 1 ≤ r → r + phrases t ≤ n + 1 → allOf hasWords (postfix t) ≡ true → RanksUpTo n (placed p r t)
-unfolding placed phrases EveryPhrase postfix
-ranks-placed n p r (phrase c s ws) g h w = record { from-one = g; up-to = omega arith; has-word = some-word c s ws w }
-ranks-placed n p r (pair k c t u) g h w =
+ranks-renumbered : (n p r : ℕ) (t : Tree) → 1 ≤ r → r + phrases t ≤ n + 1 → allOf hasWords (postfix t) ≡ true → RanksUpTo n (renumbered p r t)
+unfolding renumbered phrases EveryPhrase postfix
+ranks-renumbered n p r (phrase c s ws) g h w = record { from-one = g; up-to = omega arith; has-word = some-word c s ws w }
+ranks-renumbered n p r (pair k c t u) g h w =
     let a = all-split hasWords (postfix t ++ postfix u) _ w in
     let b = all-split hasWords (postfix t) (postfix u) (a .0) in
-    (ranks-placed n p r t g (omega arith) (b .0), ranks-placed n _ (r + phrases t) u (omega arith) (omega arith) (b .1))
-ranks-placed n p r (negation c t) g h w = ranks-placed n p r t g h (all-split hasWords (postfix t) _ w .0)
-ranks-placed n p r (filter f c t) g h w = ranks-placed n p r t g h (all-split hasWords (postfix t) _ w .0)
+    (ranks-renumbered n p r t g (omega arith) (b .0), ranks-renumbered n _ (r + phrases t) u (omega arith) (omega arith) (b .1))
+ranks-renumbered n p r (negation c t) g h w = ranks-renumbered n p r t g h (all-split hasWords (postfix t) _ w .0)
+ranks-renumbered n p r (filter f c t) g h w = ranks-renumbered n p r t g h (all-split hasWords (postfix t) _ w .0)
 
 -- ranks run from the first phrase's on
-pub ranks-to : (n p r : ℕ) (t : Tree) → placed p r t ≡ t → 1 ≤ r → r + phrases t ≤ n + 1 → allOf hasWords (postfix t) ≡ true → RanksUpTo n t
-ranks-to n p r t e g h w = rw e at (ranks-placed n p r t g h w)
+pub ranks-to : (n p r : ℕ) (t : Tree) → renumbered p r t ≡ t → 1 ≤ r → r + phrases t ≤ n + 1 → allOf hasWords (postfix t) ≡ true → RanksUpTo n t
+ranks-to n p r t e g h w = rw e at (ranks-renumbered n p r t g h w)
 
 -- ---- phrases
 
@@ -116,36 +117,32 @@ phrases-few (pair k c t u) h =
 phrases-few (negation c t) h = omega (arith, length-append (postfix t) (Not ∷ []), phrases-few t (all-split hasWords (postfix t) _ h .0))
 phrases-few (filter f c t) h = omega (arith, length-append (postfix t) (Filtered f ∷ []), phrases-few t (all-split hasWords (postfix t) _ h .0))
 
--- ---- heads
+-- ---- partCount
 
-pub head-le : (c : Code) → headOf c ≤ 1
-head-le (Word w) = omega arith
-head-le (Phrase k) = omega arith
-head-le (Combine k) = omega arith
-head-le Not = omega arith
-head-le (Filtered f) = omega arith
+pub partsEnded-le : (c : Code) → partsEnded c ≤ 1
+partsEnded-le c = cond-le (isWord c) _ _ _ (omega arith) (omega arith)
 
-pub heads-le : (cs : List Code) → heads cs ≤ length cs
-unfolding heads
-heads-le [] = omega arith
-heads-le (c ∷ cs) = omega (arith, heads-le cs, head-le c)
+pub partCount-le : (cs : List Code) → partCount cs ≤ length cs
+unfolding partCount
+partCount-le [] = omega arith
+partCount-le (c ∷ cs) = omega (arith, partCount-le cs, partsEnded-le c)
 
-pub heads-append : (xs ys : List Code) → heads (xs ++ ys) ≡ heads xs + heads ys
-unfolding heads
-heads-append [] ys = omega arith
-heads-append (x ∷ xs) ys = omega (arith, heads-append xs ys)
+pub partCount-append : (xs ys : List Code) → partCount (xs ++ ys) ≡ partCount xs + partCount ys
+unfolding partCount
+partCount-append [] ys = omega arith
+partCount-append (x ∷ xs) ys = omega (arith, partCount-append xs ys)
 
-heads-words : (ws : List ℕ) → heads (map Word ws) ≡ 0
-unfolding heads
-heads-words [] = refl
-heads-words (w ∷ ws) = omega (arith, heads-words ws)
+partCount-words : (ws : List ℕ) → partCount (map Word ws) ≡ 0
+unfolding partCount
+partCount-words [] = refl
+partCount-words (w ∷ ws) = omega (arith, partCount-words ws)
 
 -- ---- parts
 
 -- a tree has a part for each of its codes but the words
-pub length-parts : (t : Tree) → length (parts t) ≡ heads (postfix t)
-unfolding parts postfix heads
-length-parts (phrase c r ws) = omega (arith, heads-append (map Word ws) (Phrase (length ws) ∷ []), heads-words ws)
-length-parts (pair k c t u) = simp (length-append, heads-append) (omega (arith, length-parts t, length-parts u))
-length-parts (negation c t) = simp (length-append, heads-append) (omega (arith, length-parts t))
-length-parts (filter f c t) = simp (length-append, heads-append) (omega (arith, length-parts t))
+pub length-parts : (t : Tree) → length (parts t) ≡ partCount (postfix t)
+unfolding parts postfix partCount
+length-parts (phrase c r ws) = omega (arith, partCount-append (map Word ws) (Phrase (length ws) ∷ []), partCount-words ws)
+length-parts (pair k c t u) = simp (length-append, partCount-append) (omega (arith, length-parts t, length-parts u))
+length-parts (negation c t) = simp (length-append, partCount-append) (omega (arith, length-parts t))
+length-parts (filter f c t) = simp (length-append, partCount-append) (omega (arith, length-parts t))

@@ -18,10 +18,11 @@ use Rattle.model.specs.declared.Pair.{Pair}
 use Rattle.model.specs.declared.Filter.{Filter}
 use Rattle.model.specs.Limits.{maxWaiting}
 use Rattle.model.specs.Selection.{upTo}
-use Rattle.model.specs.Waiting.{fits, listsBehind, wordsBehind, atRest, breakFrom, firstBreak}
+use Rattle.model.specs.Kinds.{isWord, arity}
+use Rattle.model.specs.Waiting.{fits, listsAfter, wordsAfter, isComplete, firstMisfitFrom, firstMisfit}
 use Rattle.model.specs.Trees.{Tree, phrase, pair, negation, filter, placeOf, State, combine, wrap, read, readAll, fresh, topTree, parts}
-use Rattle.model.specs.Parts.{headOf, postfix, placed, state, spelled, waitingParts, newest, fitsAll, listsAll, wordsAll, wellFormed}
-use Rattle.model.proofs.TestsLaws.{false-true, both-true, and-join}
+use Rattle.model.specs.Parts.{postfix, renumbered, state, codesOfTrees, waitingParts, partEndedBy, fitsAll, listsAll, wordsAll, wellFormed}
+use Rattle.model.proofs.TestsLaws.{false-true, both-true, and-join, cond-le}
 use Rattle.model.proofs.SelectionLaws.{length-upTo, drop-upTo}
 use Rattle.model.proofs.TreesLaws.{read-part}
 
@@ -35,43 +36,29 @@ takes n w p h = let b = both-true (eqb p 0) (leb n w) h in (eqb-true p 0 (b .0),
 phrase-takes : (k w p : ℕ) → (eqb p k && ltb w maxWaiting) ≡ true → (p ≡ k) × (w < maxWaiting)
 phrase-takes k w p h = let b = both-true (eqb p k) (ltb w maxWaiting) h in (eqb-true p k (b .0), ltb-true w maxWaiting (b .1))
 
--- behind a code that is no word some list waits, and no word is loose
-pub behind-head : (c : Code) (w p : ℕ) → fits c w p ≡ true → headOf c ≡ 1 → (1 ≤ listsBehind c w) × (wordsBehind c p ≡ 0)
-behind-head (Word v) w p f h = absurd (omega arith)
-behind-head (Phrase k) w p f h = (omega arith, refl)
-behind-head (Combine k) w p f h = let b = takes 2 w p f in (omega arith, b .0)
-behind-head Not w p f h = let b = takes 1 w p f in (b .1, b .0)
-behind-head (Filtered g) w p f h = let b = takes 1 w p f in (b .1, b .0)
+-- A code that fits finds the lists that it takes, and leaves no more lists and words waiting than may.
+pub record Fit (c : Code) (w p : ℕ) : Type 0 where
+  pub finds : arity c ≤ w
+  pub lists-few : w ≤ maxWaiting → listsAfter c w ≤ maxWaiting
+  pub words-few : wordsAfter c p ≤ maxWaiting
 
--- at most as many lists and words wait as may
-lists-few : (c : Code) (w p : ℕ) → fits c w p ≡ true → w ≤ maxWaiting → listsBehind c w ≤ maxWaiting
-lists-few (Word v) w p f h = h
-lists-few (Phrase k) w p f h = omega (arith, phrase-takes k w p f)
-lists-few (Combine k) w p f h = omega arith
-lists-few Not w p f h = h
-lists-few (Filtered g) w p f h = h
+pub fit-of : (c : Code) (w p : ℕ) → fits c w p ≡ true → Fit c w p
+fit-of (Word v) w p f = record { finds = omega arith; lists-few = λ h. h; words-few = omega (arith, ltb-true p maxWaiting f) }
+fit-of (Phrase k) w p f = record { finds = omega arith; lists-few = λ h. omega (arith, phrase-takes k w p f); words-few = omega arith }
+fit-of (Combine k) w p f = record { finds = takes 2 w p f .1; lists-few = λ h. omega arith; words-few = omega arith }
+fit-of Not w p f = record { finds = takes 1 w p f .1; lists-few = λ h. omega arith; words-few = omega arith }
+fit-of (Filtered g) w p f = record { finds = takes 1 w p f .1; lists-few = λ h. omega arith; words-few = omega arith }
 
-words-few : (c : Code) (w p : ℕ) → fits c w p ≡ true → p ≤ maxWaiting → wordsBehind c p ≤ maxWaiting
-words-few (Word v) w p f h = omega (arith, ltb-true p maxWaiting f)
-words-few (Phrase k) w p f h = omega arith
-words-few (Combine k) w p f h = h
-words-few Not w p f h = h
-words-few (Filtered g) w p f h = h
+-- after a code that is no word some list waits, and no word is loose
+pub after-part : (c : Code) (w p : ℕ) → fits c w p ≡ true → isWord c ≡ false → (1 ≤ listsAfter c w) × (wordsAfter c p ≡ 0)
+after-part c w p f h = let finds = fit-of c w p f .finds in (rw h (omega arith), rw h)
 
 -- a code adds at most one
-pub lists-le : (c : Code) (w : ℕ) → listsBehind c w ≤ w + 1
-lists-le (Word v) w = omega arith
-lists-le (Phrase k) w = omega arith
-lists-le (Combine k) w = omega arith
-lists-le Not w = omega arith
-lists-le (Filtered f) w = omega arith
+pub lists-le : (c : Code) (w : ℕ) → listsAfter c w ≤ w + 1
+lists-le c w = cond-le (isWord c) _ _ _ (omega arith) (omega arith)
 
-pub words-le : (c : Code) (p : ℕ) → wordsBehind c p ≤ p + 1
-words-le (Word v) p = omega arith
-words-le (Phrase k) p = omega arith
-words-le (Combine k) p = omega arith
-words-le Not p = omega arith
-words-le (Filtered f) p = omega arith
+pub words-le : (c : Code) (p : ℕ) → wordsAfter c p ≤ p + 1
+words-le c p = cond-le (isWord c) _ _ _ (omega arith) (omega arith)
 
 -- ---- fitsAll, listsAll, wordsAll
 
@@ -79,37 +66,37 @@ pub fitsAll-append : (xs ys : List Code) (w p : ℕ) → fitsAll (xs ++ ys) w p 
 unfolding fitsAll listsAll wordsAll
 fitsAll-append [] ys w p = refl
 fitsAll-append (x ∷ xs) ys w p =
-    let v = listsBehind x w in
-    let q = wordsBehind x p in
+    let v = listsAfter x w in
+    let q = wordsAfter x p in
     ap (λ (b : Bool). fits x w p && b) (fitsAll-append xs ys v q) ∙ sym (and-assoc (fits x w p) (fitsAll xs v q) (fitsAll ys (listsAll xs v) (wordsAll xs q)))
 
 pub listsAll-append : (xs ys : List Code) (w : ℕ) → listsAll (xs ++ ys) w ≡ listsAll ys (listsAll xs w)
 unfolding listsAll
 listsAll-append [] ys w = refl
-listsAll-append (x ∷ xs) ys w = listsAll-append xs ys (listsBehind x w)
+listsAll-append (x ∷ xs) ys w = listsAll-append xs ys (listsAfter x w)
 
 pub wordsAll-append : (xs ys : List Code) (p : ℕ) → wordsAll (xs ++ ys) p ≡ wordsAll ys (wordsAll xs p)
 unfolding wordsAll
 wordsAll-append [] ys p = refl
-wordsAll-append (x ∷ xs) ys p = wordsAll-append xs ys (wordsBehind x p)
+wordsAll-append (x ∷ xs) ys p = wordsAll-append xs ys (wordsAfter x p)
 
 -- codes that fit: the first of them do, and then the others
 pub fitsAll-split : (xs ys : List Code) (w p : ℕ) → fitsAll (xs ++ ys) w p ≡ true → (fitsAll xs w p ≡ true) × (fitsAll ys (listsAll xs w) (wordsAll xs p) ≡ true)
 fitsAll-split xs ys w p h = both-true (fitsAll xs w p) (fitsAll ys (listsAll xs w) (wordsAll xs p)) (sym (fitsAll-append xs ys w p) ∙ h)
 
-pub fitsAll-cons : (c : Code) (cs : List Code) (w p : ℕ) → fitsAll (c ∷ cs) w p ≡ true → (fits c w p ≡ true) × (fitsAll cs (listsBehind c w) (wordsBehind c p) ≡ true)
+pub fitsAll-cons : (c : Code) (cs : List Code) (w p : ℕ) → fitsAll (c ∷ cs) w p ≡ true → (fits c w p ≡ true) × (fitsAll cs (listsAfter c w) (wordsAfter c p) ≡ true)
 unfolding fitsAll
-fitsAll-cons c cs w p h = both-true (fits c w p) (fitsAll cs (listsBehind c w) (wordsBehind c p)) h
+fitsAll-cons c cs w p h = both-true (fits c w p) (fitsAll cs (listsAfter c w) (wordsAfter c p)) h
 
 pub listsAll-few : (cs : List Code) (w p : ℕ) → fitsAll cs w p ≡ true → w ≤ maxWaiting → listsAll cs w ≤ maxWaiting
 unfolding listsAll
 listsAll-few [] w p f h = h
-listsAll-few (c ∷ cs) w p f h = let b = fitsAll-cons c cs w p f in listsAll-few cs (listsBehind c w) (wordsBehind c p) (b .1) (lists-few c w p (b .0) h)
+listsAll-few (c ∷ cs) w p f h = let b = fitsAll-cons c cs w p f in listsAll-few cs (listsAfter c w) (wordsAfter c p) (b .1) (fit-of c w p (b .0) .lists-few h)
 
 pub wordsAll-few : (cs : List Code) (w p : ℕ) → fitsAll cs w p ≡ true → p ≤ maxWaiting → wordsAll cs p ≤ maxWaiting
 unfolding wordsAll
 wordsAll-few [] w p f h = h
-wordsAll-few (c ∷ cs) w p f h = let b = fitsAll-cons c cs w p f in wordsAll-few cs (listsBehind c w) (wordsBehind c p) (b .1) (words-few c w p (b .0) h)
+wordsAll-few (c ∷ cs) w p f h = let b = fitsAll-cons c cs w p f in wordsAll-few cs (listsAfter c w) (wordsAfter c p) (b .1) (fit-of c w p (b .0) .words-few)
 
 -- ---- wellFormed
 
@@ -122,7 +109,7 @@ pub record Formed (cs : List Code) : Type 0 where
 pub formed : (cs : List Code) → wellFormed cs ≡ true → Formed cs
 unfolding wellFormed
 formed cs h =
-    let a = both-true (fitsAll cs 0 0) (atRest (listsAll cs 0) (wordsAll cs 0)) h in
+    let a = both-true (fitsAll cs 0 0) (isComplete (listsAll cs 0) (wordsAll cs 0)) h in
     let b = both-true (eqb (listsAll cs 0) 1) (eqb (wordsAll cs 0) 0) (a .1) in
     record { fit = a .0; one = eqb-true (listsAll cs 0) 1 (b .0); loose = eqb-true (wordsAll cs 0) 0 (b .1) }
 
@@ -141,14 +128,14 @@ unfolding isNone
 cond-none true later c = refl
 cond-none false later c = refl
 
-breakFrom-none : (c : ℕ) (cs : List Code) (w p : ℕ) → isNone (breakFrom c cs w p) ≡ (fitsAll cs w p && atRest (listsAll cs w) (wordsAll cs p))
-unfolding breakFrom fitsAll listsAll wordsAll isNone
-breakFrom-none c [] w p = cond-none (atRest w p) none c ∙ and-true (atRest w p)
-breakFrom-none c (x ∷ xs) w p =
-    let v = listsBehind x w in
-    let q = wordsBehind x p in
-    cond-none (fits x w p) (breakFrom (c + 1) xs v q) (c + 1) ∙ ap (λ (b : Bool). fits x w p && b) (breakFrom-none (c + 1) xs v q)
-    ∙ sym (and-assoc (fits x w p) (fitsAll xs v q) (atRest (listsAll xs v) (wordsAll xs q)))
+firstMisfitFrom-none : (c : ℕ) (cs : List Code) (w p : ℕ) → isNone (firstMisfitFrom c cs w p) ≡ (fitsAll cs w p && isComplete (listsAll cs w) (wordsAll cs p))
+unfolding firstMisfitFrom fitsAll listsAll wordsAll isNone
+firstMisfitFrom-none c [] w p = cond-none (isComplete w p) none c ∙ and-true (isComplete w p)
+firstMisfitFrom-none c (x ∷ xs) w p =
+    let v = listsAfter x w in
+    let q = wordsAfter x p in
+    cond-none (fits x w p) (firstMisfitFrom (c + 1) xs v q) (c + 1) ∙ ap (λ (b : Bool). fits x w p && b) (firstMisfitFrom-none (c + 1) xs v q)
+    ∙ sym (and-assoc (fits x w p) (fitsAll xs v q) (isComplete (listsAll xs v) (wordsAll xs q)))
 
 is-none : (o : Option ℕ) → isNone o ≡ true → o ≡ none
 unfolding isNone
@@ -156,53 +143,53 @@ is-none none h = refl
 is-none (some c) h = false-true h
 
 -- no code breaks the rule just where the whole rule holds
-pub break-none : (cs : List Code) → (firstBreak cs ≡ none) ↔ (wellFormed cs ≡ true)
+pub misfit-none : (cs : List Code) → (firstMisfit cs ≡ none) ↔ (wellFormed cs ≡ true)
 unfolding wellFormed isNone
-break-none cs = (λ h. sym (breakFrom-none 0 cs 0 0) ∙ ap isNone h, λ h. is-none (firstBreak cs) (breakFrom-none 0 cs 0 0 ∙ h))
+misfit-none cs = (λ h. sym (firstMisfitFrom-none 0 cs 0 0) ∙ ap isNone h, λ h. is-none (firstMisfit cs) (firstMisfitFrom-none 0 cs 0 0 ∙ h))
 
--- the search for the first break, behind i codes of a row of m
+-- the search for the first break, after i codes of a row of m
 module _ (at : ℕ → Code) (m : ℕ) where
-  pub break-here : (i w p : ℕ) → i < m → fits (at (i + 1)) w p ≡ false → breakFrom i (drop i (upTo at m)) w p ≡ some (i + 1)
-  unfolding breakFrom
-  break-here i w p h f = rw (drop-upTo at m i h) (rw f)
+  pub misfit-here : (i w p : ℕ) → i < m → fits (at (i + 1)) w p ≡ false → firstMisfitFrom i (drop i (upTo at m)) w p ≡ some (i + 1)
+  unfolding firstMisfitFrom
+  misfit-here i w p h f = rw (drop-upTo at m i h) (rw f)
 
-  pub break-on : (i w p : ℕ) → i < m → fits (at (i + 1)) w p ≡ true
-      → breakFrom i (drop i (upTo at m)) w p ≡ breakFrom (i + 1) (drop (i + 1) (upTo at m)) (listsBehind (at (i + 1)) w) (wordsBehind (at (i + 1)) p)
-  unfolding breakFrom
-  break-on i w p h f = rw (drop-upTo at m i h) (rw f)
+  pub misfit-on : (i w p : ℕ) → i < m → fits (at (i + 1)) w p ≡ true
+      → firstMisfitFrom i (drop i (upTo at m)) w p ≡ firstMisfitFrom (i + 1) (drop (i + 1) (upTo at m)) (listsAfter (at (i + 1)) w) (wordsAfter (at (i + 1)) p)
+  unfolding firstMisfitFrom
+  misfit-on i w p h f = rw (drop-upTo at m i h) (rw f)
 
-  pub break-end : (w p : ℕ) → breakFrom m (drop m (upTo at m)) w p ≡ cond (atRest w p) none (some m)
-  unfolding breakFrom
-  break-end w p = rw (drop-of-length-le (upTo at m) {i = m} (omega (arith, length-upTo at m)))
+  pub misfit-end : (w p : ℕ) → firstMisfitFrom m (drop m (upTo at m)) w p ≡ cond (isComplete w p) none (some m)
+  unfolding firstMisfitFrom
+  misfit-end w p = rw (drop-of-length-le (upTo at m) {i = m} (omega (arith, length-upTo at m)))
 
 -- ---- read
 
--- what waits, spelled: the codes of the trees, and the loose words
+-- what waits, as codes: those of the trees, and the loose words
 abbrev pub spells : State → List Code
-spells s = spelled (s .trees) ++ map Word (s .words)
+spells s = codesOfTrees (s .trees) ++ map Word (s .words)
 
--- A code that fits is spelled behind what waits, leaves waiting what the rule counts, and ends at most one part, the newest.
+-- A code that fits stands after the codes of what waits, leaves waiting what the rule counts, and ends at most one part, the newest.
 pub record Step (c : Code) (s : State) : Type 0 where
   pub spelt : spells (read c s) ≡ spells s ++ c ∷ []
-  pub lists : length (read c s .trees) ≡ listsBehind c (length (s .trees))
-  pub loose : length (read c s .words) ≡ wordsBehind c (length (s .words))
-  pub adds : waitingParts (read c s .trees) ≡ waitingParts (s .trees) ++ newest c (read c s .trees)
-  pub placed-last : headOf c ≡ 1 → placeOf (topTree (read c s .trees)) ≡ s .place
+  pub lists : length (read c s .trees) ≡ listsAfter c (length (s .trees))
+  pub loose : length (read c s .words) ≡ wordsAfter c (length (s .words))
+  pub adds : waitingParts (read c s .trees) ≡ waitingParts (s .trees) ++ partEndedBy c (read c s .trees)
+  pub placed-last : isWord c ≡ false → placeOf (topTree (read c s .trees)) ≡ s .place
 
--- by the sort of the code; a code that fits finds the trees that it takes
+-- by what the code takes; a code that fits finds it
 pub step : (c : Code) (ts : List Tree) (ws : List ℕ) (p r : ℕ) → fits c (length ts) (length ws) ≡ true → Step c (state ts ws p r)
-unfolding read combine wrap topTree placeOf parts spelled postfix waitingParts
+unfolding read combine wrap topTree placeOf parts codesOfTrees postfix waitingParts
 step (Word w) ts ws p r h = record {
   spelt = simp (map-append, append-assoc);
   lists = refl;
   loose = length-append ws (w ∷ []);
   adds = sym (append-nil (waitingParts ts));
-  placed-last = λ h. absurd (omega arith);
+  placed-last = λ h. false-true (sym h);
 }
 step (Phrase k) ts ws p r h =
     let e = phrase-takes k (length ts) (length ws) h .0 in
     record {
-      spelt = append-nil _ ∙ ap (λ (n : ℕ). spelled ts ++ (map Word ws ++ Phrase n ∷ [])) e ∙ sym (append-assoc (spelled ts) (map Word ws) (Phrase k ∷ []));
+      spelt = append-nil _ ∙ ap (λ (n : ℕ). codesOfTrees ts ++ (map Word ws ++ Phrase n ∷ [])) e ∙ sym (append-assoc (codesOfTrees ts) (map Word ws) (Phrase k ∷ []));
       lists = omega arith;
       loose = refl;
       adds = refl;
@@ -216,15 +203,15 @@ step (Combine k) (u ∷ t ∷ ts) [] p r h =
 step Not [] ws p r h = absurd (omega (arith, takes 1 0 (length ws) h))
 step Not (t ∷ ts) (w ∷ ws) p r h = absurd (omega (arith, takes 1 (length (t ∷ ts)) (length (w ∷ ws)) h))
 step Not (t ∷ ts) [] p r h =
-    record { spelt = simp (append-nil, append-assoc); lists = refl; loose = refl; adds = simp append-assoc; placed-last = λ h. refl }
+    record { spelt = simp (append-nil, append-assoc); lists = omega arith; loose = refl; adds = simp append-assoc; placed-last = λ h. refl }
 step (Filtered f) [] ws p r h = absurd (omega (arith, takes 1 0 (length ws) h))
 step (Filtered f) (t ∷ ts) (w ∷ ws) p r h = absurd (omega (arith, takes 1 (length (t ∷ ts)) (length (w ∷ ws)) h))
 step (Filtered f) (t ∷ ts) [] p r h =
-    record { spelt = simp (append-nil, append-assoc); lists = refl; loose = refl; adds = simp append-assoc; placed-last = λ h. refl }
+    record { spelt = simp (append-nil, append-assoc); lists = omega arith; loose = refl; adds = simp append-assoc; placed-last = λ h. refl }
 
 -- a code that fits adds one part at the end, or none where it is a word: the parts of a tree are the trees that its codes end in turn
 pub read-parts : (c : Code) (s : State) → fits c (length (s .trees)) (length (s .words)) ≡ true
-    → waitingParts (read c s .trees) ≡ waitingParts (s .trees) ++ newest c (read c s .trees)
+    → waitingParts (read c s .trees) ≡ waitingParts (s .trees) ++ partEndedBy c (read c s .trees)
 read-parts c s h = step c (s .trees) (s .words) (s .place) (s .rank) h .adds
 
 -- ---- readAll
@@ -244,7 +231,7 @@ steps (c ∷ cs) s h =
     let b = fitsAll-cons c cs (length (s .trees)) (length (s .words)) h in
     let a = step c (s .trees) (s .words) (s .place) (s .rank) (b .0) in
     let r = steps cs (read c s) (rw (a .lists, a .loose) (b .1)) in
-    let new = newest c (read c s .trees) in
+    let new = partEndedBy c (read c s .trees) in
     record {
       spelt = r .spelt ∙ ap (λ (x : List Code). x ++ cs) (a .spelt) ∙ append-snoc (spells s) c cs;
       lists = r .lists ∙ ap (listsAll cs) (a .lists);
@@ -253,7 +240,7 @@ steps (c ∷ cs) s h =
       adds = r .adds ∙ ap (λ (l : List Tree). l ++ r .newer) (a .adds) ∙ append-assoc (waitingParts (s .trees)) new (r .newer);
     }
 
--- behind any of the codes as many trees wait as the rule counts, and no more than may
+-- after any of the codes as many trees wait as the rule counts, and no more than may
 pub waiting : (xs ys : List Code) → wellFormed (xs ++ ys) ≡ true → (length (readAll xs (fresh 1 1) .trees) ≡ listsAll xs 0) × (listsAll xs 0 ≤ maxWaiting)
 waiting xs ys h =
     let f = fitsAll-split xs ys 0 0 (formed (xs ++ ys) h .fit) .0 in
@@ -264,7 +251,7 @@ pub record Parsed (cs : List Code) : Type 0 where
   pub tree : Tree
   pub alone : readAll cs (fresh 1 1) .trees ≡ tree ∷ []
   pub spelt : postfix tree ≡ cs
-  pub numbered : placed 1 1 tree ≡ tree
+  pub numbered : renumbered 1 1 tree ≡ tree
 
 one-tree : (ts : List Tree) → length ts ≡ 1 → (t : Tree) × (ts ≡ t ∷ [])
 one-tree [] h = absurd (omega arith)
@@ -276,14 +263,14 @@ no-words [] h = refl
 no-words (w ∷ ws) h = absurd (omega arith)
 
 pub parsed : (cs : List Code) → wellFormed cs ≡ true → Parsed cs
-unfolding spelled
+unfolding codesOfTrees
 parsed cs h =
     let f = formed cs h in
     let s = readAll cs (fresh 1 1) in
     let g = steps cs (fresh 1 1) (f .fit) in
     let one = one-tree (s .trees) (g .lists ∙ f .one) in
     let t = one .0 in
-    let wait = ap₂ (λ (ts : List Tree) (ws : List ℕ). spelled ts ++ map Word ws) (one .1) (no-words (s .words) (g .loose ∙ f .loose)) in
+    let wait = ap₂ (λ (ts : List Tree) (ws : List ℕ). codesOfTrees ts ++ map Word ws) (one .1) (no-words (s .words) (g .loose ∙ f .loose)) in
     let spelt : postfix t ≡ cs = sym (append-nil (postfix t)) ∙ sym wait ∙ g .spelt in
     let again = sym (ap (λ (z : State). z .trees) (read-part t [] 1 1)) ∙ ap (λ (l : List Code). readAll l (fresh 1 1) .trees) spelt ∙ one .1 in
     record { tree = t; alone = one .1; spelt = spelt; numbered = cc again }
@@ -309,26 +296,25 @@ words-fit (v ∷ ws) d e p = ap (λ (b : Bool). ltb p maxWaiting && b) (words-fi
 -- a tree's codes leave one list more, and no loose word
 pub part-lists : (t : Tree) (w : ℕ) → listsAll (postfix t) w ≡ w + 1
 unfolding postfix listsAll
-part-lists (phrase c r ws) w = listsAll-append (map Word ws) _ w ∙ ap (λ (k : ℕ). k + 1) (words-lists ws w)
+part-lists (phrase c r ws) w = listsAll-append (map Word ws) _ w ∙ ap (listsAfter (Phrase (length ws))) (words-lists ws w) ∙ omega arith
 part-lists (pair k c t u) w =
     let sides = listsAll-append (postfix t) (postfix u) w ∙ ap (listsAll (postfix u)) (part-lists t w) ∙ part-lists u (w + 1) in
-    listsAll-append (postfix t ++ postfix u) _ w ∙ ap (λ (n : ℕ). n - 1) sides ∙ omega arith
-part-lists (negation c t) w = listsAll-append (postfix t) _ w ∙ part-lists t w
-part-lists (filter f c t) w = listsAll-append (postfix t) _ w ∙ part-lists t w
+    listsAll-append (postfix t ++ postfix u) _ w ∙ ap (listsAfter (Combine k)) sides ∙ omega arith
+part-lists (negation c t) w = listsAll-append (postfix t) _ w ∙ omega (arith, part-lists t w)
+part-lists (filter f c t) w = listsAll-append (postfix t) _ w ∙ omega (arith, part-lists t w)
 
 pub part-words : (t : Tree) → wordsAll (postfix t) 0 ≡ 0
 unfolding postfix wordsAll
 part-words (phrase c r ws) = wordsAll-append (map Word ws) _ 0
-part-words (pair k c t u) =
-    wordsAll-append (postfix t ++ postfix u) _ 0 ∙ wordsAll-append (postfix t) (postfix u) 0 ∙ ap (wordsAll (postfix u)) (part-words t) ∙ part-words u
-part-words (negation c t) = wordsAll-append (postfix t) _ 0 ∙ part-words t
-part-words (filter f c t) = wordsAll-append (postfix t) _ 0 ∙ part-words t
+part-words (pair k c t u) = wordsAll-append (postfix t ++ postfix u) _ 0
+part-words (negation c t) = wordsAll-append (postfix t) _ 0
+part-words (filter f c t) = wordsAll-append (postfix t) _ 0
 
--- the rule on a tree and what stands behind it
+-- the rule on a tree and what stands after it
 fits-part : (t : Tree) (ys : List Code) (w : ℕ) → fitsAll (postfix t ++ ys) w 0 ≡ (fitsAll (postfix t) w 0 && fitsAll ys (w + 1) 0)
 fits-part t ys w = fitsAll-append (postfix t) ys w 0 ∙ ap₂ (λ (a b : ℕ). fitsAll (postfix t) w 0 && fitsAll ys a b) (part-lists t w) (part-words t)
 
--- a code that fits behind a tree asks nothing more
+-- a code that fits after a tree asks nothing more
 fits-then : (t : Tree) (c : Code) (w : ℕ) → fits c (w + 1) 0 ≡ true → fitsAll (postfix t ++ c ∷ []) w 0 ≡ fitsAll (postfix t) w 0
 unfolding fitsAll
 fits-then t c w h = fits-part t (c ∷ []) w ∙ ap (λ (b : Bool). fitsAll (postfix t) w 0 && (b && true)) h ∙ and-true (fitsAll (postfix t) w 0)
@@ -367,16 +353,16 @@ part-lower (pair k c t u) d e le h =
 part-lower (negation c t) d e le h = fits-negation c t e ∙ part-lower t d e le (sym (fits-negation c t d) ∙ h)
 part-lower (filter f c t) d e le h = fits-filter f c t e ∙ part-lower t d e le (sym (fits-filter f c t d) ∙ h)
 
-spelled-words : (ts : List Tree) → wordsAll (spelled ts) 0 ≡ 0
-unfolding spelled wordsAll
-spelled-words [] = refl
-spelled-words (t ∷ ts) = wordsAll-append (spelled ts) (postfix t) 0 ∙ ap (wordsAll (postfix t)) (spelled-words ts) ∙ part-words t
+words-trees : (ts : List Tree) → wordsAll (codesOfTrees ts) 0 ≡ 0
+unfolding codesOfTrees wordsAll
+words-trees [] = refl
+words-trees (t ∷ ts) = wordsAll-append (codesOfTrees ts) (postfix t) 0 ∙ ap (wordsAll (postfix t)) (words-trees ts) ∙ part-words t
 
 -- a tree of codes that pass the rule passes it alone
-pub part-alone : (ts : List Tree) (t : Tree) (ys : List Code) → wellFormed (spelled (t ∷ ts) ++ ys) ≡ true → wellFormed (postfix t) ≡ true
-unfolding spelled
+pub part-alone : (ts : List Tree) (t : Tree) (ys : List Code) → wellFormed (codesOfTrees (t ∷ ts) ++ ys) ≡ true → wellFormed (postfix t) ≡ true
+unfolding codesOfTrees
 part-alone ts t ys h =
-    let f = fitsAll-split (spelled (t ∷ ts)) ys 0 0 (formed (spelled (t ∷ ts) ++ ys) h .fit) .0 in
-    let g = fitsAll-split (spelled ts) (postfix t) 0 0 f .1 in
-    let above : fitsAll (postfix t) (listsAll (spelled ts) 0) 0 ≡ true = ap (fitsAll (postfix t) (listsAll (spelled ts) 0)) (sym (spelled-words ts)) ∙ g in
-    well-formed (postfix t) (record { fit = part-lower t (listsAll (spelled ts) 0) 0 (omega arith) above; one = part-lists t 0; loose = part-words t })
+    let f = fitsAll-split (codesOfTrees (t ∷ ts)) ys 0 0 (formed (codesOfTrees (t ∷ ts) ++ ys) h .fit) .0 in
+    let g = fitsAll-split (codesOfTrees ts) (postfix t) 0 0 f .1 in
+    let above : fitsAll (postfix t) (listsAll (codesOfTrees ts) 0) 0 ≡ true = ap (fitsAll (postfix t) (listsAll (codesOfTrees ts) 0)) (sym (words-trees ts)) ∙ g in
+    well-formed (postfix t) (record { fit = part-lower t (listsAll (codesOfTrees ts) 0) 0 (omega arith) above; one = part-lists t 0; loose = part-words t })

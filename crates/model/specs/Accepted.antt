@@ -10,7 +10,7 @@ use Rattle.model.specs.AllStrings.{RanksUpTo}
 use Rattle.model.specs.Checks.{operandFits, mildOverNot, inputRefusal}
 use Rattle.model.specs.Limits.{maxTokens, maxCodes, workLength}
 use Rattle.model.specs.Lists.{first}
-use Rattle.model.specs.Parts.{postfix, placed, wellFormed}
+use Rattle.model.specs.Parts.{postfix, renumbered, wellFormed}
 use Rattle.model.specs.Section.{size, sentenceAt, paragraphAt}
 use Rattle.model.specs.Selection.{kindAt, operandAt, codesOf}
 use Rattle.model.specs.Trees.{treeOf, parts}
@@ -45,7 +45,7 @@ pub record AcceptedSelection (selection : List ℕ) : Type 0 where
   pub operands : (c : ℕ) → 1 ≤ c → c ≤ size selection → operandFits (kindAt selection c) (operandAt selection c) ≡ true
   pub well : wellFormed (codesOf selection) ≡ true
   pub spelt : postfix (treeOf selection) ≡ codesOf selection
-  pub numbered : placed 1 1 (treeOf selection) ≡ treeOf selection
+  pub numbered : renumbered 1 1 (treeOf selection) ≡ treeOf selection
   pub ranks : RanksUpTo maxPhrases (treeOf selection)
   pub no-not : first mildOverNot (parts (treeOf selection)) ≡ none
 

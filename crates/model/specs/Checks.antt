@@ -10,7 +10,7 @@ use Rattle.model.specs.Limits.{maxTokens, maxCodes, maxWaiting, maxWindo
 use Rattle.model.specs.Lists.{anyOf, first, fromTo}
 use Rattle.model.specs.Section.{size, wellSized, sentenceAt, paragraphAt}
 use Rattle.model.specs.Selection.{kindAt, operandAt, codesOf}
-use Rattle.model.specs.Waiting.{firstBreak}
+use Rattle.model.specs.Waiting.{firstMisfit}
 use Rattle.model.specs.Trees.{Tree, phrase, pair, negation, filter, placeOf, treeOf, parts}
 
 -- a refusal by number and place
@@ -75,7 +75,7 @@ wrongOperand selection = first (λ c. not (operandFits (kindAt selection c) (ope
 
 -- 6, "first code breaking the waiting rule (m if only the end does)": "shape wrong"
 unfoldable pub wrongShape : List ℕ → Option ℕ
-wrongShape selection = firstBreak (codesOf selection)
+wrongShape selection = firstMisfit (codesOf selection)
 
 -- 7, the first such kind 5: "a not under a mild not"; "No kind 4 may stand in either side of a kind 5."
 abbrev pub isNot : Tree → Bool

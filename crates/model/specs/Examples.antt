@@ -20,7 +20,7 @@ use Rattle.model.specs.Rules.{standFrom, phraseList, noStrings, andList,
 use Rattle.model.specs.Section.{wellSized}
 use Rattle.model.specs.Selection.{upTo, codesOf}
 use Rattle.model.specs.Trees.{placeOf, combine, wrap, read, readAll, topTree, treeOf, parts}
-use Rattle.model.specs.Waiting.{breakFrom}
+use Rattle.model.specs.Waiting.{firstMisfitFrom}
 use Rattle.model.specs.Walk.{firstTooLong, build, walk}
 
 -- What the paper says of a selection.
@@ -65,7 +65,7 @@ quickSays : Quick → Bool → Bool
 quickSays (Answered y n) b = Bool·beq y b
 quickSays (QuickRefused r) b = false
 
--- the listing buffer behind the call, which was all zeros before it
+-- the listing buffer after the call, which was all zeros before it
 buffered : List ℕ → List ℕ → List ℕ
 buffered section selection = listingBuffer section selection workLength (replicate bufferLength 0)
 
@@ -144,7 +144,7 @@ entries =
 
 pub examples-hold : allOf right entries ≡ true
 unfolding eachSame sameStr sameMatch countsMatches countsStrings listingSays quickSays buffered holds right inParagraph select one six emptySection four entries
-    xor allOf anyOf isEmpty keep first allPairs neighbours insertSorted sort upFrom fromTo flatMap wellSized upTo codesOf breakFrom placeOf combine wrap read readAll topTree treeOf parts strings
+    xor allOf anyOf isEmpty keep first allPairs neighbours insertSorted sort upFrom fromTo flatMap wellSized upTo codesOf firstMisfitFrom placeOf combine wrap read readAll topTree treeOf parts strings
     standFrom phraseList andList notList mildNotList leastStart greatestEnd join kept windowEnds window inUnitFor filterList allMatches
     tried wrongSection faultyAt faultyPosition wrongSelection unknownKind filterOperandFits operandFits wrongOperand wrongShape notUnderMildNot sectionRefusal selectionRefusal inputRefusal listingChecks quickChecks
     firstTooLong build walk listingRefusal listingAnswer listingNumbers listingBuffer quickAnswer

@@ -3,6 +3,7 @@ pub mod Limits
 pub mod Lists
 pub mod Section
 pub mod Selection
+pub mod Kinds
 pub mod Waiting
 pub mod Trees
 pub mod Matches

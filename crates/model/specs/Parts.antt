@@ -1,7 +1,7 @@
 -- What laws and contracts say of codes, trees and parts: a tree's codes and numbering, the waiting rule over many codes, and the part that ends
 -- at a place. None of it is part of the meaning.
 use Prim.Native.Nat.{ℕ, zero, suc, _+_, _-_}
-use mathlib.Core.Bool.{Bool, true, false, _&&_, cond}
+use mathlib.Core.Bool.{Bool, true, false, not, _&&_, cond}
 use mathlib.Core.List.{List, [], _∷_, _++_, map}
 use mathlib.Core.Path.{_≡_}
 use lib.Dec.{eqb, leb}
@@ -10,23 +10,25 @@ use Rattle.model.specs.declared.Code.{Code}
 use Rattle.model.specs.declared.Code.the-variants.{Word, Phrase, Combine, Not, Filter as Filtered}
 use Rattle.model.specs.declared.Filter.{Filter}
 use Rattle.model.specs.declared.Filter.the-variants.{Ordered, Window, Distance, SameSentence, SameParagraph, DifferentSentence, DifferentParagraph, AtStart, AtEnd, EntireContent}
+use Rattle.model.specs.declared.Pair.the-variants.{Or, And, MildNot}
 use Rattle.model.specs.Selection.{upTo}
-use Rattle.model.specs.Waiting.{fits, listsBehind, wordsBehind, atRest}
+use Rattle.model.specs.Kinds.{isWord, arity}
+use Rattle.model.specs.Waiting.{fits, listsAfter, wordsAfter, isComplete}
 use Rattle.model.specs.Trees.{Tree, phrase, pair, negation, filter, State, read, fresh, topTree, parts}
 
 -- ---- tests of one code
 
--- 1 for each code but kind 0: it ends a part
-abbrev pub headOf : Code → ℕ
-headOf (Word w) = 0
-headOf (Phrase k) = 1
-headOf (Combine k) = 1
-headOf Not = 1
-headOf (Filtered f) = 1
+-- every code but a word ends a part
+abbrev pub partsEnded : Code → ℕ
+partsEnded c = cond (isWord c) 0 1
 
-unfoldable pub heads : List Code → ℕ
-heads [] = 0
-heads (c ∷ cs) = headOf c + heads cs
+unfoldable pub partCount : List Code → ℕ
+partCount [] = 0
+partCount (c ∷ cs) = partsEnded c + partCount cs
+
+-- of these only a phrase takes no list
+abbrev pub phrasesEnded : Code → ℕ
+phrasesEnded c = cond (isWord c) 0 (cond (eqb (arity c) 0) 1 0)
 
 abbrev pub isNotCode : Code → Bool
 isNotCode (Word w) = false
@@ -34,6 +36,15 @@ isNotCode (Phrase k) = false
 isNotCode (Combine k) = false
 isNotCode Not = true
 isNotCode (Filtered f) = false
+
+abbrev pub isMildNot : Code → Bool
+isMildNot (Word w) = false
+isMildNot (Phrase k) = false
+isMildNot (Combine Or) = false
+isMildNot (Combine And) = false
+isMildNot (Combine MildNot) = true
+isMildNot Not = false
+isMildNot (Filtered f) = false
 
 -- a phrase of at least one word, and every other code
 abbrev pub hasWords : Code → Bool
@@ -79,11 +90,11 @@ phrases (negation c t) = phrases t
 phrases (filter f c t) = phrases t
 
 -- the tree as numbered where its first code has the given place and its first phrase the given rank
-unfoldable pub placed : ℕ → ℕ → Tree → Tree
-placed p r (phrase c s ws) = phrase (p + length ws) r ws
-placed p r (pair k c t u) = pair k (p + length (postfix t) + length (postfix u)) (placed p r t) (placed (p + length (postfix t)) (r + phrases t) u)
-placed p r (negation c t) = negation (p + length (postfix t)) (placed p r t)
-placed p r (filter f c t) = filter f (p + length (postfix t)) (placed p r t)
+unfoldable pub renumbered : ℕ → ℕ → Tree → Tree
+renumbered p r (phrase c s ws) = phrase (p + length ws) r ws
+renumbered p r (pair k c t u) = pair k (p + length (postfix t) + length (postfix u)) (renumbered p r t) (renumbered (p + length (postfix t)) (r + phrases t) u)
+renumbered p r (negation c t) = negation (p + length (postfix t)) (renumbered p r t)
+renumbered p r (filter f c t) = filter f (p + length (postfix t)) (renumbered p r t)
 
 -- ---- trees that wait, the last first
 
@@ -91,17 +102,17 @@ abbrev pub state : List Tree → List ℕ → ℕ → ℕ → State
 state trees words place rank = record { trees = trees; words = words; place = place; rank = rank }
 
 -- the codes of trees that wait
-unfoldable pub spelled : List Tree → List Code
-spelled [] = []
-spelled (t ∷ ts) = spelled ts ++ postfix t
+unfoldable pub codesOfTrees : List Tree → List Code
+codesOfTrees [] = []
+codesOfTrees (t ∷ ts) = codesOfTrees ts ++ postfix t
 
 unfoldable pub phrasesAll : List Tree → ℕ
 phrasesAll [] = 0
 phrasesAll (t ∷ ts) = phrasesAll ts + phrases t
 
--- the place and the rank that come next behind trees that wait
+-- the place and the rank that come next after trees that wait
 abbrev pub placeAfter : List Tree → ℕ
-placeAfter ts = 1 + length (spelled ts)
+placeAfter ts = 1 + length (codesOfTrees ts)
 
 abbrev pub rankAfter : List Tree → ℕ
 rankAfter ts = 1 + phrasesAll ts
@@ -111,69 +122,57 @@ unfoldable pub waitingParts : List Tree → List Tree
 waitingParts [] = []
 waitingParts (t ∷ ts) = waitingParts ts ++ parts t
 
--- the part that a code ends, where the given trees wait behind it
-abbrev pub newest : Code → List Tree → List Tree
-newest (Word w) ts = []
-newest (Phrase k) ts = topTree ts ∷ []
-newest (Combine k) ts = topTree ts ∷ []
-newest Not ts = topTree ts ∷ []
-newest (Filtered f) ts = topTree ts ∷ []
+-- the part that a code ends, where the given trees wait after it
+abbrev pub partEndedBy : Code → List Tree → List Tree
+partEndedBy c ts = cond (isWord c) [] (topTree ts ∷ [])
 
 -- ---- the waiting rule over many codes
 
 -- every code fits where it stands
 unfoldable pub fitsAll : List Code → ℕ → ℕ → Bool
 fitsAll [] w p = true
-fitsAll (c ∷ cs) w p = fits c w p && fitsAll cs (listsBehind c w) (wordsBehind c p)
+fitsAll (c ∷ cs) w p = fits c w p && fitsAll cs (listsAfter c w) (wordsAfter c p)
 
--- the lists and the words that wait behind all of them
+-- the lists and the words that wait after all of them
 unfoldable pub listsAll : List Code → ℕ → ℕ
 listsAll [] w = w
-listsAll (c ∷ cs) w = listsAll cs (listsBehind c w)
+listsAll (c ∷ cs) w = listsAll cs (listsAfter c w)
 
 unfoldable pub wordsAll : List Code → ℕ → ℕ
 wordsAll [] p = p
-wordsAll (c ∷ cs) p = wordsAll cs (wordsBehind c p)
+wordsAll (c ∷ cs) p = wordsAll cs (wordsAfter c p)
 
 -- the whole rule
 unfoldable pub wellFormed : List Code → Bool
-wellFormed codes = fitsAll codes 0 0 && atRest (listsAll codes 0) (wordsAll codes 0)
+wellFormed codes = fitsAll codes 0 0 && isComplete (listsAll codes 0) (wordsAll codes 0)
 
 -- ---- the part that ends at a place
 
--- Walking back, n trees are still to be found. With none left the walk goes on over words, and stops behind the first code that is none.
+-- Walking back, n trees are still to be found. With none left the walk goes on over words, and stops after the first code that is none.
 abbrev pub stops : Code → ℕ → Bool
-stops (Word w) n = false
-stops (Phrase k) n = eqb n 0
-stops (Combine k) n = eqb n 0
-stops Not n = eqb n 0
-stops (Filtered f) n = eqb n 0
+stops c n = not (isWord c) && eqb n 0
 
 -- how many are still to be found before a code
-abbrev pub needs : Code → ℕ → ℕ
-needs (Word w) n = n
-needs (Phrase k) n = n - 1
-needs (Combine k) n = n + 1
-needs Not n = n
-needs (Filtered f) n = n
+abbrev pub treesNeeded : Code → ℕ → ℕ
+treesNeeded c n = cond (isWord c) n (n + arity c - 1)
 
 -- how many codes stand before the trees found, walking back from the place i
-unfoldable pub back : (ℕ → Code) → ℕ → ℕ → ℕ
-back at zero n = zero
-back at (suc i) n = let before = back at i (needs (at (suc i)) n) in cond (stops (at (suc i)) n) (suc i) before
+unfoldable pub scanBack : (ℕ → Code) → ℕ → ℕ → ℕ
+scanBack at zero n = zero
+scanBack at (suc i) n = let before = scanBack at i (treesNeeded (at (suc i)) n) in cond (stops (at (suc i)) n) (suc i) before
 
 -- how many codes stand before the part that ends at the place hi
 unfoldable pub partStart : (ℕ → Code) → ℕ → ℕ
-partStart at hi = back at hi 1
+partStart at hi = scanBack at hi 1
 
 -- The first hi codes spell trees. The last of them is the part that ends at hi, with the places and ranks that it has in the whole.
 pub record PartAt (at : ℕ → Code) (hi : ℕ) : Type 0 where
   pub tree : Tree
   pub below : List Tree
-  pub spells : upTo at hi ≡ spelled (tree ∷ below)
-  pub numbered : placed (placeAfter below) (rankAfter below) tree ≡ tree
+  pub spells : upTo at hi ≡ codesOfTrees (tree ∷ below)
+  pub numbered : renumbered (placeAfter below) (rankAfter below) tree ≡ tree
 
--- what waits behind n codes from the place lo + 1 on, where nothing waited before them
+-- what waits after n codes from the place lo + 1 on, where nothing waited before them
 unfoldable pub stateAt : (ℕ → Code) → ℕ → ℕ → ℕ → State
 stateAt at lo rank zero = fresh (lo + 1) rank
 stateAt at lo rank (suc n) = read (at (lo + suc n)) (stateAt at lo rank n)

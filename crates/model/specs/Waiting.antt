@@ -6,6 +6,7 @@ use mathlib.Core.Option.{Option, some, none}
 use lib.Dec.{leb, ltb, eqb}
 use Rattle.model.specs.declared.Code.{Code}
 use Rattle.model.specs.declared.Code.the-variants.{Word, Phrase, Combine, Not, Filter}
+use Rattle.model.specs.Kinds.{isWord, arity}
 use Rattle.model.specs.Limits.{maxWaiting}
 
 -- "Kind 0 needs p < 8 .. Kind 1 needs p = k and w < 8 .. Other kinds need p = 0; kinds 2, 3 and 5 need w ≥ 2 .., the rest need w ≥ 1."
@@ -16,30 +17,23 @@ fits (Combine k) w p = eqb p 0 && leb 2 w
 fits Not w p = eqb p 0 && leb 1 w
 fits (Filter f) w p = eqb p 0 && leb 1 w
 
--- The lists that wait behind a code: kind 1: ".. w grows by 1"; kinds 2, 3 and 5 ".. take one away".
-abbrev pub listsBehind : Code → ℕ → ℕ
-listsBehind (Word v) w = w
-listsBehind (Phrase k) w = w + 1
-listsBehind (Combine k) w = w - 1
-listsBehind Not w = w
-listsBehind (Filter f) w = w
+-- The lists that wait after a code, the one that it makes in place of those that it takes: kind 1: ".. w grows by 1"; kinds 2, 3 and 5 ".. take one
+-- away".
+abbrev pub listsAfter : Code → ℕ → ℕ
+listsAfter c w = cond (isWord c) w (w + 1 - arity c)
 
--- The words that wait behind a code: kind 0 ".. adds a word"; kind 1: ".. then p = 0".
-abbrev pub wordsBehind : Code → ℕ → ℕ
-wordsBehind (Word v) p = p + 1
-wordsBehind (Phrase k) p = 0
-wordsBehind (Combine k) p = p
-wordsBehind Not p = p
-wordsBehind (Filter f) p = p
+-- The words that wait after a code that fits: kind 0 ".. adds a word"; kind 1: ".. then p = 0".
+abbrev pub wordsAfter : Code → ℕ → ℕ
+wordsAfter c p = cond (isWord c) (p + 1) 0
 
 -- "At the end w = 1 and p = 0."
-abbrev pub atRest : ℕ → ℕ → Bool
-atRest w p = eqb w 1 && eqb p 0
+abbrev pub isComplete : ℕ → ℕ → Bool
+isComplete w p = eqb w 1 && eqb p 0
 
--- "first code breaking the waiting rule (m if only the end does)", for the codes behind the first c
-unfoldable pub breakFrom : ℕ → List Code → ℕ → ℕ → Option ℕ
-breakFrom c [] w p = cond (atRest w p) none (some c)
-breakFrom c (x ∷ xs) w p = let later = breakFrom (c + 1) xs (listsBehind x w) (wordsBehind x p) in cond (fits x w p) later (some (c + 1))
+-- "first code breaking the waiting rule (m if only the end does)", for the codes after the first c
+unfoldable pub firstMisfitFrom : ℕ → List Code → ℕ → ℕ → Option ℕ
+firstMisfitFrom c [] w p = cond (isComplete w p) none (some c)
+firstMisfitFrom c (x ∷ xs) w p = let later = firstMisfitFrom (c + 1) xs (listsAfter x w) (wordsAfter x p) in cond (fits x w p) later (some (c + 1))
 
-abbrev pub firstBreak : List Code → Option ℕ
-firstBreak codes = breakFrom 0 codes 0 0
+abbrev pub firstMisfit : List Code → Option ℕ
+firstMisfit codes = firstMisfitFrom 0 codes 0 0

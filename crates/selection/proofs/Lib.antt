@@ -1,4 +1,4 @@
-pub mod Turns
-pub mod Phrases
-pub mod Unders
-pub mod Checking
+pub mod CodeLoopsLaws
+pub mod PhrasesLaws
+pub mod MildOverNotLaws
+pub mod CheckLaws

@@ -5,7 +5,7 @@ use mathlib.Core.List.{List, [], _∷_}
 use lib.Dec.{leb, ltb}
 use lib.ListN.{length, take, drop}
 use Rattle.model.specs.declared.Code.{Code}
-use Rattle.model.specs.declared.Code.the-variants.{Word, Phrase, Combine, Not, Filter}
+use Rattle.model.specs.Parts.{phrasesEnded}
 use Rattle.model.specs.Section.{size}
 use Rattle.model.specs.Selection.{operandAt}
 
@@ -16,14 +16,7 @@ phraseWords selection c =
     (take (operandAt selection c) (drop (size selection + c - operandAt selection c) selection))
     []
 
-abbrev pub isPhrase : Code → ℕ
-isPhrase (Word w) = 0
-isPhrase (Phrase k) = 1
-isPhrase (Combine k) = 0
-isPhrase Not = 0
-isPhrase (Filter f) = 0
-
 -- how many phrases are among codes; of the codes up to a phrase, it is the phrase's rank
 unfoldable pub phrasesIn : List Code → ℕ
 phrasesIn [] = 0
-phrasesIn (c ∷ cs) = isPhrase c + phrasesIn cs
+phrasesIn (c ∷ cs) = phrasesEnded c + phrasesIn cs

@@ -3,10 +3,8 @@ pub mod parts; // where a part starts, and what stands in it
 pub mod waiting; // the waiting rule: refusal 6
 
 use model::Checked;
-use model::Code;
 use model::Fault;
 use model::MAX_CODES;
-use model::Pair;
 use model::Refusal;
 ghost use mathlib.Core.Bool.{true};
 ghost use mathlib.Core.Path.{_≡_};
@@ -15,23 +13,6 @@ ghost use Rattle.model.specs.Checks.{notUnderMildNot, selectionRefusal};
 ghost use Rattle.model.specs.Parts.{wellFormed};
 ghost use Rattle.model.specs.Section.{size};
 ghost use Rattle.model.specs.Selection.{codesOf};
-ghost use Rattle.selection.specs.PartCodes.{isMildNot};
-
-fn is_mild_not(code: Code) -> bool
-    ensures { λ r. ⌜ r ≡ isMildNot code ⌝ }
-{
-    match code {
-        Code::Word(_) => false,
-        Code::Phrase(_) => false,
-        Code::Combine(pair) => match pair {
-            Pair::Or => false,
-            Pair::And => false,
-            Pair::MildNot => true,
-        },
-        Code::Not => false,
-        Code::Filter(_) => false,
-    }
-}
 
 // Refusal 7: the first mild not with a not in either side.
 fn not_under_mild_not(selection: &[u32]) -> Fault
@@ -43,7 +24,7 @@ fn not_under_mild_not(selection: &[u32]) -> Fault
     while c < m {
         c += 1;
         let code = codes::code_at(selection, c);
-        if is_mild_not(code) {
+        if codes::is_mild_not(code) {
             if parts::has_not(selection, c) {
                 return Fault::At(c);
             }

@@ -1,38 +1,34 @@
 // The part of a code: its code and every code below it.
 use model::Code;
+ghost use mathlib.Core.Bool.{false};
 ghost use mathlib.Core.Path.{_≡_};
 ghost use Prim.Native.Nat.{_<_};
 ghost use Rattle.model.specs.Lists.{anyOf};
-ghost use Rattle.model.specs.Parts.{isNotCode, needs, partStart, stops};
+ghost use Rattle.model.specs.Parts.{isNotCode, partStart, stops, treesNeeded};
 ghost use Rattle.model.specs.Selection.{codeAt, upTo};
 ghost use Rattle.selection.specs.PartCodes.{partCodes};
-ghost use Rattle.selection.specs.Phrases.{isPhrase, phrasesIn, phraseWords};
+ghost use Rattle.selection.specs.Phrases.{phrasesIn, phraseWords};
 
-// Walking back with so many trees to find: does the part start behind this code?
+// Walking back with so many trees to find: does the part start after this code?
 fn stops_at(code: Code, trees: usize) -> bool
     ensures { λ r. ⌜ r ≡ stops code trees ⌝ }
 {
-    match code {
-        Code::Word(_) => false,
-        Code::Phrase(_) => trees == 0,
-        Code::Combine(_) => trees == 0,
-        Code::Not => trees == 0,
-        Code::Filter(_) => trees == 0,
+    if codes::is_word(code) {
+        return false;
     }
+    trees == 0
 }
 
 // The trees still to find before this code.
-fn needed(code: Code, trees: usize) -> usize
+fn trees_needed(code: Code, trees: usize) -> usize
+    requires { ⌜ stops code trees ≡ false ⌝ }
     requires { ⌜ trees < 4294967297 ⌝ }
-    ensures { λ r. ⌜ r ≡ needs code trees ⌝ }
+    ensures { λ r. ⌜ r ≡ treesNeeded code trees ⌝ }
 {
-    match code {
-        Code::Word(_) => trees,
-        Code::Phrase(_) => if 0 < trees { trees - 1 } else { 0 },
-        Code::Combine(_) => trees + 1,
-        Code::Not => trees,
-        Code::Filter(_) => trees,
+    if codes::is_word(code) {
+        return trees;
     }
+    trees + codes::lists_taken(code) - 1
 }
 
 // How many codes stand before the part that ends at a place.
@@ -46,22 +42,10 @@ pub fn part_start(selection: &[u32], place: u32) -> u32
         if stops_at(code, trees) {
             return c;
         }
-        trees = needed(code, trees);
+        trees = trees_needed(code, trees);
         c -= 1;
     }
     0
-}
-
-fn is_not(code: Code) -> bool
-    ensures { λ r. ⌜ r ≡ isNotCode code ⌝ }
-{
-    match code {
-        Code::Word(_) => false,
-        Code::Phrase(_) => false,
-        Code::Combine(_) => false,
-        Code::Not => true,
-        Code::Filter(_) => false,
-    }
 }
 
 // Does a not stand in the part that ends at a place?
@@ -72,25 +56,12 @@ pub fn has_not(selection: &[u32], place: u32) -> bool
     let mut c = place;
     while before < c {
         let code = codes::code_at(selection, c);
-        if is_not(code) {
+        if codes::is_not(code) {
             return true;
         }
         c -= 1;
     }
     false
-}
-
-// One for a phrase, none for another code.
-pub fn count_phrase(code: Code) -> u32
-    ensures { λ r. ⌜ r ≡ isPhrase code ⌝ }
-{
-    match code {
-        Code::Word(_) => 0,
-        Code::Phrase(_) => 1,
-        Code::Combine(_) => 0,
-        Code::Not => 0,
-        Code::Filter(_) => 0,
-    }
 }
 
 // How many phrases are among the codes up to a place: the rank of a phrase that stands there.
@@ -101,7 +72,7 @@ pub fn rank_at(selection: &[u32], place: u32) -> u32
     let mut c: u32 = 0;
     while c < place {
         let code = codes::code_at(selection, c + 1);
-        rank += count_phrase(code);
+        rank += codes::phrases_ended(code);
         c += 1;
     }
     rank

@@ -4,11 +4,12 @@ use model::Fault;
 use model::MAX_WAITING;
 ghost use mathlib.Core.Bool.{_&&_};
 ghost use mathlib.Core.Path.{_≡_};
-ghost use Prim.Native.Nat.{_<_};
+ghost use Prim.Native.Nat.{_<_, _≤_};
 ghost use lib.Dec.{eqb, leb};
 ghost use Rattle.model.specs.Answers.{faultOf};
 ghost use Rattle.model.specs.Checks.{wrongShape};
-ghost use Rattle.model.specs.Waiting.{fits, listsBehind, wordsBehind};
+ghost use Rattle.model.specs.Kinds.{arity};
+ghost use Rattle.model.specs.Waiting.{fits, listsAfter, wordsAfter};
 
 // "Other kinds need p = 0", and so many lists
 fn takes(needed: usize, lists: usize, words: usize) -> bool
@@ -38,32 +39,27 @@ fn code_fits(code: Code, lists: usize, words: usize) -> bool
     }
 }
 
-// The lists that wait behind a code.
-fn lists_behind(code: Code, lists: usize) -> usize
+// The lists that wait after a code that finds those that it takes.
+pub fn lists_after(code: Code, lists: usize) -> usize
+    requires { ⌜ arity code ≤ lists ⌝ }
     requires { ⌜ lists < 4294967296 ⌝ }
-    ensures { λ r. ⌜ r ≡ listsBehind code lists ⌝ }
+    ensures { λ r. ⌜ r ≡ listsAfter code lists ⌝ }
 {
-    match code {
-        Code::Word(_) => lists,
-        Code::Phrase(_) => lists + 1,
-        Code::Combine(_) => if 0 < lists { lists - 1 } else { 0 },
-        Code::Not => lists,
-        Code::Filter(_) => lists,
+    if codes::is_word(code) {
+        return lists;
     }
+    lists + 1 - codes::lists_taken(code)
 }
 
-// The loose words that wait behind a code.
-fn words_behind(code: Code, words: usize) -> usize
+// The loose words that wait after a code.
+fn words_after(code: Code, words: usize) -> usize
     requires { ⌜ words < 4294967296 ⌝ }
-    ensures { λ r. ⌜ r ≡ wordsBehind code words ⌝ }
+    ensures { λ r. ⌜ r ≡ wordsAfter code words ⌝ }
 {
-    match code {
-        Code::Word(_) => words + 1,
-        Code::Phrase(_) => 0,
-        Code::Combine(_) => words,
-        Code::Not => words,
-        Code::Filter(_) => words,
+    if codes::is_word(code) {
+        return words + 1;
     }
+    0
 }
 
 // Refusal 6: the first code breaking the rule, the last code if only the end does.
@@ -79,8 +75,8 @@ pub fn wrong_shape(selection: &[u32]) -> Fault
         if !code_fits(code, lists, words) {
             return Fault::At(c + 1);
         }
-        lists = lists_behind(code, lists);
-        words = words_behind(code, words);
+        lists = lists_after(code, lists);
+        words = words_after(code, words);
         c += 1;
     }
     if lists != 1 {

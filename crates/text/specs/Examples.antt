@@ -15,7 +15,7 @@ use Rattle.model.specs.Rules.{standFrom, phraseList, noStrings, andList, leastS
 use Rattle.model.specs.Section.{wellSized}
 use Rattle.model.specs.Selection.{upTo, codesOf}
 use Rattle.model.specs.Trees.{placeOf, combine, wrap, read, readAll, topTree, treeOf, parts}
-use Rattle.model.specs.Waiting.{breakFrom}
+use Rattle.model.specs.Waiting.{firstMisfitFrom}
 use Rattle.model.specs.Walk.{firstTooLong}
 use Rattle.model.specs.declared.Listing.the-variants.{Refused}
 use Rattle.text.specs.Printed.{bytes, digits, decimal, spanText, queryText, stringText, lineOf, matchText, headText, answerText, listingText}
@@ -85,7 +85,7 @@ entries =
 
 pub examples-hold : allOf right entries ≡ true
 unfolding sameBytes right string one printed wire six selected entries digits decimal spanText queryText stringText lineOf matchText headText answerText listingText numbersOf programText
-    xor allOf anyOf isEmpty keep first allPairs neighbours insertSorted sort upFrom fromTo flatMap wellSized upTo codesOf breakFrom placeOf combine wrap read readAll topTree treeOf parts strings
+    xor allOf anyOf isEmpty keep first allPairs neighbours insertSorted sort upFrom fromTo flatMap wellSized upTo codesOf firstMisfitFrom placeOf combine wrap read readAll topTree treeOf parts strings
     standFrom phraseList andList leastStart greatestEnd join windowEnds window filterList allMatches
     tried wrongSection faultyAt faultyPosition wrongSelection unknownKind filterOperandFits operandFits wrongOperand wrongShape notUnderMildNot sectionRefusal selectionRefusal inputRefusal listingChecks
     firstTooLong listingRefusal listingAnswer

@@ -13,17 +13,17 @@ use Rattle.model.specs.declared.Refusal.{Refusal}
 use Rattle.model.specs.AllMatches.{allMatches}
 use Rattle.model.specs.Checks.{refusal}
 use Rattle.model.specs.Matches.{isYes}
-use Rattle.model.specs.Parts.{headOf, heads, postfix, phrases, partStart, rankAfter, spelled, phrasesAll}
+use Rattle.model.specs.Parts.{partsEnded, partCount, postfix, phrases, partStart, rankAfter, codesOfTrees, phrasesAll}
 use Rattle.model.specs.Section.{sectionOf}
 use Rattle.model.specs.Selection.{codeAt, upTo}
 use Rattle.model.specs.Trees.{Tree, phrase, pair, negation, filter, parts}
 use Rattle.model.specs.Walk.{firstTooLong, build}
-use Rattle.model.proofs.BuildLaws.{part-below, part-heads}
+use Rattle.model.proofs.BuildLaws.{part-below, part-count}
 use Rattle.model.proofs.PartsLaws.{start-le}
 use Rattle.model.proofs.SelectionLaws.{length-upTo, upTo-front}
-use Rattle.model.proofs.TreesLaws.{heads-append}
+use Rattle.model.proofs.TreesLaws.{partCount-append}
 use Rattle.selection.specs.Phrases.{phrasesIn}
-use Rattle.selection.proofs.Phrases.{isPhrase-le, phrasesIn-append}
+use Rattle.selection.proofs.PhrasesLaws.{phrasesEnded-le, phrasesIn-append}
 use Rattle.store.specs.Slot.{SlotAt}
 use Rattle.building.specs.State.{Buildable}
 use Rattle.building.specs.PartList.{PartList}
@@ -31,23 +31,23 @@ use Rattle.building.specs.declared.Part.{Part}
 use Rattle.building.specs.declared.Part.the-variants.{Built, Refused as PartRefused}
 use Rattle.walking.specs.Walkable.{Walkable}
 
--- ---- heads
+-- ---- partCount
 
 -- one code more
-pub heads-more : (at : ℕ → Code) (c base n k : ℕ) (code : Code) → code ≡ at (c + 1) → base + n ≡ heads (upTo at c) → k ≡ headOf code
-    → base + (n + k) ≡ heads (upTo at (c + 1))
-unfolding heads upTo
-heads-more at c base n k code e h i =
+pub partCount-more : (at : ℕ → Code) (c base n k : ℕ) (code : Code) → code ≡ at (c + 1) → base + n ≡ partCount (upTo at c) → k ≡ partsEnded code
+    → base + (n + k) ≡ partCount (upTo at (c + 1))
+unfolding partCount upTo
+partCount-more at c base n k code e h i =
     let one : c + 1 ≡ suc c = omega arith in
-    let last : k ≡ headOf (at (suc c)) = i ∙ ap headOf e ∙ ap (λ (j : ℕ). headOf (at j)) one in
-    sym (ap (λ (j : ℕ). heads (upTo at j)) one ∙ heads-append (upTo at c) (at (suc c) ∷ []) ∙ omega (arith, last, h))
+    let last : k ≡ partsEnded (at (suc c)) = i ∙ ap partsEnded e ∙ ap (λ (j : ℕ). partsEnded (at j)) one in
+    sym (ap (λ (j : ℕ). partCount (upTo at j)) one ∙ partCount-append (upTo at c) (at (suc c) ∷ []) ∙ omega (arith, last, h))
 
 -- ---- phrasesIn
 
 phrases-le : (cs : List Code) → phrasesIn cs ≤ length cs
 unfolding phrasesIn
 phrases-le [] = omega arith
-phrases-le (c ∷ cs) = omega (arith, phrases-le cs, isPhrase-le c)
+phrases-le (c ∷ cs) = omega (arith, phrases-le cs, phrasesEnded-le c)
 
 phrases-words : (ws : List ℕ) → phrasesIn (map Word ws) ≡ 0
 unfolding phrasesIn
@@ -62,10 +62,10 @@ phrases-tree (pair k c t u) =
 phrases-tree (negation c t) = omega (arith, phrasesIn-append (postfix t) (Not ∷ []), phrases-tree t)
 phrases-tree (filter f c t) = omega (arith, phrasesIn-append (postfix t) (Filtered f ∷ []), phrases-tree t)
 
-phrases-spelled : (ts : List Tree) → phrasesIn (spelled ts) ≡ phrasesAll ts
-unfolding spelled phrasesAll phrasesIn
-phrases-spelled [] = refl
-phrases-spelled (t ∷ ts) = omega (arith, phrasesIn-append (spelled ts) (postfix t), phrases-tree t, phrases-spelled ts)
+phrases-trees : (ts : List Tree) → phrasesIn (codesOfTrees ts) ≡ phrasesAll ts
+unfolding codesOfTrees phrasesAll phrasesIn
+phrases-trees [] = refl
+phrases-trees (t ∷ ts) = omega (arith, phrasesIn-append (codesOfTrees ts) (postfix t), phrases-tree t, phrases-trees ts)
 
 -- ---- a part to build
 
@@ -80,12 +80,12 @@ module _ {section sel mem : List ℕ} {hi : ℕ} (w : Walkable section sel mem h
       omega (arith, phrases-le (upTo (codeAt sel) lo), length-upTo (codeAt sel) lo, starts-before)
 
   pub rank-is : phrasesIn (upTo (codeAt sel) (partStart (codeAt sel) hi)) + 1 ≡ rankAfter (w .part .below)
-  unfolding spelled
+  unfolding codesOfTrees
   rank-is =
       let lo = partStart (codeAt sel) hi in
-      let front : upTo (codeAt sel) lo ≡ spelled (w .part .below) =
-      ap (upTo (codeAt sel)) (part-below (codeAt sel) hi lo (w .part) refl) ∙ upTo-front (codeAt sel) hi (spelled (w .part .below)) (postfix (w .part .tree)) (w .part .spells) in
-      omega (arith, ap phrasesIn front, phrases-spelled (w .part .below))
+      let front : upTo (codeAt sel) lo ≡ codesOfTrees (w .part .below) =
+      ap (upTo (codeAt sel)) (part-below (codeAt sel) hi lo (w .part) refl) ∙ upTo-front (codeAt sel) hi (codesOfTrees (w .part .below)) (postfix (w .part .tree)) (w .part .spells) in
+      omega (arith, ap phrasesIn front, phrases-trees (w .part .below))
 
   abbrev pub buildable : {lo rank : ℕ} → lo ≡ partStart (codeAt sel) hi → rank ≡ phrasesIn (upTo (codeAt sel) lo) → Buildable section sel mem lo hi (rank + 1)
   buildable e r = record {
@@ -111,10 +111,10 @@ module _ {section sel mem : List ℕ} {hi : ℕ} (w : Walkable section sel mem h
   pub build-answers : {mem' : List ℕ} {part : Part} {lo n : ℕ} {answer : Bool} → PartList (sectionOf section) (w .part .tree) mem' part → part ≡ Built
       → lo ≡ partStart (codeAt sel) hi
       → ((s : SlotAt mem' 0) → answer ≡ isYes (s .list))
-      → heads (upTo (codeAt sel) lo) + n ≡ heads (upTo (codeAt sel) hi)
+      → partCount (upTo (codeAt sel) lo) + n ≡ partCount (upTo (codeAt sel) hi)
       → Answered answer n ≡ build (sectionOf section) (w .part .tree)
   unfolding build
   build-answers {mem'} {part} {lo} {n} {answer} b e l y h =
       let list = allMatches (sectionOf section) (w .part .tree) in
-      let all : n ≡ length (parts (w .part .tree)) = omega (arith, part-heads (codeAt sel) hi lo (w .part) l) in
+      let all : n ≡ length (parts (w .part .tree)) = omega (arith, part-count (codeAt sel) hi lo (w .part) l) in
       rw (b .fine e, y (record { list = list; slot = b .slot e }), all)

@@ -21,7 +21,7 @@ use Rattle.model.specs.declared.Quick.the-variants.{Answered, Refused}
 use Rattle.model.specs.Accepted.{AcceptedSelection}
 use Rattle.model.specs.Limits.{maxCodes, workLength}
 use Rattle.model.specs.Lists.{isEmpty}
-use Rattle.model.specs.Parts.{PartAt, partStart, postfix, rankAfter, spelled}
+use Rattle.model.specs.Parts.{PartAt, isMildNot, partStart, postfix, rankAfter, codesOfTrees}
 use Rattle.model.specs.Rules.{phraseList}
 use Rattle.model.specs.Section.{Section, sectionOf, size}
 use Rattle.model.specs.Selection.{codeAt, upTo}
@@ -31,11 +31,11 @@ use Rattle.model.specs.Walked.{walkAnswer, walkBuilds, walkReaches}
 use Rattle.model.proofs.PartsLaws.{PairAt, WrapAt, pair-at, negation-at, filter-at, phrase-at, word-at, part-some, part-length}
 use Rattle.model.proofs.TestsLaws.{false-true}
 use Rattle.model.proofs.SelectionLaws.{length-upTo, upTo-front, ends}
-use Rattle.model.proofs.TreesLaws.{heads-le, length-parts}
+use Rattle.model.proofs.TreesLaws.{partCount-le, length-parts}
 use Rattle.model.proofs.WalkLaws.{walk-is, length-walkReaches}
 use Rattle.selection.specs.Phrases.{phraseWords}
-use Rattle.building.proofs.WordsLaws.{Loose, phrase-words, one-behind}
-use Rattle.walking.specs.Steps.{isMildNot, goesInto, decides, codesIn, passedUp}
+use Rattle.building.proofs.WordsLaws.{Loose, phrase-words, one-word-after}
+use Rattle.walking.specs.Steps.{goesInto, decides, codesIn, passedUp}
 use Rattle.walking.specs.Walkable.{Walkable}
 
 -- ---- counts
@@ -48,7 +48,7 @@ codes-unless (some c) b n = omega arith
 pub codes-few : (s : Section) (t : Tree) → codesIn (walk s t) ≤ length (postfix t)
 codes-few s t =
     let counts = codes-unless (firstTooLong s (walkBuilds s t)) (walkAnswer s t) (length (walkReaches s t)) in
-    omega (arith, ap codesIn (walk-is s t), counts, length-walkReaches s t, length-parts t, heads-le (postfix t))
+    omega (arith, ap codesIn (walk-is s t), counts, length-walkReaches s t, length-parts t, partCount-le (postfix t))
 
 -- ---- passedUp
 
@@ -92,21 +92,21 @@ module _ (b : Bool) (n : ℕ) where
 
   module _ (s : Section) (c : ℕ) (t u : Tree) where
     -- the left side decides: its answer, and one code more
-    pair-decided : (k : Pair) → isMildNot k ≡ false → decides k (walk s t) ≡ true → passedUp b n (walk s (pair k c t u)) ≡ passedUp b (n + 1) (walk s t)
+    pair-decided : (k : Pair) → isMildNot (Combine k) ≡ false → decides k (walk s t) ≡ true → passedUp b n (walk s (pair k c t u)) ≡ passedUp b (n + 1) (walk s t)
     unfolding walk
     pair-decided Or e d = or-decided (walk s t) (walk s u) d
     pair-decided And e d = and-decided (walk s t) (walk s u) d
     pair-decided MildNot e d = false-true (sym e)
 
     -- it does not: the right side's answer, with the left side's codes and one more
-    pair-undecided : (k : Pair) → isMildNot k ≡ false → decides k (walk s t) ≡ false
+    pair-undecided : (k : Pair) → isMildNot (Combine k) ≡ false → decides k (walk s t) ≡ false
         → passedUp b n (walk s (pair k c t u)) ≡ passedUp b (n + 1 + codesIn (walk s t)) (walk s u)
     unfolding walk
     pair-undecided Or e d = or-undecided (walk s t) (walk s u) d
     pair-undecided And e d = and-undecided (walk s t) (walk s u) d
     pair-undecided MildNot e d = false-true (sym e)
 
-mild-builds : (s : Section) (k : Pair) (c : ℕ) (t u : Tree) → isMildNot k ≡ true → walk s (pair k c t u) ≡ build s (pair k c t u)
+mild-builds : (s : Section) (k : Pair) (c : ℕ) (t u : Tree) → isMildNot (Combine k) ≡ true → walk s (pair k c t u) ≡ build s (pair k c t u)
 unfolding walk
 mild-builds s Or c t u e = false-true e
 mild-builds s And c t u e = false-true e
@@ -118,7 +118,7 @@ loose-none : (sel : List ℕ) → AcceptedSelection sel → (c : ℕ) → c ≤ 
 loose-none sel a c h =
     record { from = size sel + (c + 1); ends = omega arith; above = omega arith; held = record { within = omega (arith, a .sized); part = refl } }
 
--- words one behind the other are the operands just before the next code
+-- words one after the other are the operands just before the next code
 loose-words : (sel : List ℕ) (a : AcceptedSelection sel) (front : List Code) (us ws : List ℕ) (c : ℕ) → upTo (codeAt sel) c ≡ front ++ map Word ws → c < size sel
     → Loose sel (length front + 1) us
     → Loose sel (c + 1) (us ++ ws)
@@ -133,7 +133,7 @@ loose-words sel a front us (w ∷ ws) c e h l =
     let i : length longer ≡ length front + 1 = omega (arith, here .hi-is) in
     let up-to : length longer ≤ c = omega (arith, sym (length-upTo at c) ∙ ap length e' ∙ length-append longer (map Word ws)) in
     let code : at (length front + 1) ≡ Word w = ap at (sym i) ∙ here .code in
-    let more = one-behind sel a (length front + 1) (omega arith) (omega (arith, i, up-to)) w us code l in
+    let more = one-word-after sel a (length front + 1) (omega arith) (omega (arith, i, up-to)) w us code l in
     let more' : Loose sel (length longer + 1) (us ++ w ∷ []) = subst (λ (j : ℕ). Loose sel (j + 1) (us ++ w ∷ [])) (sym i) more in
     subst (Loose sel (c + 1)) (append-snoc us w ws) (loose-words sel a longer (us ++ w ∷ []) ws c e' h more')
 
@@ -170,7 +170,7 @@ module _ {section sel mem : List ℕ} {hi : ℕ} (w : Walkable section sel mem h
   unfolding walk
   phrase-walks {code} {k} {words} {r} e c ws a =
       let p = phrase-at (codeAt sel) hi (w .part) k (sym e ∙ c) in
-      let front = spelled (w .part .below) in
+      let front = codesOfTrees (w .part .below) in
       let up-to : length front ≤ hi - 1 =
       omega (arith, sym (length-upTo (codeAt sel) (hi - 1)) ∙ ap length (p .codes) ∙ length-append front (map Word (p .words))) in
       let fewer : hi - 1 < size sel = omega (arith, some-codes, w .up-to) in
@@ -192,7 +192,7 @@ module _ {section sel mem : List ℕ} {hi : ℕ} (w : Walkable section sel mem h
       → PairAt (codeAt sel) hi mid k (w .part .tree)
   sides {code} {k} {mid} e c m = pair-at (codeAt sel) hi (w .part) k mid m (sym e ∙ c)
 
-  pub mild-walks : {code : Code} {k : Pair} → code ≡ codeAt sel hi → code ≡ Combine k → isMildNot k ≡ true
+  pub mild-walks : {code : Code} {k : Pair} → code ≡ codeAt sel hi → code ≡ Combine k → isMildNot (Combine k) ≡ true
       → build (sectionOf section) (w .part .tree) ≡ walk (sectionOf section) (w .part .tree)
   mild-walks {code} {k} e c m =
       let p = sides {mid = partStart (codeAt sel) (hi - 1)} e c refl in
@@ -203,7 +203,7 @@ module _ {section sel mem : List ℕ} {hi : ℕ} (w : Walkable section sel mem h
       → build (sectionOf section) (w .part .tree) ≡ walk (sectionOf section) (w .part .tree)
   leaf-builds (Word v) e o g = word-walks e refl
   leaf-builds (Phrase k) e o g = absurd (miss (0 ∷ 2 ∷ 3 ∷ 4 ∷ []) 1 tt o)
-  leaf-builds (Combine k) e o g = mild-walks e refl (not-false (isMildNot k) g)
+  leaf-builds (Combine k) e o g = mild-walks e refl (not-false (isMildNot (Combine k)) g)
   leaf-builds Not e o g = false-true (sym g)
   leaf-builds (Filtered f) e o g = filter-walks e refl
 
@@ -256,7 +256,7 @@ module _ {section sel mem : List ℕ} {hi : ℕ} {whole : Tree} {place : ℕ} {b
         same = sym (passed-turned b n (walk (sectionOf section) t)) ∙ ap (λ (x : Tree). passedUp b n (walk (sectionOf section) x)) (sym (p .is)) ∙ g .same;
       }
 
-  module _ {k : Pair} {mid : ℕ} (p : PairAt (codeAt sel) place mid k tree) (plain : isMildNot k ≡ false) where
+  module _ {k : Pair} {mid : ℕ} (p : PairAt (codeAt sel) place mid k tree) (plain : isMildNot (Combine k) ≡ false) where
     sizes : length (postfix tree) ≡ length (postfix (p .left .tree)) + length (postfix (p .right .tree)) + 1
     unfolding postfix
     sizes =

@@ -10,21 +10,17 @@ use Rattle.model.specs.declared.Pair.the-variants.{Or, And, MildNot}
 use Rattle.model.specs.declared.Quick.{Quick}
 use Rattle.model.specs.declared.Quick.the-variants.{Answered, Refused}
 use Rattle.model.specs.Checks.{refusal}
+use Rattle.model.specs.Parts.{isMildNot}
 
 -- The answer that a number tells: from 2^33 on refusal 9, the only one of a walk, with its place; below it the codes, twice, and one more for yes.
 abbrev pub answerOf : ℕ → Quick
 answerOf a = cond (leb 8589934592 a) (Refused (refusal 9 (a % 4294967296))) (Answered (eqb (a % 2) 1) (a / 2))
 
-abbrev pub isMildNot : Pair → Bool
-isMildNot Or = false
-isMildNot And = false
-isMildNot MildNot = true
-
 -- Does the walk go into the part of this code? Into that of a not, an or and an and.
 abbrev pub goesInto : Code → Bool
 goesInto (Word w) = false
 goesInto (Phrase k) = false
-goesInto (Combine k) = not (isMildNot k)
+goesInto (Combine k) = not (isMildNot (Combine k))
 goesInto Not = true
 goesInto (Filtered f) = false
 

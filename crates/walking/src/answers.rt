@@ -7,7 +7,7 @@ ghost use Prim.Native.Nat.{_+_, _≤_};
 ghost use Rattle.model.specs.Checks.{refusal};
 ghost use Rattle.model.specs.Limits.{maxCodes};
 ghost use Rattle.model.specs.declared.Quick.the-variants.{Answered, Refused};
-ghost use Rattle.walking.specs.Steps.{answerOf, codesIn, decides as decidesOf, isMildNot, passedUp};
+ghost use Rattle.walking.specs.Steps.{answerOf, codesIn, decides as decidesOf, passedUp};
 
 // From here on a number tells at which place a list was too long; below it the codes, twice, and one more for yes.
 const TOO_LONG: u64 = 8589934592;
@@ -49,16 +49,6 @@ pub fn codes_in(answer: u64) -> u32
         return 0;
     }
     (answer / 2) as u32
-}
-
-pub fn is_mild_not(pair: Pair) -> bool
-    ensures { λ r. ⌜ r ≡ isMildNot pair ⌝ }
-{
-    match pair {
-        Pair::Or => false,
-        Pair::And => false,
-        Pair::MildNot => true,
-    }
 }
 
 // Does the left side's answer decide a combination?

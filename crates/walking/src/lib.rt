@@ -7,37 +7,24 @@ use model::Quick;
 ghost use mathlib.Core.Bool.{false};
 ghost use mathlib.Core.Path.{_≡_};
 ghost use Prim.Native.Nat.{_+_, _≤_};
-ghost use Rattle.model.specs.Parts.{heads, headOf};
+ghost use Rattle.model.specs.Parts.{partCount};
 ghost use Rattle.model.specs.Section.{sectionOf};
 ghost use Rattle.model.specs.Selection.{codeAt, upTo};
 ghost use Rattle.model.specs.Walk.{build as buildOf, walk as walkOf};
 ghost use Rattle.walking.specs.Steps.{answerOf, goesInto};
 ghost use Rattle.walking.specs.Walkable.{Walkable};
 
-// One for every code other than a word.
-fn count_code(code: Code) -> u32
-    ensures { λ r. ⌜ r ≡ headOf code ⌝ }
-{
-    match code {
-        Code::Word(_) => 0,
-        Code::Phrase(_) => 1,
-        Code::Combine(_) => 1,
-        Code::Not => 1,
-        Code::Filter(_) => 1,
-    }
-}
-
 // How many codes other than words stand at the places lo + 1 to hi.
 fn count_codes(selection: &[u32], lo: u32, hi: u32) -> u32
     requires { ⌜ lo ≤ hi ⌝ }
-    ensures { λ r. ⌜ heads (upTo (codeAt (now (selection .entry))) lo) + r ≡ heads (upTo (codeAt (now (selection .entry))) hi) ⌝ }
+    ensures { λ r. ⌜ partCount (upTo (codeAt (now (selection .entry))) lo) + r ≡ partCount (upTo (codeAt (now (selection .entry))) hi) ⌝ }
 {
     let mut n: u32 = 0;
     let mut c = lo;
     while c < hi {
         c += 1;
         let code = codes::code_at(selection, c);
-        n += count_code(code);
+        n += codes::parts_ended(code);
     }
     n
 }
@@ -90,7 +77,7 @@ fn walk_part(section: &[u32], selection: &[u32], work: &mut [u32], hi: u32) -> u
                 place -= 1;
             }
             Code::Combine(pair) => {
-                if answers::is_mild_not(pair) {
+                if codes::is_mild_not(code) {
                     let answer = answer_leaf(section, selection, work, place);
                     return answers::passed_up(answer, turned, codes);
                 }

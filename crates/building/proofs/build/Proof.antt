@@ -1,7 +1,7 @@
--- Invariant: the lists of the trees that wait behind the codes read lie in memory, and none built so far is too long. Measure: the codes left.
-use Rattle.building.proofs.BuildingLaws.{Going, lo-le, start, rank-few, lists-few, waits-next, refuse, go-on, end-slot, end-fine, part-long, part-built}
+-- Invariant: the lists of the trees that wait after the codes read lie in memory, and none built so far is too long. Measure: the codes left.
+use Rattle.building.proofs.BuildingLaws.{Going, lo-le, start, rank-few, lists-few, lists-found, waits-next, refuse, go-on, end-slot, end-fine, part-long, part-built}
 use Rattle.building.specs.State.{Buildable}
-use Rattle.selection.proofs.Phrases.{isPhrase-le}
+use Rattle.selection.proofs.PhrasesLaws.{phrasesEnded-le}
 use mathlib.Core.Path.{_≡_, refl, ap}
 use borrow.Author.Needs.{needs}
 use native.Mathlib.Omega.{arith}
@@ -49,21 +49,22 @@ returns c w =
     let i = a .before in
     part-long (refuse w (i .before .loop .inv .2 w) (i .loop-test .taken) refl (a .code-at .ensures) (b .build-code .ensures) (c .enum-told2 .given .1))
 
-lists-behind-requires : tie.Need-lists-behind-requires Inv-loop μ-loop
-lists-behind-requires c κs =
+lists-after-requires : tie.Need-lists-after-requires Inv-loop μ-loop
+lists-after-requires c κs =
     let i = c .before .before .before .before .before .before .before in
     let w = i .before .before .before .before .before .pre in
-    omega (arith, lists-few w (i .before .loop .inv .2 w) (i .loop-test .taken))
+    let g = i .before .loop .inv .2 w in
+    (lists-found w g (i .loop-test .taken) refl (c .before .before .before .before .before .before .code-at .ensures), omega (arith, lists-few w g (i .loop-test .taken)))
 
-count-phrase-requires : tie.Need-count-phrase-requires Inv-loop μ-loop
-count-phrase-requires c κs = search needs
+phrases-ended-requires : tie.Need-phrases-ended-requires Inv-loop μ-loop
+phrases-ended-requires c κs = search needs
 
 add-next : tie.Need-add-next Inv-loop μ-loop
 add-next c =
     let a = c .before .before .before .before .before .before .before .before in
     let l = a .before .before in
     let w = l .before .before .before .before .pre in
-    omega (arith, c .count-phrase .ensures, isPhrase-le (a .code-at .result), rank-few w (l .loop .inv .2 w), w .in-selection .few)
+    omega (arith, c .phrases-ended .ensures, phrasesEnded-le (a .code-at .result), rank-few w (l .loop .inv .2 w), w .in-selection .few)
 
 loop-less : tie.Need-loop-less Inv-loop μ-loop
 loop-less c = search needs
@@ -79,7 +80,7 @@ loop-again c =
       omega (arith, b .build-code .kept .1 .1 .1 .1 .1 .0, l .loop .inv .1),
       λ w.
           go-on w (l .loop .inv .2 w) (i .loop-test .taken) refl (a .code-at .ensures) (b .build-code .ensures) (e .enum-told .given .1) (b .build-code .kept .1 .1 .1 .1 .1 .0)
-          (c .before .lists-behind .ensures) (ap (λ (k : ℕ). l .loop .next + k) (c .count-phrase .ensures)),
+          (c .before .lists-after .ensures) (ap (λ (k : ℕ). l .loop .next + k) (c .phrases-ended .ensures)),
     )
 
 same-length-2 : tie.Need-same-length-2 Inv-loop μ-loop
@@ -104,8 +105,8 @@ build-spec =
     enum-told-2
     same-length
     returns
-    lists-behind-requires
-    count-phrase-requires
+    lists-after-requires
+    phrases-ended-requires
     add-next
     loop-less
     loop-again

@@ -1,24 +1,45 @@
--- Each return is one case of the checks in their order (Checking); a shape without a break is one tree.
-use Rattle.selection.proofs.Checking.{wrong-size, kind-refused, operand-refused, shape-refused, mild-not-refused, none-refused}
-use Rattle.model.proofs.WaitingLaws.{break-none}
+-- Each check is reached where those before it have found nothing (to-kinds to to-mild-nots), and refuses at the place that it finds.
+use Rattle.selection.proofs.CheckLaws.{four, five, six, seven, wrong-size, right-size, stops-here, goes-on, none-refused}
 use Rattle.model.proofs.AnswersLaws.{fault-nowhere}
+use Rattle.model.proofs.WaitingLaws.{misfit-none}
+use Rattle.model.specs.Answers.{checkedOf}
+use Rattle.model.specs.Checks.{Check, tried, wrongShape, selectionRefusal}
 use Rattle.model.specs.Section.{size}
 use Rattle.model.specs.Selection.{codesOf}
-use Rattle.model.specs.Checks.{wrongShape}
-use Rattle.model.specs.Answers.{checkedOf}
-use mathlib.Core.Path.{sym, ap, ap₂, _∙_}
-use borrow.Author.Tests.{not-true, not-false}
 use borrow.Author.Needs.{needs}
+use borrow.Author.Tests.{not-true, not-false}
+use mathlib.Core.Path.{_≡_, sym, ap, ap₂, _∙_}
+use mathlib.Core.List.{List, [], _∷_}
+use Prim.Native.Nat.{ℕ}
 use Rattle.selection.proofs.check_selection.Statement.{statement}
 use Rattle.selection.proofs.check_selection.Tie as tie
+
+abbrev input : tie.After-well-sized → List ℕ
+input w = w .before .before .args .selection .now
+
+-- the checks from one on decide
+abbrev Decide : List Check → tie.After-well-sized → Type 0
+Decide cs w = selectionRefusal (input w) ≡ tried cs (input w)
+
+to-kinds : (u : tie.After-unknown-kind) → Decide (four ∷ five ∷ six ∷ seven ∷ []) (u .before .before)
+to-kinds u = let w = u .before .before in right-size (input w) (sym (w .well-sized .ensures) ∙ not-false _ (u .before .if1 .left))
+
+to-operands : (o : tie.After-wrong-operand) → Decide (five ∷ six ∷ seven ∷ []) (o .before .before .before .before .before)
+to-operands o = let t = o .before in let u = t .before .before in goes-on _ four _ (to-kinds u) (u .unknown-kind .ensures) (t .enum-told .given .1)
+
+to-shape : (h : tie.After-wrong-shape) → Decide (six ∷ seven ∷ []) (h .before .before .before .before .before .before .before .before)
+to-shape h = let t = h .before in let o = t .before .before in goes-on _ five _ (to-operands o) (o .wrong-operand .ensures) (t .enum-told2 .given .1)
+
+to-mild-nots : (n : tie.After-not-under-mild-not) → Decide (seven ∷ []) (n .before .before .before .before .before .before .before .before .before .before .before)
+to-mild-nots n = let t = n .before in let h = t .before .before in goes-on _ six _ (to-shape h) (h .wrong-shape .ensures) (t .enum-told3 .given .1)
 
 well-sized-requires : tie.Need-well-sized-requires
 well-sized-requires c κs = search needs
 
 returns : tie.Need-returns
 returns c =
-    let s = c .before .before .before .args .selection .now in
-    ap (checkedOf (size s)) (sym (wrong-size s (sym (c .before .well-sized .ensures) ∙ not-true _ (c .if1 .taken))))
+    let w = c .before in
+    ap (checkedOf (size (input w))) (sym (wrong-size (input w) (sym (w .well-sized .ensures) ∙ not-true _ (c .if1 .taken))))
 
 unknown-kind-requires : tie.Need-unknown-kind-requires
 unknown-kind-requires c κs = search needs
@@ -27,12 +48,7 @@ enum-known-unknown : tie.Need-enum-known-unknown
 enum-known-unknown c = search needs
 
 returns-2 : tie.Need-returns-2
-returns-2 c =
-    let u = c .before .before .before in
-    let w = u .before .before in
-    let s = w .before .before .args .selection .now in
-    let e = sym (w .well-sized .ensures) ∙ not-false _ (u .before .if1 .left) in
-    ap (checkedOf (size s)) (sym (kind-refused s e (u .unknown-kind .ensures) (c .before .unknown .given .1)))
+returns-2 c = let u = c .before .before .before in ap (checkedOf _) (sym (stops-here _ four _ (to-kinds u) (u .unknown-kind .ensures) (c .before .unknown .given .1)))
 
 enum-told : tie.Need-enum-told
 enum-told c = search needs
@@ -44,14 +60,7 @@ enum-known-outside : tie.Need-enum-known-outside
 enum-known-outside c = search needs
 
 returns-3 : tie.Need-returns-3
-returns-3 c =
-    let o = c .before .before .before in
-    let t1 = o .before in
-    let u = t1 .before .before in
-    let w = u .before .before in
-    let s = w .before .before .args .selection .now in
-    let e = sym (w .well-sized .ensures) ∙ not-false _ (u .before .if1 .left) in
-    ap (checkedOf (size s)) (sym (operand-refused s e (u .unknown-kind .ensures) (t1 .enum-told .given .1) (o .wrong-operand .ensures) (c .before .outside .given .1)))
+returns-3 c = let o = c .before .before .before in ap (checkedOf _) (sym (stops-here _ five _ (to-operands o) (o .wrong-operand .ensures) (c .before .outside .given .1)))
 
 enum-told-2 : tie.Need-enum-told-2
 enum-told-2 c = search needs
@@ -63,17 +72,7 @@ enum-known-shape : tie.Need-enum-known-shape
 enum-known-shape c = search needs
 
 returns-4 : tie.Need-returns-4
-returns-4 c =
-    let h = c .before .before .before in
-    let t2 = h .before in
-    let o = t2 .before .before in
-    let t1 = o .before in
-    let u = t1 .before .before in
-    let w = u .before .before in
-    let s = w .before .before .args .selection .now in
-    let e = sym (w .well-sized .ensures) ∙ not-false _ (u .before .if1 .left) in
-    ap (checkedOf (size s))
-    (sym (shape-refused s e (u .unknown-kind .ensures) (t1 .enum-told .given .1) (o .wrong-operand .ensures) (t2 .enum-told2 .given .1) (h .wrong-shape .ensures) (c .before .shape .given .1)))
+returns-4 c = let h = c .before .before .before in ap (checkedOf _) (sym (stops-here _ six _ (to-shape h) (h .wrong-shape .ensures) (c .before .shape .given .1)))
 
 enum-told-3 : tie.Need-enum-told-3
 enum-told-3 c = search needs
@@ -83,25 +82,13 @@ unfolding wrongShape
 not-under-mild-not-requires c κs =
     let h = c .before .before in
     let s = h .before .before .before .before .before .before .before .before .before .before .args .selection .now in
-    break-none (codesOf s) .0 (fault-nowhere (wrongShape s) (sym (h .wrong-shape .ensures) ∙ c .enum-told3 .given .1))
+    misfit-none (codesOf s) .0 (fault-nowhere (wrongShape s) (sym (h .wrong-shape .ensures) ∙ c .enum-told3 .given .1))
 
 enum-known-under : tie.Need-enum-known-under
 enum-known-under c = search needs
 
 returns-5 : tie.Need-returns-5
-returns-5 c =
-    let n = c .before .before .before in
-    let t3 = n .before in
-    let h = t3 .before .before in
-    let t2 = h .before in
-    let o = t2 .before .before in
-    let t1 = o .before in
-    let u = t1 .before .before in
-    let w = u .before .before in
-    let s = w .before .before .args .selection .now in
-    let e = sym (w .well-sized .ensures) ∙ not-false _ (u .before .if1 .left) in
-    ap (checkedOf (size s))
-    (sym (mild-not-refused s e (u .unknown-kind .ensures) (t1 .enum-told .given .1) (o .wrong-operand .ensures) (t2 .enum-told2 .given .1) (h .wrong-shape .ensures) (t3 .enum-told3 .given .1) (n .not-under-mild-not .ensures) (c .before .under .given .1)))
+returns-5 c = let n = c .before .before .before in ap (checkedOf _) (sym (stops-here _ seven _ (to-mild-nots n) (n .not-under-mild-not .ensures) (c .before .under .given .1)))
 
 enum-told-4 : tie.Need-enum-told-4
 enum-told-4 c = search needs
@@ -111,20 +98,9 @@ number-at-requires c κs = search needs
 
 returns-6 : tie.Need-returns-6
 returns-6 c =
-    let t4 = c .before in
-    let n = t4 .before .before in
-    let t3 = n .before in
-    let h = t3 .before .before in
-    let t2 = h .before in
-    let o = t2 .before .before in
-    let t1 = o .before in
-    let u = t1 .before .before in
-    let w = u .before .before in
-    let s = w .before .before .args .selection .now in
-    let e = sym (w .well-sized .ensures) ∙ not-false _ (u .before .if1 .left) in
-    let passed =
-    none-refused s e (u .unknown-kind .ensures) (t1 .enum-told .given .1) (o .wrong-operand .ensures) (t2 .enum-told2 .given .1) (h .wrong-shape .ensures) (t3 .enum-told3 .given .1) (n .not-under-mild-not .ensures) (t4 .enum-told4 .given .1) in
-    ap₂ checkedOf (c .number-at .ensures) (sym passed)
+    let t = c .before in
+    let n = t .before .before in
+    ap₂ checkedOf (c .number-at .ensures) (sym (none-refused _ (goes-on _ seven _ (to-mild-nots n) (n .not-under-mild-not .ensures) (t .enum-told4 .given .1))))
 
 pub check-selection-spec : {M : Type 1} → statement M
 check-selection-spec =

@@ -1,10 +1,10 @@
--- Invariant: no part that ends at the first c codes is a mild not over a not (Unders). Measure: the codes left.
-use Rattle.selection.proofs.Unders.{found, none-behind, some-behind, found-none, found-some}
-use Rattle.selection.specs.PartCodes.{partCodes, isMildNot}
+-- Invariant: no part that ends at the first c codes is a mild not over a not (MildOverNotLaws). Measure: the codes left.
+use Rattle.selection.proofs.MildOverNotLaws.{found, none-after, some-after, found-none, found-some}
+use Rattle.selection.specs.PartCodes.{partCodes}
 use Rattle.model.specs.Trees.{readAll}
 use Rattle.model.specs.Selection.{upTo, codeAt, codesOf}
 use Rattle.model.specs.Section.{size}
-use Rattle.model.specs.Parts.{isNotCode, waitingParts}
+use Rattle.model.specs.Parts.{isNotCode, isMildNot, waitingParts}
 use Rattle.model.specs.Lists.{anyOf, first}
 use Rattle.model.specs.Answers.{faultOf}
 use mathlib.Core.Option.{none}
@@ -50,7 +50,7 @@ returns c =
     let h : l .loop .c < size s = omega (arith, l .before .number-at .ensures) in
     let n : l .loop .c + 1 ≤ size s = omega arith in
     ap faultOf (sym (found-some s (st .pre) (l .loop .c + 1) n _
-    (some-behind (codeAt s) (size s) (st .pre) (l .loop .c) h (l .loop .inv .1) _ (c .before .before .before .before .code-at .ensures)
+    (some-after (codeAt s) (size s) (st .pre) (l .loop .c) h (l .loop .inv .1) _ (c .before .before .before .before .code-at .ensures)
     (sym (c .before .before .before .is-mild-not .ensures) ∙ c .before .before .if1 .taken) (sym (c .before .has-not .ensures) ∙ c .if2 .taken))))
 
 loop-less : tie.Need-loop-less Inv-loop μ-loop
@@ -64,7 +64,7 @@ loop-again c =
     let s = st .args .selection .now in
     let h : l .loop .c < size s = omega (arith, l .before .number-at .ensures) in (
       omega arith,
-      none-behind (codeAt s) (size s) (st .pre) (l .loop .c) h (l .loop .inv .1) _ (c .before .before .before .before .code-at .ensures)
+      none-after (codeAt s) (size s) (st .pre) (l .loop .c) h (l .loop .inv .1) _ (c .before .before .before .before .code-at .ensures)
           (ap (isMildNot (c .before .before .before .before .code-at .result) &&_) (sym (c .before .has-not .ensures) ∙ c .if2 .left) ∙ and-false (isMildNot (c .before .before .before .before .code-at .result))),
     )
 
@@ -79,7 +79,7 @@ loop-again-2 c =
     let s = st .args .selection .now in
     let h : l .loop .c < size s = omega (arith, l .before .number-at .ensures) in (
       omega arith,
-      none-behind (codeAt s) (size s) (st .pre) (l .loop .c) h (l .loop .inv .1) _ (c .before .before .code-at .ensures)
+      none-after (codeAt s) (size s) (st .pre) (l .loop .c) h (l .loop .inv .1) _ (c .before .before .code-at .ensures)
           (ap (_&& anyOf isNotCode (partCodes (codeAt s) (l .loop .c + 1))) (sym (c .before .is-mild-not .ensures) ∙ c .if1 .left)),
     )
 

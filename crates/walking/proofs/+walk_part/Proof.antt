@@ -5,12 +5,14 @@ use mathlib.Core.Bool.{false, not}
 use mathlib.Core.Path.{_≡_, refl, sym, ap, _∙_}
 use lib.ListN.{length}
 use Prim.Native.Nat.{_-_, _≤_}
+use Rattle.model.specs.declared.Code.the-variants.{Combine}
 use Rattle.model.specs.declared.Pair.{Pair}
+use Rattle.model.specs.Parts.{isMildNot}
 use Rattle.model.specs.Section.{sectionOf}
 use Rattle.model.specs.Selection.{codeAt}
 use Rattle.model.specs.Walk.{walk}
 use Rattle.model.proofs.PartsLaws.{PairAt, start-le}
-use Rattle.walking.specs.Steps.{answerOf, goesInto, isMildNot}
+use Rattle.walking.specs.Steps.{answerOf, goesInto}
 use Rattle.walking.specs.Walkable.{Walkable}
 use Rattle.walking.proofs.WalkingLaws.{below, leaf-code, some-codes, sides}
 use Rattle.walking.proofs.WalkingLaws.{Going, start, passes, passes-few, under-not, left-decides, left-few, right-side}
@@ -26,7 +28,7 @@ use Rattle.selection.proofs.parts.part_start.Reads as part-start-reads
 use Rattle.walking.proofs.answer_leaf.Reads as answer-leaf-reads
 use Rattle.walking.proofs.answers.codes_in.Reads as codes-in-reads
 use Rattle.walking.proofs.answers.decides.Reads as decides-reads
-use Rattle.walking.proofs.answers.is_mild_not.Reads as is-mild-not-reads
+use Rattle.codes.proofs.is_mild_not.Reads as is-mild-not-reads
 use Rattle.walking.proofs.answers.passed_up.Reads as passed-up-reads
 use Rattle.walking.proofs.+walk_part.{statement}
 use Rattle.walking.proofs.+walk_part.Tie.{close}
@@ -113,7 +115,7 @@ module _ (t : ℕ) (p : walk-part-lts.After-part-start (claims t) (walk-part-at 
   abbrev code : walk-part-lts.After-code-at (claims t) (walk-part-at t) walk-part.Post Inv-loop μ-loop
   code = at-code t (p .before .before)
 
-  plain : isMildNot (combination t (p .before .before)) ≡ false
+  plain : isMildNot (Combine (combination t (p .before .before))) ≡ false
   plain = sym (p .before .before .is-mild-not .ensures) ∙ p .before .if1 .left
 
   sides-of : (w : Whole t code)

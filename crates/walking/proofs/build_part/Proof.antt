@@ -1,4 +1,4 @@
--- The part is built from its start with its first phrase's rank; its codes are those but words behind its start.
+-- The part is built from its start with its first phrase's rank; its codes are those but words after its start.
 use Rattle.walking.proofs.PartsLaws.{rank-few, starts-before, buildable, build-long, build-answers}
 use Rattle.selection.specs.Phrases.{phrasesIn}
 use Rattle.model.specs.Selection.{codeAt, upTo}

@@ -1,6 +1,6 @@
 -- In each arm the trees that wait give the lists that the rule takes, and the tree that then waits has the rule's list.
-use Rattle.building.proofs.CodesLaws.{phrase-few, phrase-rank, phrase-taken, phrase-behind, pair-taken, pair-behind}
-use Rattle.building.proofs.CodesLaws.{not-wraps, filter-wraps, filter-window, wrap-taken, wrap-behind, word-behind}
+use Rattle.building.proofs.CodesLaws.{phrase-few, phrase-rank, phrase-taken, phrase-after, pair-taken, pair-after}
+use Rattle.building.proofs.CodesLaws.{not-wraps, filter-wraps, filter-window, wrap-taken, wrap-after, word-after}
 use borrow.Author.Needs.{needs}
 use Rattle.building.proofs.steps.build_code.Statement.{statement}
 use Rattle.building.proofs.steps.build_code.Tie as tie
@@ -50,7 +50,7 @@ build-filter-requires c κs =
     (filter-window (e .0 .0) (e .1) w, wrap-taken (filter-wraps (e .0 .0) (e .1)) w)
 
 returns : tie.Need-returns
-returns c w = word-behind (c .enum-told .given .0 .0) (c .enum-told .given .1) (w .waits)
+returns c w = word-after (c .enum-told .given .0 .0) (c .enum-told .given .1) (w .waits)
 
 same-length : tie.Need-same-length
 same-length c = search needs
@@ -60,7 +60,7 @@ returns-2 c w =
     let b = c .before .before in
     let p = b .before .before in
     let e = p .before .enum-told2 .given in
-    phrase-behind (e .0 .0) (e .1) _ (p .phrase-words .ensures) (w .waits) (b .build-phrase .ensures)
+    phrase-after (e .0 .0) (e .1) _ (p .phrase-words .ensures) (w .waits) (b .build-phrase .ensures)
 
 same-length-2 : tie.Need-same-length-2
 same-length-2 c = search needs
@@ -69,7 +69,7 @@ returns-3 : tie.Need-returns-3
 returns-3 c w =
     let b = c .before .before in
     let e = b .before .before .before .code .given in
-    pair-behind (e .0 .0) (e .1) (w .waits) (b .build-pair .ensures)
+    pair-after (e .0 .0) (e .1) (w .waits) (b .build-pair .ensures)
 
 same-length-3 : tie.Need-same-length-3
 same-length-3 c = search needs
@@ -77,7 +77,7 @@ same-length-3 c = search needs
 returns-4 : tie.Need-returns-4
 returns-4 c w =
     let b = c .before .before in
-    wrap-behind (not-wraps (b .before .before .enum-told3 .given .1)) (w .waits) (b .build-not .ensures)
+    wrap-after (not-wraps (b .before .before .enum-told3 .given .1)) (w .waits) (b .build-not .ensures)
 
 same-length-4 : tie.Need-same-length-4
 same-length-4 c = search needs
@@ -86,7 +86,7 @@ returns-5 : tie.Need-returns-5
 returns-5 c w =
     let b = c .before .before in
     let e = b .before .before .before .code2 .given in
-    wrap-behind (filter-wraps (e .0 .0) (e .1)) (w .waits) (b .build-filter .ensures)
+    wrap-after (filter-wraps (e .0 .0) (e .1)) (w .waits) (b .build-filter .ensures)
 
 pub build-code-spec : {M : Type 1} → statement M
 build-code-spec =

@@ -1,4 +1,4 @@
--- The last two lists that wait are the two slots; what `or` leaves at the left one waits behind the rest.
+-- The last two lists that wait are the two slots; what `or` leaves at the left one waits after the rest.
 use Rattle.building.proofs.StepsLaws.{two-slots, two-apart, two-added}
 use borrow.Author.Needs.{needs}
 use Rattle.building.proofs.steps.build_or.Statement.{statement}

@@ -1,4 +1,4 @@
--- The list goes to the free slot behind those that wait.
+-- The list goes to the free slot after those that wait.
 use Rattle.building.proofs.StepsLaws.{none-room, none-added}
 use borrow.Author.Needs.{needs}
 use Rattle.building.proofs.steps.build_phrase.Statement.{statement}

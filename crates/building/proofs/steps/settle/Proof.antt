@@ -1,4 +1,4 @@
--- Where the list is made it lies in the slot to build in (fresh-slot), and once copied it waits behind the rest.
+-- Where the list is made it lies in the slot to build in (fresh-slot), and once copied it waits after the rest.
 use Rattle.building.proofs.StepsLaws.{fresh-slot, fresh-below, fresh-copied, fresh-long}
 use borrow.Author.Needs.{needs}
 use Rattle.building.proofs.steps.settle.Statement.{statement}

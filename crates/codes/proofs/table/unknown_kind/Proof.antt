@@ -9,7 +9,7 @@ use Rattle.model.specs.Checks.{unknownKind}
 use Rattle.model.specs.Lists.{first, fromTo}
 use Rattle.model.specs.Section.{size}
 use Rattle.model.proofs.ListsLaws.{first-range-empty, first-range-here, first-range-later}
-use Rattle.codes.proofs.Searching.{isUnknown}
+use Rattle.codes.proofs.TableLaws.{isUnknown}
 use Rattle.codes.proofs.table.unknown_kind.Statement.{statement}
 use Rattle.codes.proofs.table.unknown_kind.Tie as tie
 

@@ -8,7 +8,7 @@ use Rattle.model.specs.Checks.{wrongOperand}
 use Rattle.model.specs.Lists.{first, fromTo}
 use Rattle.model.specs.Section.{size}
 use Rattle.model.proofs.ListsLaws.{first-range-empty, first-range-here, first-range-later}
-use Rattle.codes.proofs.Searching.{isOutside, outside}
+use Rattle.codes.proofs.TableLaws.{isOutside, outside}
 use Rattle.codes.proofs.table.wrong_operand.Statement.{statement}
 use Rattle.codes.proofs.table.wrong_operand.Tie as tie
 

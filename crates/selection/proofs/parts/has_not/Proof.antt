@@ -1,5 +1,5 @@
 -- Invariant: the codes up to c have a not exactly where the part has one. Measure: c.
-use Rattle.selection.proofs.Turns.{nots-here, nots-before, nots-none}
+use Rattle.selection.proofs.CodeLoopsLaws.{nots-here, nots-before, nots-none}
 use Rattle.selection.specs.PartCodes.{partCodes}
 use Rattle.model.specs.Selection.{codeAt, upTo}
 use Rattle.model.specs.Parts.{isNotCode}

@@ -1,8 +1,8 @@
 -- Invariant: from c back, with so many trees to find, the walk ends where the whole walk does. Measure: c.
-use Rattle.selection.proofs.Turns.{back-here, back-before, back-zero}
-use Rattle.model.proofs.PartsLaws.{needs-le}
+use Rattle.selection.proofs.CodeLoopsLaws.{scanBack-here, scanBack-before, scanBack-zero}
+use Rattle.model.proofs.PartsLaws.{treesNeeded-le}
 use Rattle.model.specs.Selection.{codeAt}
-use Rattle.model.specs.Parts.{back, partStart}
+use Rattle.model.specs.Parts.{partStart, scanBack}
 use mathlib.Core.Path.{_≡_, refl, sym, _∙_}
 use borrow.Author.Needs.{needs}
 use native.Mathlib.Omega.{arith}
@@ -11,7 +11,7 @@ use Rattle.selection.proofs.parts.part_start.Statement.{statement}
 use Rattle.selection.proofs.parts.part_start.Tie as tie
 
 abbrev Inv-loop : tie.InvT-loop
-Inv-loop selection place trees₀ c₀ trees c = (c ≤ place) × (trees + c ≤ place + 1) × (back (codeAt selection) c trees ≡ partStart (codeAt selection) place)
+Inv-loop selection place trees₀ c₀ trees c = (c ≤ place) × (trees + c ≤ place + 1) × (scanBack (codeAt selection) c trees ≡ partStart (codeAt selection) place)
 
 abbrev μ-loop : tie.MeasureT-loop
 μ-loop selection place trees₀ c₀ trees c = c
@@ -29,10 +29,10 @@ stops-at-requires c κs = search needs
 returns : tie.Need-returns Inv-loop μ-loop
 returns c =
     let l = c .before .before .before .before in
-    back-here (codeAt (l .before .before .args .selection .now)) (l .loop .c) (l .loop .trees) (c .before .before .before .loop-test .taken) _ (c .before .before .code-at .ensures) (sym (c .before .stops-at .ensures) ∙ c .if1 .taken) ∙ l .loop .inv .2
+    scanBack-here (codeAt (l .before .before .args .selection .now)) (l .loop .c) (l .loop .trees) (c .before .before .before .loop-test .taken) _ (c .before .before .code-at .ensures) (sym (c .before .stops-at .ensures) ∙ c .if1 .taken) ∙ l .loop .inv .2
 
-needed-requires : tie.Need-needed-requires Inv-loop μ-loop
-needed-requires c κs = search needs
+trees-needed-requires : tie.Need-trees-needed-requires Inv-loop μ-loop
+trees-needed-requires c κs = (sym (c .before .stops-at .ensures) ∙ c .if1 .left, search needs)
 
 sub-c : tie.Need-sub-c Inv-loop μ-loop
 sub-c c = search needs
@@ -44,10 +44,10 @@ loop-again : tie.Need-loop-again Inv-loop μ-loop
 loop-again c =
     let e = c .before in
     let l = e .before .before .before .before in
-    let n = needs-le (e .before .before .code-at .result) (l .loop .trees) in (
+    let n = treesNeeded-le (e .before .before .code-at .result) (l .loop .trees) in (
       omega arith,
-      omega (arith, c .needed .ensures),
-      back-before (codeAt (l .before .before .args .selection .now)) (l .loop .c) (l .loop .trees) (e .before .before .before .loop-test .taken) _ (e .before .before .code-at .ensures) (sym (e .before .stops-at .ensures) ∙ e .if1 .left) _ (c .needed .ensures)
+      omega (arith, c .trees-needed .ensures),
+      scanBack-before (codeAt (l .before .before .args .selection .now)) (l .loop .c) (l .loop .trees) (e .before .before .before .loop-test .taken) _ (e .before .before .code-at .ensures) (sym (e .before .stops-at .ensures) ∙ e .if1 .left) _ (c .trees-needed .ensures)
           ∙ l .loop .inv .2,
     )
 
@@ -55,7 +55,7 @@ returns-2 : tie.Need-returns-2 Inv-loop μ-loop
 returns-2 c =
     let l = c .before in
     let z : l .loop .c ≡ 0 = omega arith in
-    back-zero (codeAt (l .before .before .args .selection .now)) (l .loop .c) (l .loop .trees) z ∙ l .loop .inv .2
+    scanBack-zero (codeAt (l .before .before .args .selection .now)) (l .loop .c) (l .loop .trees) z ∙ l .loop .inv .2
 
 pub part-start-spec : {M : Type 1} → statement M
 part-start-spec =
@@ -67,7 +67,7 @@ part-start-spec =
     code-at-requires
     stops-at-requires
     returns
-    needed-requires
+    trees-needed-requires
     sub-c
     loop-less
     loop-again

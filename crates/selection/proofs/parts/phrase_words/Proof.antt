@@ -1,5 +1,5 @@
 -- Each return is one case of the definition (Phrases).
-use Rattle.selection.proofs.Phrases.{too-many, too-short, the-words}
+use Rattle.selection.proofs.PhrasesLaws.{too-many, too-short, the-words}
 use native.Mathlib.Omega.{arith}
 use Prim.Native.Nat.{_<_}
 use borrow.Author.Needs.{needs}

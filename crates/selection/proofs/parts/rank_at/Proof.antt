@@ -1,5 +1,5 @@
 -- Invariant: so many phrases are among the first c codes. Measure: the codes left.
-use Rattle.selection.proofs.Phrases.{isPhrase-le, phrasesIn-more}
+use Rattle.selection.proofs.PhrasesLaws.{phrasesEnded-le, phrasesIn-more}
 use Rattle.selection.specs.Phrases.{phrasesIn}
 use Rattle.model.specs.Selection.{codeAt, upTo}
 use mathlib.Core.Path.{_≡_, refl, ap, _∙_}
@@ -25,11 +25,11 @@ add-code-at c = search needs
 code-at-requires : tie.Need-code-at-requires Inv-loop μ-loop
 code-at-requires c κs = search needs
 
-count-phrase-requires : tie.Need-count-phrase-requires Inv-loop μ-loop
-count-phrase-requires c κs = search needs
+phrases-ended-requires : tie.Need-phrases-ended-requires Inv-loop μ-loop
+phrases-ended-requires c κs = search needs
 
 add-rank : tie.Need-add-rank Inv-loop μ-loop
-add-rank c = omega (arith, c .count-phrase .ensures, isPhrase-le (c .before .code-at .result))
+add-rank c = omega (arith, c .phrases-ended .ensures, phrasesEnded-le (c .before .code-at .result))
 
 add-c : tie.Need-add-c Inv-loop μ-loop
 add-c c = search needs
@@ -41,8 +41,8 @@ loop-again : tie.Need-loop-again Inv-loop μ-loop
 loop-again c =
     let l = c .before .before .before in (
       omega arith,
-      omega (arith, c .count-phrase .ensures, isPhrase-le (c .before .code-at .result)),
-      phrasesIn-more (codeAt (l .before .before .args .selection .now)) (l .loop .c) _ (c .before .code-at .ensures) _ _ (l .loop .inv .2) (c .count-phrase .ensures),
+      omega (arith, c .phrases-ended .ensures, phrasesEnded-le (c .before .code-at .result)),
+      phrasesIn-more (codeAt (l .before .before .args .selection .now)) (l .loop .c) _ (c .before .code-at .ensures) _ _ (l .loop .inv .2) (c .phrases-ended .ensures),
     )
 
 returns : tie.Need-returns Inv-loop μ-loop
@@ -61,7 +61,7 @@ rank-at-spec =
     loop-holds
     add-code-at
     code-at-requires
-    count-phrase-requires
+    phrases-ended-requires
     add-rank
     add-c
     loop-less

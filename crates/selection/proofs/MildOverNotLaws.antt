@@ -12,8 +12,9 @@ use Rattle.model.specs.declared.Code.{Code}
 use Rattle.model.specs.declared.Code.the-variants.{Word, Phrase, Combine, Not, Filter}
 use Rattle.model.specs.declared.Pair.the-variants.{Or, And, MildNot}
 use Rattle.model.specs.Checks.{isNot, mildOverNot, notUnderMildNot}
+use Rattle.model.specs.Kinds.{isWord}
 use Rattle.model.specs.Lists.{anyOf, first}
-use Rattle.model.specs.Parts.{isNotCode, postfix, fitsAll, wellFormed, headOf, newest, waitingParts, PartAt, partStart}
+use Rattle.model.specs.Parts.{isNotCode, isMildNot, postfix, fitsAll, wellFormed, partEndedBy, waitingParts, PartAt, partStart}
 use Rattle.model.specs.Section.{size}
 use Rattle.model.specs.Selection.{upTo, codeAt, codesOf}
 use Rattle.model.specs.Trees.{Tree, pair, placeOf, State, read, readAll, fresh, topTree, treeOf, parts}
@@ -25,7 +26,7 @@ use Rattle.model.proofs.SelectionLaws.{upTo-split}
 use Rattle.model.proofs.TestsLaws.{false-true, and-join}
 use Rattle.model.proofs.TreesLaws.{readAll-append, readAll-snoc}
 use Rattle.model.proofs.WaitingLaws.{read-parts, steps, parsed, fitsAll-split, formed}
-use Rattle.selection.specs.PartCodes.{partCodes, isMildNot}
+use Rattle.selection.specs.PartCodes.{partCodes}
 
 -- ---- one part
 
@@ -50,8 +51,8 @@ module _ (at : ℕ → Code) (hi : ℕ) (w : PartAt at hi) where
 
 -- ---- all the parts up to a code
 
-abbrev behind : (ℕ → Code) → ℕ → State
-behind at c = readAll (upTo at c) (fresh 1 1)
+abbrev after : (ℕ → Code) → ℕ → State
+after at c = readAll (upTo at c) (fresh 1 1)
 
 -- the place of the first mild not over a not among some parts
 abbrev pub placeIn : List Tree → Option ℕ
@@ -79,7 +80,7 @@ unfolding first
 placeIn-one t e = rw e
 
 -- a word ends no part, any other code one
-ends-part : (code : Code) → ((isMildNot code ≡ false) × ((ts : List Tree) → newest code ts ≡ [])) ⊎ ((headOf code ≡ 1) × ((ts : List Tree) → newest code ts ≡ topTree ts ∷ []))
+ends-part : (code : Code) → ((isMildNot code ≡ false) × ((ts : List Tree) → partEndedBy code ts ≡ [])) ⊎ ((isWord code ≡ false) × ((ts : List Tree) → partEndedBy code ts ≡ topTree ts ∷ []))
 ends-part (Word v) = inl (refl, λ ts. refl)
 ends-part (Phrase k) = inr (refl, λ ts. refl)
 ends-part (Combine k) = inr (refl, λ ts. refl)
@@ -93,7 +94,7 @@ placeIn-none t e = rw e
 module _ (at : ℕ → Code) (m : ℕ) (well : wellFormed (upTo at m) ≡ true) where
   module _ (c : ℕ) (h : c < m) where
     -- one code more adds the part that it ends
-    adds : waitingParts (behind at (suc c) .trees) ≡ waitingParts (behind at c .trees) ++ newest (at (suc c)) (behind at (suc c) .trees)
+    adds : waitingParts (after at (suc c) .trees) ≡ waitingParts (after at c .trees) ++ partEndedBy (at (suc c)) (after at (suc c) .trees)
     unfolding upTo
     adds =
         let f = fits-at at m well c h in
@@ -101,33 +102,33 @@ module _ (at : ℕ → Code) (m : ℕ) (well : wellFormed (upTo at m) ≡ true) 
         let s = readAll-snoc (upTo at c) (at (suc c)) (fresh 1 1) in
         rw s (read-parts (at (suc c)) (readAll (upTo at c) (fresh 1 1)) (rw (g .lists, g .loose) (f .here)))
 
-    part : headOf (at (suc c)) ≡ 1 → PartAt at (suc c)
+    part : isWord (at (suc c)) ≡ false → PartAt at (suc c)
     part e = part-at at m well (suc c) (omega arith) h e
 
-    module _ (e : headOf (at (suc c)) ≡ 1) where
-      is-mild : (code : Code) → at (suc c) ≡ code → mildOverNot (topTree (behind at (suc c) .trees)) ≡ (isMildNot code && anyOf isNotCode (partCodes at (suc c)))
+    module _ (e : isWord (at (suc c)) ≡ false) where
+      is-mild : (code : Code) → at (suc c) ≡ code → mildOverNot (topTree (after at (suc c) .trees)) ≡ (isMildNot code && anyOf isNotCode (partCodes at (suc c)))
       unfolding partCodes
       is-mild code d =
           ap mildOverNot (part-read at (suc c) (part e)) ∙ mild-part at (suc c) (part e) code d
           ∙ ap (λ cs. isMildNot code && anyOf isNotCode cs) (sym (part-codes at (suc c) (partStart at (suc c)) (part e) refl))
 
-      its-place : placeOf (topTree (behind at (suc c) .trees)) ≡ suc c
+      its-place : placeOf (topTree (after at (suc c) .trees)) ≡ suc c
       its-place = ap placeOf (part-read at (suc c) (part e)) ∙ part-place at (suc c) (part e)
 
   -- ---- the turns of the search
 
   module _ (c : ℕ) (h : c < m) (none-yet : found at c ≡ none) (code : Code) (d : code ≡ at (suc c)) where
-    newer : (ts : List Tree) → newest code (behind at (suc c) .trees) ≡ ts → found at (suc c) ≡ placeIn ts
+    newer : (ts : List Tree) → partEndedBy code (after at (suc c) .trees) ≡ ts → found at (suc c) ≡ placeIn ts
     newer ts e =
-        ap placeIn (adds c h) ∙ placeIn-append (waitingParts (behind at c .trees)) (newest (at (suc c)) (behind at (suc c) .trees)) none-yet
-        ∙ ap placeIn (ap (λ k. newest k (behind at (suc c) .trees)) (sym d) ∙ e)
+        ap placeIn (adds c h) ∙ placeIn-append (waitingParts (after at c .trees)) (partEndedBy (at (suc c)) (after at (suc c) .trees)) none-yet
+        ∙ ap placeIn (ap (λ k. partEndedBy k (after at (suc c) .trees)) (sym d) ∙ e)
 
     not-here : (isMildNot code && anyOf isNotCode (partCodes at (suc c))) ≡ false → found at (suc c) ≡ none
     unfolding first
     not-here q =
         ⊎-elim
         (λ w. newer [] (w .1 _))
-        (λ w. newer _ (w .1 _) ∙ placeIn-none (topTree (behind at (suc c) .trees)) (is-mild c h (ap headOf (sym d) ∙ w .0) code (sym d) ∙ q))
+        (λ w. newer _ (w .1 _) ∙ placeIn-none (topTree (after at (suc c) .trees)) (is-mild c h (ap isWord (sym d) ∙ w .0) code (sym d) ∙ q))
         (ends-part code)
 
     found-here : isMildNot code ≡ true → anyOf isNotCode (partCodes at (suc c)) ≡ true → found at (suc c) ≡ some (suc c)
@@ -135,7 +136,7 @@ module _ (at : ℕ → Code) (m : ℕ) (well : wellFormed (upTo at m) ≡ true) 
         ⊎-elim
         (λ w. false-true (sym (w .0) ∙ k))
         (λ w.
-        let e = ap headOf (sym d) ∙ w .0 in
+        let e = ap isWord (sym d) ∙ w .0 in
         newer _ (w .1 _) ∙ placeIn-one _ (is-mild c h e code (sym d) ∙ and-join k q) ∙ ap some (its-place c h e))
         (ends-part code)
 
@@ -144,12 +145,12 @@ module _ (at : ℕ → Code) (m : ℕ) (well : wellFormed (upTo at m) ≡ true) 
     d' : code ≡ at (suc c)
     d' = d ∙ ap at (add-one c)
 
-    pub none-behind : (isMildNot code && anyOf isNotCode (partCodes at (c + 1))) ≡ false → found at (c + 1) ≡ none
-    none-behind q =
+    pub none-after : (isMildNot code && anyOf isNotCode (partCodes at (c + 1))) ≡ false → found at (c + 1) ≡ none
+    none-after q =
         ap (found at) (add-one c) ∙ not-here c h none-yet code d' (ap (λ n. isMildNot code && anyOf isNotCode (partCodes at n)) (sym (add-one c)) ∙ q)
 
-    pub some-behind : isMildNot code ≡ true → anyOf isNotCode (partCodes at (c + 1)) ≡ true → found at (c + 1) ≡ some (c + 1)
-    some-behind k q =
+    pub some-after : isMildNot code ≡ true → anyOf isNotCode (partCodes at (c + 1)) ≡ true → found at (c + 1) ≡ some (c + 1)
+    some-after k q =
         ap (found at) (add-one c) ∙ found-here c h none-yet code d' k (ap (λ n. anyOf isNotCode (partCodes at n)) (sym (add-one c)) ∙ q) ∙ ap some (sym (add-one c))
 
 -- ---- the whole selection
@@ -159,7 +160,7 @@ module _ (sel : List ℕ) (well : wellFormed (codesOf sel) ≡ true) where
   row = codeAt sel
 
   -- all codes read, the parts are the tree's
-  whole : waitingParts (behind row (size sel) .trees) ≡ parts (treeOf sel)
+  whole : waitingParts (after row (size sel) .trees) ≡ parts (treeOf sel)
   unfolding treeOf waitingParts codesOf topTree
   whole = let P = parsed (codesOf sel) well in rw (P .alone)
 
@@ -175,7 +176,7 @@ module _ (sel : List ℕ) (well : wellFormed (codesOf sel) ≡ true) where
       let allOf = upTo-split row c (size sel) h in
       let f = fitsAll-split (upTo row c) rest 0 0 (ap (λ l. fitsAll l 0 0) (sym allOf) ∙ formed (upTo row (size sel)) well .fit) in
       let g = steps (upTo row c) (fresh 1 1) (f .0) in
-      let r = steps rest (behind row c) (rw (g .lists, g .loose) (f .1)) in
-      let more : waitingParts (behind row (size sel) .trees) ≡ waitingParts (behind row c .trees) ++ r .newer =
+      let r = steps rest (after row c) (rw (g .lists, g .loose) (f .1)) in
+      let more : waitingParts (after row (size sel) .trees) ≡ waitingParts (after row c .trees) ++ r .newer =
       ap (λ l. waitingParts (readAll l (fresh 1 1) .trees)) allOf ∙ ap (λ (s : State). waitingParts (s .trees)) (readAll-append (upTo row c) rest (fresh 1 1)) ∙ r .adds in
-      ap placeIn (sym whole ∙ more) ∙ placeIn-found (waitingParts (behind row c .trees)) (r .newer) place e
+      ap placeIn (sym whole ∙ more) ∙ placeIn-found (waitingParts (after row c .trees)) (r .newer) place e

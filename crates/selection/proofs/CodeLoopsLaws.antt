@@ -9,52 +9,52 @@ use lib.ListN.{drop}
 use borrow.Author.Tests.{eq-eqb, ne-eqb}
 use Rattle.model.specs.declared.Code.{Code}
 use Rattle.model.specs.Lists.{anyOf}
-use Rattle.model.specs.Parts.{isNotCode, stops, needs, back}
+use Rattle.model.specs.Parts.{isNotCode, stops, treesNeeded, scanBack}
 use Rattle.model.specs.Selection.{upTo}
-use Rattle.model.specs.Waiting.{fits, listsBehind, wordsBehind, breakFrom}
+use Rattle.model.specs.Waiting.{fits, listsAfter, wordsAfter, firstMisfitFrom}
 use Rattle.model.proofs.ListsLaws.{any-append}
-use Rattle.model.proofs.PartsLaws.{back-none, back-stop, back-on}
-use Rattle.model.proofs.WaitingLaws.{break-here, break-on, break-end}
+use Rattle.model.proofs.PartsLaws.{scanBack-none, scanBack-stop, scanBack-on}
+use Rattle.model.proofs.WaitingLaws.{misfit-here, misfit-on, misfit-end}
 
 -- ---- the waiting rule
 
 module _ (at : ℕ → Code) (m : ℕ) where
-  abbrev breaks : ℕ → ℕ → ℕ → Option ℕ
-  breaks c w p = breakFrom c (drop c (upTo at m)) w p
+  abbrev misfitAfter : ℕ → ℕ → ℕ → Option ℕ
+  misfitAfter c w p = firstMisfitFrom c (drop c (upTo at m)) w p
 
   module _ (c w p : ℕ) (h : c < m) (code : Code) (e : code ≡ at (c + 1)) where
-    pub breaks-here : fits code w p ≡ false → breaks c w p ≡ some (c + 1)
-    breaks-here f = break-here at m c w p h (ap (λ k. fits k w p) (sym e) ∙ f)
+    pub misfits-here : fits code w p ≡ false → misfitAfter c w p ≡ some (c + 1)
+    misfits-here f = misfit-here at m c w p h (ap (λ k. fits k w p) (sym e) ∙ f)
 
-    pub breaks-on : fits code w p ≡ true → (v q : ℕ) → v ≡ listsBehind code w → q ≡ wordsBehind code p → breaks (c + 1) v q ≡ breaks c w p
-    breaks-on f v q a b =
-        ap₂ (breaks (c + 1)) (a ∙ ap (λ k. listsBehind k w) e) (b ∙ ap (λ k. wordsBehind k p) e)
-        ∙ sym (break-on at m c w p h (ap (λ k. fits k w p) (sym e) ∙ f))
+    pub misfits-on : fits code w p ≡ true → (v q : ℕ) → v ≡ listsAfter code w → q ≡ wordsAfter code p → misfitAfter (c + 1) v q ≡ misfitAfter c w p
+    misfits-on f v q a b =
+        ap₂ (misfitAfter (c + 1)) (a ∙ ap (λ k. listsAfter k w) e) (b ∙ ap (λ k. wordsAfter k p) e)
+        ∙ sym (misfit-on at m c w p h (ap (λ k. fits k w p) (sym e) ∙ f))
 
   module _ (c w p : ℕ) (e : c ≡ m) where
-    ended : breaks c w p ≡ breaks m w p
-    ended = ap (λ k. breaks k w p) e
+    ended : misfitAfter c w p ≡ misfitAfter m w p
+    ended = ap (λ k. misfitAfter k w p) e
 
-    pub breaks-lists : (w ≡ 1 → ⊥) → breaks c w p ≡ some m
-    breaks-lists n = ended ∙ break-end at m w p ∙ rw (ne-eqb w 1 n)
+    pub misfits-lists : (w ≡ 1 → ⊥) → misfitAfter c w p ≡ some m
+    misfits-lists n = ended ∙ misfit-end at m w p ∙ rw (ne-eqb w 1 n)
 
-    pub breaks-words : w ≡ 1 → (p ≡ 0 → ⊥) → breaks c w p ≡ some m
-    breaks-words f n = ended ∙ break-end at m w p ∙ rw (eq-eqb w 1 f, ne-eqb p 0 n)
+    pub misfits-words : w ≡ 1 → (p ≡ 0 → ⊥) → misfitAfter c w p ≡ some m
+    misfits-words f n = ended ∙ misfit-end at m w p ∙ rw (eq-eqb w 1 f, ne-eqb p 0 n)
 
-    pub breaks-none : w ≡ 1 → p ≡ 0 → breaks c w p ≡ none
-    breaks-none f g = ended ∙ break-end at m w p ∙ rw (eq-eqb w 1 f, eq-eqb p 0 g)
+    pub misfits-none : w ≡ 1 → p ≡ 0 → misfitAfter c w p ≡ none
+    misfits-none f g = ended ∙ misfit-end at m w p ∙ rw (eq-eqb w 1 f, eq-eqb p 0 g)
 
 -- ---- the start of a part
 
 module _ (at : ℕ → Code) (c n : ℕ) (h : 0 < c) (code : Code) (e : code ≡ at c) where
-  pub back-here : stops code n ≡ true → c ≡ back at c n
-  back-here s = sym (back-stop at c n h (ap (λ k. stops k n) (sym e) ∙ s))
+  pub scanBack-here : stops code n ≡ true → c ≡ scanBack at c n
+  scanBack-here s = sym (scanBack-stop at c n h (ap (λ k. stops k n) (sym e) ∙ s))
 
-  pub back-before : stops code n ≡ false → (k : ℕ) → k ≡ needs code n → back at (c - 1) k ≡ back at c n
-  back-before s k d = ap (back at (c - 1)) (d ∙ ap (λ x. needs x n) e) ∙ sym (back-on at c n h (ap (λ x. stops x n) (sym e) ∙ s))
+  pub scanBack-before : stops code n ≡ false → (k : ℕ) → k ≡ treesNeeded code n → scanBack at (c - 1) k ≡ scanBack at c n
+  scanBack-before s k d = ap (scanBack at (c - 1)) (d ∙ ap (λ x. treesNeeded x n) e) ∙ sym (scanBack-on at c n h (ap (λ x. stops x n) (sym e) ∙ s))
 
-pub back-zero : (at : ℕ → Code) (c n : ℕ) → c ≡ 0 → 0 ≡ back at c n
-back-zero at c n e = sym (ap (λ k. back at k n) e ∙ back-none at n)
+pub scanBack-zero : (at : ℕ → Code) (c n : ℕ) → c ≡ 0 → 0 ≡ scanBack at c n
+scanBack-zero at c n e = sym (ap (λ k. scanBack at k n) e ∙ scanBack-none at n)
 
 -- ---- a not among the codes of a part, from the last to the first
 

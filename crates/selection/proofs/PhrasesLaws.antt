@@ -4,14 +4,16 @@ use native.Mathlib.Omega.{arith}
 use native.Mathlib.Numerals.{add-one}
 use mathlib.Core.Path.{_≡_, sym, ap, _∙_}
 use mathlib.Core.List.{List, [], _∷_, _++_}
-use lib.Dec.{leb, ltb}
+use lib.Dec.{eqb, leb, ltb}
 use lib.ListN.{length, take, drop}
 use borrow.Author.Tests.{lt-ltb, le-ltb, le-leb, lt-leb}
 use Rattle.model.specs.declared.Code.{Code}
-use Rattle.model.specs.declared.Code.the-variants.{Word, Phrase, Combine, Not, Filter}
+use Rattle.model.specs.Kinds.{isWord, arity}
+use Rattle.model.specs.Parts.{phrasesEnded}
 use Rattle.model.specs.Section.{size}
 use Rattle.model.specs.Selection.{operandAt, upTo}
-use Rattle.selection.specs.Phrases.{isPhrase, phrasesIn, phraseWords}
+use Rattle.selection.specs.Phrases.{phrasesIn, phraseWords}
+use Rattle.model.proofs.TestsLaws.{cond-le}
 
 -- ---- phrasesIn
 
@@ -20,20 +22,16 @@ unfolding phrasesIn
 phrasesIn-append [] ys = omega arith
 phrasesIn-append (x ∷ xs) ys = omega (arith, phrasesIn-append xs ys)
 
-pub isPhrase-le : (c : Code) → isPhrase c ≤ 1
-isPhrase-le (Word w) = omega arith
-isPhrase-le (Phrase k) = omega arith
-isPhrase-le (Combine k) = omega arith
-isPhrase-le Not = omega arith
-isPhrase-le (Filter f) = omega arith
+pub phrasesEnded-le : (c : Code) → phrasesEnded c ≤ 1
+phrasesEnded-le c = cond-le (isWord c) _ _ _ (omega arith) (cond-le (eqb (arity c) 0) _ _ _ (omega arith) (omega arith))
 
 -- one code more
-pub phrasesIn-more : (at : ℕ → Code) (c : ℕ) (code : Code) → code ≡ at (c + 1) → (n k : ℕ) → n ≡ phrasesIn (upTo at c) → k ≡ isPhrase code
+pub phrasesIn-more : (at : ℕ → Code) (c : ℕ) (code : Code) → code ≡ at (c + 1) → (n k : ℕ) → n ≡ phrasesIn (upTo at c) → k ≡ phrasesEnded code
     → n + k ≡ phrasesIn (upTo at (c + 1))
 unfolding phrasesIn upTo
 phrasesIn-more at c code e n k a b =
     let one : c + 1 ≡ suc c = add-one c in
-    let last : isPhrase (at (suc c)) ≡ k = ap (λ d. isPhrase (at d)) (sym one) ∙ ap isPhrase (sym e) ∙ sym b in
+    let last : phrasesEnded (at (suc c)) ≡ k = ap (λ d. phrasesEnded (at d)) (sym one) ∙ ap phrasesEnded (sym e) ∙ sym b in
     sym (ap (λ d. phrasesIn (upTo at d)) one ∙ phrasesIn-append (upTo at c) (at (suc c) ∷ []) ∙ omega (arith, last, a))
 
 -- ---- phraseWords
