@@ -24,10 +24,9 @@ use Rattle.store.specs.Slot.{SlotHolds, SlotAt}
 use Rattle.store.specs.Stack.{Stack}
 use Rattle.store.proofs.Slots.{answer-made, outcome-put, outcome-slot}
 use Rattle.store.proofs.StackLaws.{stack-last, stack-rest, stack-push, stack-built}
-use Rattle.filter_rules.specs.declared.Keeper.{Keeper}
 use Rattle.filter_rules.specs.declared.Rule.{Rule}
-use Rattle.filter_rules.specs.declared.Rule.the-variants.{Window as ByWindow, Keep}
-use Rattle.filter_rules.specs.Keepers.{keeperFilter, filterOf}
+use Rattle.filter_rules.specs.declared.Rule.the-variants.{Window as ByWindow}
+use Rattle.filter_rules.specs.Keepers.{filterOf}
 use Rattle.or_and.specs.TwoSlots.{TwoSlots}
 use Rattle.building.specs.Steps.{NoneTaken, OneTaken, TwoTaken, Fresh, Added}
 
@@ -191,9 +190,9 @@ module _ {f : Filter} {rule : Rule} (e : f ≡ filterOf rule) where
   is-window t = e ∙ ap filterOf t
 
   module _ (s : Section) (ms : List Match) {mem mem' : List ℕ} {at : ℕ} {built : Built} where
+    pub by-rule : {r : Rule} → rule ≡ r → Outcome (filterList s (filterOf r) ms) mem mem' at built → Outcome (filterList s f ms) mem mem' at built
+    by-rule t o = subst (λ (g : Filter). Outcome (filterList s g ms) mem mem' at built) (sym (e ∙ ap filterOf t)) o
+
     pub by-window : {n : ℕ} → rule ≡ ByWindow n → Outcome (flatMap (window n) ms) mem mem' at built → Outcome (filterList s f ms) mem mem' at built
     unfolding filterList
-    by-window t o = subst (λ (g : Filter). Outcome (filterList s g ms) mem mem' at built) (sym (is-window t)) o
-
-    pub by-keeper : {k : Keeper} → rule ≡ Keep k → Outcome (filterList s (keeperFilter k) ms) mem mem' at built → Outcome (filterList s f ms) mem mem' at built
-    by-keeper t o = subst (λ (g : Filter). Outcome (filterList s g ms) mem mem' at built) (sym (e ∙ ap filterOf t)) o
+    by-window t o = by-rule t o

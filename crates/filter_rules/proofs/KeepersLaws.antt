@@ -1,4 +1,4 @@
--- What a filter that keeps a match or drops it gives, by its three things: its definition.
+-- What a keeper gives of a match is, by definition, what its filter gives.
 use mathlib.Core.Path.{_≡_, refl, ap}
 use mathlib.Core.Bool.{false}
 use mathlib.Core.List.{List, [], _∷_, flatMap}
@@ -11,10 +11,11 @@ use Rattle.model.specs.Section.{Section}
 use Rattle.units.specs.declared.Unit.the-variants.{Sentence, Paragraph}
 use Rattle.filter_rules.specs.declared.Keeper.{Keeper}
 use Rattle.filter_rules.specs.declared.Keeper.the-variants.{Ordered, Distance, Same, Different, AtStart, AtEnd, EntireContent}
+use Rattle.filter_rules.specs.declared.Rule.the-variants.{Keep}
 use Rattle.filter_rules.proofs.Keeper.{the-type}
-use Rattle.filter_rules.specs.Keepers.{keeperFilter, keepingOf}
+use Rattle.filter_rules.specs.Keepers.{filterOf, keepingOf}
 
-keeper-match : (s : Section) (k : Keeper) → kept (keepingOf s k) ≡ filterMatch s (keeperFilter k)
+keeper-match : (s : Section) (k : Keeper) → kept (keepingOf s k) ≡ filterMatch s (filterOf (Keep k))
 keeper-match s Ordered = refl
 keeper-match s (Distance a b) = refl
 keeper-match s (Same Sentence) = refl
@@ -25,11 +26,11 @@ keeper-match s AtStart = refl
 keeper-match s AtEnd = refl
 keeper-match s EntireContent = refl
 
-pub keeper-list : (s : Section) (k : Keeper) (ms : List Match) → flatMap (kept (keepingOf s k)) ms ≡ filterList s (keeperFilter k) ms
+pub keeper-list : (s : Section) (k : Keeper) (ms : List Match) → flatMap (kept (keepingOf s k)) ms ≡ filterList s (filterOf (Keep k)) ms
 unfolding filterList
 keeper-list s k ms = ap (λ F. flatMap F ms) (keeper-match s k)
 
--- the tags of all but distance
+-- no filter joins but distance, by their tags
 pub no-join : (s : Section) (k : Keeper) → OneOf (0 ∷ 2 ∷ 3 ∷ 4 ∷ 5 ∷ 6 ∷ []) (tagOf the-type k) → false ≡ keepingOf s k .joins
 no-join s Ordered t = refl
 no-join s (Distance a b) t = absurd (miss (0 ∷ 2 ∷ 3 ∷ 4 ∷ 5 ∷ 6 ∷ []) 1 tt t)

@@ -1,4 +1,4 @@
--- The filters by their rules, in the model's words: the filter that each is, and for one that keeps a match or drops it its three things.
+-- Rules and keepers in the model's words.
 use Rattle.model.specs.declared.Filter.{Filter}
 use Rattle.model.specs.declared.Filter.the-variants as filter
 use Rattle.model.specs.Rules.{Keeping, ordered, distance, same, different, atStart, atEnd, entireContent}
@@ -10,21 +10,20 @@ use Rattle.filter_rules.specs.declared.Keeper.the-variants.{Ordered, Dis
 use Rattle.filter_rules.specs.declared.Rule.{Rule}
 use Rattle.filter_rules.specs.declared.Rule.the-variants.{Window, Keep}
 
-abbrev pub keeperFilter : Keeper → Filter
-keeperFilter Ordered = filter.Ordered
-keeperFilter (Distance a b) = filter.Distance a b
-keeperFilter (Same Sentence) = filter.SameSentence
-keeperFilter (Same Paragraph) = filter.SameParagraph
-keeperFilter (Different Sentence) = filter.DifferentSentence
-keeperFilter (Different Paragraph) = filter.DifferentParagraph
-keeperFilter AtStart = filter.AtStart
-keeperFilter AtEnd = filter.AtEnd
-keeperFilter EntireContent = filter.EntireContent
-
+-- the filter that has the rule
 abbrev pub filterOf : Rule → Filter
 filterOf (Window n) = filter.Window n
-filterOf (Keep k) = keeperFilter k
+filterOf (Keep Ordered) = filter.Ordered
+filterOf (Keep (Distance a b)) = filter.Distance a b
+filterOf (Keep (Same Sentence)) = filter.SameSentence
+filterOf (Keep (Same Paragraph)) = filter.SameParagraph
+filterOf (Keep (Different Sentence)) = filter.DifferentSentence
+filterOf (Keep (Different Paragraph)) = filter.DifferentParagraph
+filterOf (Keep AtStart) = filter.AtStart
+filterOf (Keep AtEnd) = filter.AtEnd
+filterOf (Keep EntireContent) = filter.EntireContent
 
+-- what document 01 says of a filter that keeps a match or drops it
 abbrev pub keepingOf : Section → Keeper → Keeping
 keepingOf s Ordered = ordered
 keepingOf s (Distance a b) = distance a b

@@ -1,2 +1,1 @@
--- The keepers in the model's words.
 pub mod Keepers

@@ -6,7 +6,8 @@ use store::Built;
 ghost use lib.ListN.{length};
 ghost use Rattle.model.specs.AllMatches.{filterList};
 ghost use Rattle.model.specs.Section.{sectionOf};
-ghost use Rattle.filter_rules.specs.Keepers.{keeperFilter};
+ghost use Rattle.filter_rules.specs.declared.Rule.the-variants.{Keep};
+ghost use Rattle.filter_rules.specs.Keepers.{filterOf};
 ghost use Rattle.store.specs.Outcome.{Outcome};
 ghost use Rattle.store.specs.Places.{Under};
 ghost use Rattle.store.specs.Slot.{SlotAt};
@@ -15,7 +16,7 @@ ghost use Rattle.store.specs.Slot.{SlotAt};
 pub fn filter_list(section: &[u32], keeper: Keeper, mem: &mut [u32], src: usize, at: usize) -> Built
     requires { ⌜ SlotAt (now mem) src ⌝ }
     requires { ⌜ Under (length (now mem)) src at ⌝ }
-    ensures { λ r. ⌜ ((w : SlotAt (now (mem .entry)) src) → Outcome (filterList (sectionOf (now (section .entry))) (keeperFilter keeper) (w .list)) (now (mem .entry)) (now (mem .exit)) at r) ⌝ }
+    ensures { λ r. ⌜ ((w : SlotAt (now (mem .entry)) src) → Outcome (filterList (sectionOf (now (section .entry))) (filterOf (Keep keeper)) (w .list)) (now (mem .entry)) (now (mem .exit)) at r) ⌝ }
 {
     let n = mem[src] as usize;
     let mut p = src + 2;

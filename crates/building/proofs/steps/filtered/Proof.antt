@@ -1,6 +1,6 @@
 -- Each rule has a function of its own, and the filter is what its rule says.
 use Rattle.model.specs.Section.{sectionOf}
-use Rattle.building.proofs.StepsLaws.{is-window, by-window, by-keeper}
+use Rattle.building.proofs.StepsLaws.{is-window, by-window, by-rule}
 use borrow.Author.Needs.{needs}
 use Rattle.building.proofs.steps.filtered.Statement.{statement}
 use Rattle.building.proofs.steps.filtered.Tie as tie
@@ -42,7 +42,7 @@ returns-2 c w =
     let b = c .before .before in
     let k = b .before .before .before in
     let f = k .before .before in
-    by-keeper (f .rule-of .ensures) (sectionOf (f .before .before .before .args .section .now)) (w .list) (k .keeper .given .1) (b .filter-list .ensures w)
+    by-rule (f .rule-of .ensures) (sectionOf (f .before .before .before .args .section .now)) (w .list) (k .keeper .given .1) (b .filter-list .ensures w)
 
 pub filtered-spec : {M : Type 1} → statement M
 filtered-spec =
