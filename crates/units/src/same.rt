@@ -44,7 +44,7 @@ pub fn all_in_same(section: &[u32], unit: Unit, strs: &[u32]) -> bool
 {
     let mut i = 0;
     while i + 1 < strs.len() {
-        if !in_same(section, unit, strs, strs[i]) {
+        if !in_unit_of(section, unit, strs[i], strs[0]) {
             return false;
         }
         i += 2;
