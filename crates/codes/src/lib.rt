@@ -6,6 +6,7 @@ use model::Filter;
 use model::Pair;
 use model::RADIX;
 ghost use mathlib.Core.Path.{_≡_};
+ghost use Rattle.model.specs.declared.Code.the-variants.{Combine};
 ghost use Rattle.model.specs.Kinds.{arity, isWord};
 ghost use Rattle.model.specs.Parts.{isMildNot, isNotCode, partsEnded, phrasesEnded};
 ghost use Rattle.model.specs.Selection.{codeAt, codeOf, combinationOf, filterOf};
@@ -126,17 +127,23 @@ pub fn is_not(code: Code) -> bool
     }
 }
 
+pub fn is_mild(pair: Pair) -> bool
+    ensures { λ r. ⌜ r ≡ isMildNot (Combine pair) ⌝ }
+{
+    match pair {
+        Pair::Or => false,
+        Pair::And => false,
+        Pair::MildNot => true,
+    }
+}
+
 pub fn is_mild_not(code: Code) -> bool
     ensures { λ r. ⌜ r ≡ isMildNot code ⌝ }
 {
     match code {
         Code::Word(_) => false,
         Code::Phrase(_) => false,
-        Code::Combine(pair) => match pair {
-            Pair::Or => false,
-            Pair::And => false,
-            Pair::MildNot => true,
-        },
+        Code::Combine(pair) => is_mild(pair),
         Code::Not => false,
         Code::Filter(_) => false,
     }

@@ -28,7 +28,12 @@ fn trees_needed(code: Code, trees: usize) -> usize
     if codes::is_word(code) {
         return trees;
     }
-    trees + codes::lists_taken(code) - 1
+    let taken = codes::lists_taken(code);
+    // a phrase is a tree found; before another code the last of its lists' trees takes its place
+    if taken == 0 {
+        return trees - 1;
+    }
+    trees + (taken - 1)
 }
 
 // How many codes stand before the part that ends at a place.

@@ -77,7 +77,7 @@ fn walk_part(section: &[u32], selection: &[u32], work: &mut [u32], hi: u32) -> u
                 place -= 1;
             }
             Code::Combine(pair) => {
-                if codes::is_mild_not(code) {
+                if codes::is_mild(pair) {
                     let answer = answer_leaf(section, selection, work, place);
                     return answers::passed_up(answer, turned, codes);
                 }

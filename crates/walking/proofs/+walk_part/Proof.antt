@@ -28,7 +28,7 @@ use Rattle.selection.proofs.parts.part_start.Reads as part-start-reads
 use Rattle.walking.proofs.answer_leaf.Reads as answer-leaf-reads
 use Rattle.walking.proofs.answers.codes_in.Reads as codes-in-reads
 use Rattle.walking.proofs.answers.decides.Reads as decides-reads
-use Rattle.codes.proofs.is_mild_not.Reads as is-mild-not-reads
+use Rattle.codes.proofs.is_mild.Reads as is-mild-reads
 use Rattle.walking.proofs.answers.passed_up.Reads as passed-up-reads
 use Rattle.walking.proofs.+walk_part.{statement}
 use Rattle.walking.proofs.+walk_part.Tie.{close}
@@ -47,8 +47,8 @@ abbrev claims : ℕ → walk-part-lts.Claims
 claims t = (
   code-at-reads.Asked,
   code-at-reads.Learnt,
-  is-mild-not-reads.Asked,
-  is-mild-not-reads.Learnt,
+  is-mild-reads.Asked,
+  is-mild-reads.Learnt,
   answer-leaf-reads.Asked,
   answer-leaf-reads.Learnt,
   passed-up-reads.Asked,
@@ -88,7 +88,7 @@ module _ (t : ℕ) (a : walk-part-lts.After-code-at (claims t) (walk-part-at t) 
   abbrev Answers : ℕ → Type 0
   Answers r = (w : Whole) → answerOf r ≡ walk (sectionOf (entry .args .section .now)) (going w .here .part .tree)
 
-module _ (t : ℕ) (m : walk-part-lts.After-is-mild-not (claims t) (walk-part-at t) walk-part.Post Inv-loop μ-loop) where
+module _ (t : ℕ) (m : walk-part-lts.After-is-mild (claims t) (walk-part-at t) walk-part.Post Inv-loop μ-loop) where
   abbrev at-code : walk-part-lts.After-code-at (claims t) (walk-part-at t) walk-part.Post Inv-loop μ-loop
   at-code = m .before .before .before .before
 
@@ -101,7 +101,7 @@ mild : (t : ℕ) (k : walk-part-lts.After-answer-leaf (claims t) (walk-part-at t
 mild t k w =
     let m = k .before .before .before in
     let code-is = sym (at-code t m .code-at .ensures) ∙ m .before .before .code .given .1 in
-    k .answer-leaf .ensures (going t (at-code t m) w .here) (ap goesInto code-is ∙ ap not (sym (m .is-mild-not .ensures) ∙ k .before .before .if1 .taken))
+    k .answer-leaf .ensures (going t (at-code t m) w .here) (ap goesInto code-is ∙ ap not (sym (m .is-mild .ensures) ∙ k .before .before .if1 .taken))
 
 -- a phrase, a filter
 other : (t : ℕ) (k : walk-part-lts.After-answer-leaf2 (claims t) (walk-part-at t) walk-part.Post Inv-loop μ-loop)
@@ -116,7 +116,7 @@ module _ (t : ℕ) (p : walk-part-lts.After-part-start (claims t) (walk-part-at 
   code = at-code t (p .before .before)
 
   plain : isMildNot (Combine (combination t (p .before .before))) ≡ false
-  plain = sym (p .before .before .is-mild-not .ensures) ∙ p .before .if1 .left
+  plain = sym (p .before .before .is-mild .ensures) ∙ p .before .if1 .left
 
   sides-of : (w : Whole t code)
       → PairAt (codeAt (entry t code .args .selection .now)) (code .before .loop .place) (p .part-start .result) (combination t (p .before .before)) (going t code w .here .part .tree)
@@ -162,8 +162,8 @@ walk-part-loop-again t c =
 walk-part-enum-known-code : (t : ℕ) → walk-part-lts.Need-enum-known-code (claims t) (walk-part-at t) walk-part.Post Inv-loop μ-loop
 walk-part-enum-known-code t c = search needs
 
-walk-part-is-mild-not-requires : (t : ℕ) → walk-part-lts.Need-is-mild-not-requires (claims t) (walk-part-at t) walk-part.Post Inv-loop μ-loop
-walk-part-is-mild-not-requires t c κs = search needs
+walk-part-is-mild-requires : (t : ℕ) → walk-part-lts.Need-is-mild-requires (claims t) (walk-part-at t) walk-part.Post Inv-loop μ-loop
+walk-part-is-mild-requires t c κs = search needs
 
 walk-part-answer-leaf-requires : (t : ℕ) → walk-part-lts.Need-answer-leaf-requires (claims t) (walk-part-at t) walk-part.Post Inv-loop μ-loop
 walk-part-answer-leaf-requires t c κs = let a = at-code t (c .before .before) in going t a (own t a) .here
@@ -278,7 +278,7 @@ pub +walk-part-spec : {M : Type 1} → statement M
     (walk-part-loop-less t)
     (walk-part-loop-again t)
     (walk-part-enum-known-code t)
-    (walk-part-is-mild-not-requires t)
+    (walk-part-is-mild-requires t)
     (walk-part-answer-leaf-requires t)
     (walk-part-passed-up-requires t)
     (walk-part-same-length t)
