@@ -6,8 +6,7 @@ use model::Filter;
 use model::Pair;
 use model::RADIX;
 ghost use mathlib.Core.Path.{_≡_};
-ghost use Rattle.model.specs.declared.Code.the-variants.{Combine};
-ghost use Rattle.model.specs.Kinds.{arity, isWord};
+ghost use Rattle.model.specs.Kinds.{aPair, arity, isWord, shapeOf};
 ghost use Rattle.model.specs.Parts.{isMildNot, isNotCode, partsEnded, phrasesEnded};
 ghost use Rattle.model.specs.Selection.{codeAt, codeOf, combinationOf, filterOf};
 
@@ -68,7 +67,7 @@ pub fn code_at(selection: &[u32], place: u32) -> Code
 }
 
 pub fn is_word(code: Code) -> bool
-    ensures { λ r. ⌜ r ≡ isWord code ⌝ }
+    ensures { λ r. ⌜ r ≡ isWord (shapeOf code) ⌝ }
 {
     match code {
         Code::Word(_) => true,
@@ -81,7 +80,7 @@ pub fn is_word(code: Code) -> bool
 
 // How many lists a code takes.
 pub fn lists_taken(code: Code) -> usize
-    ensures { λ r. ⌜ r ≡ arity code ⌝ }
+    ensures { λ r. ⌜ r ≡ arity (shapeOf code) ⌝ }
 {
     match code {
         Code::Word(_) => 0,
@@ -94,7 +93,7 @@ pub fn lists_taken(code: Code) -> usize
 
 // One for every code other than a word.
 pub fn parts_ended(code: Code) -> u32
-    ensures { λ r. ⌜ r ≡ partsEnded code ⌝ }
+    ensures { λ r. ⌜ r ≡ partsEnded (shapeOf code) ⌝ }
 {
     if is_word(code) {
         return 0;
@@ -104,7 +103,7 @@ pub fn parts_ended(code: Code) -> u32
 
 // One for a phrase, none for another code.
 pub fn phrases_ended(code: Code) -> u32
-    ensures { λ r. ⌜ r ≡ phrasesEnded code ⌝ }
+    ensures { λ r. ⌜ r ≡ phrasesEnded (shapeOf code) ⌝ }
 {
     if is_word(code) {
         return 0;
@@ -116,7 +115,7 @@ pub fn phrases_ended(code: Code) -> u32
 }
 
 pub fn is_not(code: Code) -> bool
-    ensures { λ r. ⌜ r ≡ isNotCode code ⌝ }
+    ensures { λ r. ⌜ r ≡ isNotCode (shapeOf code) ⌝ }
 {
     match code {
         Code::Word(_) => false,
@@ -128,7 +127,7 @@ pub fn is_not(code: Code) -> bool
 }
 
 pub fn is_mild(pair: Pair) -> bool
-    ensures { λ r. ⌜ r ≡ isMildNot (Combine pair) ⌝ }
+    ensures { λ r. ⌜ r ≡ isMildNot (aPair pair) ⌝ }
 {
     match pair {
         Pair::Or => false,
@@ -138,7 +137,7 @@ pub fn is_mild(pair: Pair) -> bool
 }
 
 pub fn is_mild_not(code: Code) -> bool
-    ensures { λ r. ⌜ r ≡ isMildNot code ⌝ }
+    ensures { λ r. ⌜ r ≡ isMildNot (shapeOf code) ⌝ }
 {
     match code {
         Code::Word(_) => false,

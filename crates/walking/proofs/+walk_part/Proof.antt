@@ -5,11 +5,11 @@ use mathlib.Core.Bool.{false, not}
 use mathlib.Core.Path.{_≡_, refl, sym, ap, _∙_}
 use lib.ListN.{length}
 use Prim.Native.Nat.{_-_, _≤_}
-use Rattle.model.specs.declared.Code.the-variants.{Combine}
+use Rattle.model.specs.declared.Code.{Code}
 use Rattle.model.specs.declared.Pair.{Pair}
+use Rattle.model.specs.Kinds.{aPair, shapeOf, shapeAt}
 use Rattle.model.specs.Parts.{isMildNot}
 use Rattle.model.specs.Section.{sectionOf}
-use Rattle.model.specs.Selection.{codeAt}
 use Rattle.model.specs.Walk.{walk}
 use Rattle.model.proofs.PartsLaws.{PairAt, start-le}
 use Rattle.walking.specs.Steps.{answerOf, goesInto}
@@ -100,7 +100,7 @@ mild : (t : ℕ) (k : walk-part-lts.After-answer-leaf (claims t) (walk-part-at t
     → Answers t (at-code t (k .before .before .before)) (k .answer-leaf .result)
 mild t k w =
     let m = k .before .before .before in
-    let code-is = sym (at-code t m .code-at .ensures) ∙ m .before .before .code .given .1 in
+    let code-is = ap shapeOf (sym (at-code t m .code-at .ensures) ∙ m .before .before .code .given .1) in
     k .answer-leaf .ensures (going t (at-code t m) w .here) (ap goesInto code-is ∙ ap not (sym (m .is-mild .ensures) ∙ k .before .before .if1 .taken))
 
 -- a phrase, a filter
@@ -108,24 +108,24 @@ other : (t : ℕ) (k : walk-part-lts.After-answer-leaf2 (claims t) (walk-part-at
     → Answers t (k .before .before .before) (k .answer-leaf2 .result)
 other t k w =
     let m = k .before .before in
-    k .answer-leaf2 .ensures (going t (m .before) w .here) (ap goesInto (sym (m .before .code-at .ensures)) ∙ leaf-code (m .before .code-at .result) (m .match .keys3))
+    k .answer-leaf2 .ensures (going t (m .before) w .here) (ap (λ (x : Code). goesInto (shapeOf x)) (sym (m .before .code-at .ensures)) ∙ leaf-code (m .before .code-at .result) (m .match .keys3))
 
 -- the sides of an or, of an and
 module _ (t : ℕ) (p : walk-part-lts.After-part-start (claims t) (walk-part-at t) walk-part.Post Inv-loop μ-loop) where
   abbrev code : walk-part-lts.After-code-at (claims t) (walk-part-at t) walk-part.Post Inv-loop μ-loop
   code = at-code t (p .before .before)
 
-  plain : isMildNot (Combine (combination t (p .before .before))) ≡ false
+  plain : isMildNot (aPair (combination t (p .before .before))) ≡ false
   plain = sym (p .before .before .is-mild .ensures) ∙ p .before .if1 .left
 
   sides-of : (w : Whole t code)
-      → PairAt (codeAt (entry t code .args .selection .now)) (code .before .loop .place) (p .part-start .result) (combination t (p .before .before)) (going t code w .here .part .tree)
+      → PairAt (shapeAt (entry t code .args .selection .now)) (code .before .loop .place) (p .part-start .result) (combination t (p .before .before)) (going t code w .here .part .tree)
   sides-of w = sides (going t code w .here) (code .code-at .ensures) (p .before .before .before .before .code .given .1) (p .part-start .ensures)
 
   mid-before : p .part-start .result < code .before .loop .place
   mid-before =
       let here = going t code (own t code) .here in
-      omega (arith, p .part-start .ensures, start-le (codeAt (entry t code .args .selection .now)) (code .before .loop .place - 1), some-codes here)
+      omega (arith, p .part-start .ensures, start-le (shapeAt (entry t code .args .selection .now)) (code .before .loop .place - 1), some-codes here)
 
   left-walkable : (w : Whole t code) → Walkable (entry t code .args .section .now) (entry t code .args .selection .now) (code .before .loop .work) (p .part-start .result)
   left-walkable w = below _ (going t code w .here) (sides-of w .left) (omega (arith, mid-before)) refl
