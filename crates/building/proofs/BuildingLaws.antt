@@ -15,7 +15,7 @@ use Rattle.model.specs.Accepted.{maxPhrases}
 use Rattle.model.specs.AllMatches.{allMatches}
 use Rattle.model.specs.AllStrings.{Every, RanksUpTo}
 use Rattle.model.specs.Checks.{refusal}
-use Rattle.model.specs.Kinds.{arity}
+use Rattle.model.specs.Kinds.{Shape, shapeOf, arity, shapeAt}
 use Rattle.model.specs.Limits.{maxWaiting}
 use Rattle.model.specs.Lists.{first}
 use Rattle.model.specs.Parts.{partEndedBy, phrasesEnded, rankAfter, stateAt, waitingParts}
@@ -44,7 +44,7 @@ use Rattle.building.proofs.WordsLaws.{Loose, loose-state, phrase-words,
 module _ {section sel mem₀ : List ℕ} {lo hi rank : ℕ} (w : Buildable section sel mem₀ lo hi rank) where
   -- what waits after the first n codes of the part
   abbrev pub waitsAfter : ℕ → State
-  waitsAfter n = stateAt (codeAt sel) lo (rankAfter (w .part .below)) n
+  waitsAfter n = stateAt (shapeAt sel) lo (rankAfter (w .part .below)) n
 
   pub record Going (mem : List ℕ) (lists next c : ℕ) : Type 0 where
     pub n : ℕ
@@ -56,11 +56,11 @@ module _ {section sel mem₀ : List ℕ} {lo hi rank : ℕ} (w : Buildable secti
     pub rank-is : next ≡ waitsAfter n .rank
     pub fine : firstTooLong (sectionOf section) (waitingParts (waitsAfter n .trees)) ≡ none
 
-  fits-next : (n : ℕ) → n < hi - lo → Fits (codeAt sel (lo + suc n)) (waitsAfter n)
-  fits-next = built-fits (codeAt sel) hi lo (w .part) (w .lo-is) (part-formed sel (w .in-selection) hi (w .part) (w .up-to))
+  fits-next : (n : ℕ) → n < hi - lo → Fits (shapeAt sel (lo + suc n)) (waitsAfter n)
+  fits-next = built-fits (shapeAt sel) hi lo (w .part) (w .lo-is) (part-formed sel (w .in-selection) hi (w .part) (w .up-to))
 
   pub lo-le : lo ≤ hi
-  lo-le = omega (arith, w .lo-is, start-le (codeAt sel) hi)
+  lo-le = omega (arith, w .lo-is, start-le (shapeAt sel) hi)
 
   pub start : Going mem₀ 0 rank lo
   unfolding stateAt Stack firstTooLong first waitingParts
@@ -71,7 +71,7 @@ module _ {section sel mem₀ : List ℕ} {lo hi rank : ℕ} (w : Buildable secti
     -- no rank is out of range
     pub rank-few : next ≤ size sel + size sel + 1
     rank-few =
-        omega (arith, g .rank-is, rank-state (codeAt sel) lo (rankAfter (w .part .below)) (g .n), phrases-below (w .part .below), part-below (codeAt sel) hi lo (w .part) (w .lo-is), lo-le, w .up-to, g .here, g .up-to)
+        omega (arith, g .rank-is, rank-state (shapeAt sel) lo (rankAfter (w .part .below)) (g .n), phrases-below (w .part .below), part-below (shapeAt sel) hi lo (w .part) (w .lo-is), lo-le, w .up-to, g .here, g .up-to)
 
     pub lists-few : c < hi → lists ≤ maxWaiting
     lists-few h = omega (arith, g .count, fits-next (g .n) (omega (arith, g .here)) .few-trees)
@@ -81,67 +81,71 @@ module _ {section sel mem₀ : List ℕ} {lo hi rank : ℕ} (w : Buildable secti
       place-next : c' ≡ lo + suc (g .n)
       place-next = omega (arith, g .here)
 
-      code-next : code ≡ codeAt sel (lo + suc (g .n))
-      code-next = e ∙ ap (codeAt sel) place-next
+      shape-next : shapeOf code ≡ shapeAt sel (lo + suc (g .n))
+      shape-next = ap shapeOf (e ∙ ap (codeAt sel) place-next)
 
       inside : g .n < hi - lo
       inside = omega (arith, g .here)
 
-      fits-here : fits code (length (waitsAfter (g .n) .trees)) (length (waitsAfter (g .n) .words)) ≡ true
-      fits-here = ap (λ (x : Code). fits x (length (waitsAfter (g .n) .trees)) (length (waitsAfter (g .n) .words))) code-next ∙ fits-next (g .n) inside .here
+      fits-here : fits (shapeOf code) (length (waitsAfter (g .n) .trees)) (length (waitsAfter (g .n) .words)) ≡ true
+      fits-here = ap (λ (x : Shape). fits x (length (waitsAfter (g .n) .trees)) (length (waitsAfter (g .n) .words))) shape-next ∙ fits-next (g .n) inside .here
 
-      pub lists-found : arity code ≤ lists
-      lists-found = omega (arith, g .count, fit-of code (length (waitsAfter (g .n) .trees)) (length (waitsAfter (g .n) .words)) fits-here .finds)
+      pub lists-found : arity (shapeOf code) ≤ lists
+      lists-found = omega (arith, g .count, fit-of (shapeOf code) (length (waitsAfter (g .n) .trees)) (length (waitsAfter (g .n) .words)) fits-here .finds)
 
-      words-here : (k : ℕ) → code ≡ Phrase k → phraseWords sel c' ≡ waitsAfter (g .n) .words
+      pub words-here : (k : ℕ) → code ≡ Phrase k → phraseWords sel c' ≡ waitsAfter (g .n) .words
       words-here k q =
           let ws = waitsAfter (g .n) .words in
           let ts = waitsAfter (g .n) .trees in
-          let f : (eqb (length ws) k && ltb (length ts) maxWaiting) ≡ true = ap (λ (x : Code). fits x (length ts) (length ws)) (sym q) ∙ fits-here in
+          let f : (eqb (length ws) k && ltb (length ts) maxWaiting) ≡ true = ap (λ (x : Code). fits (shapeOf x) (length ts) (length ws)) (sym q) ∙ fits-here in
           let l = eqb-true (length ws) k (both-true (eqb (length ws) k) (ltb (length ts) maxWaiting) f .0) in
           let loose = loose-state sel (w .in-selection) lo (rankAfter (w .part .below)) (g .n) (omega (arith, w .up-to, g .here)) (λ i j. fits-next i (omega (arith, inside))) in
           phrase-words sel (w .in-selection) c' (omega arith) (omega (arith, w .up-to)) k ws (sym e ∙ q) l (subst (λ (i : ℕ). Loose sel i ws) (sym place-next) loose)
 
-      ranks-here : Every (RanksUpTo maxPhrases) (read code (waitsAfter (g .n)) .trees)
+      ranks-here : Every (RanksUpTo maxPhrases) (read (shapeOf code) (waitsAfter (g .n)) .trees)
       unfolding stateAt
       ranks-here =
-          subst (λ (x : Code). Every (RanksUpTo maxPhrases) (read x (waitsAfter (g .n)) .trees)) (sym code-next)
+          subst (λ (x : Shape). Every (RanksUpTo maxPhrases) (read x (waitsAfter (g .n)) .trees)) (sym shape-next)
           (ranks-state sel (w .in-selection) hi (w .part) (w .up-to) lo (w .lo-is) (suc (g .n)) inside)
 
       -- it fits where it stands
-      pub waits-facts : Waits section sel mem code (waitsAfter (g .n)) c' next lists
+      pub waits-facts : Waits section mem (shapeOf code) (waitsAfter (g .n)) c' next lists
       waits-facts =
           record {
             accepted = w .in-section;
             stack = g .stack;
             count = g .count;
-            place-is = place-next ∙ sym (place-state (codeAt sel) lo (rankAfter (w .part .below)) (g .n));
+            place-is = place-next ∙ sym (place-state (shapeAt sel) lo (rankAfter (w .part .below)) (g .n));
             rank-is = g .rank-is;
             here = fits-here;
             few-trees = fits-next (g .n) inside .few-trees;
             few-words = fits-next (g .n) inside .few-words;
             ranks = ranks-here;
-            words = words-here;
-            window = λ n q. window-size sel (w .in-selection) c' (omega arith) (omega (arith, w .up-to)) n (sym e ∙ q);
             room = omega (arith, w .room, g .long);
           }
 
       unfoldable pub waits-next : WaitsAt section sel mem code c' next lists
-      waits-next = record { state = waitsAfter (g .n); waits = waits-facts }
+      waits-next =
+          record {
+            state = waitsAfter (g .n);
+            waits = waits-facts;
+            words = words-here;
+            window = λ n q. window-size sel (w .in-selection) c' (omega arith) (omega (arith, w .up-to)) n (sym e ∙ q);
+          }
 
-      module _ {mem' : List ℕ} {built : Built} (f : (v : WaitsAt section sel mem code c' next lists) → AfterCode (sectionOf section) code (v .state) c' mem' built) where
-        after : AfterCode (sectionOf section) (codeAt sel (lo + suc (g .n))) (waitsAfter (g .n)) c' mem' built
+      module _ {mem' : List ℕ} {built : Built} (f : (v : WaitsAt section sel mem code c' next lists) → AfterCode (sectionOf section) (shapeOf code) (v .state) c' mem' built) where
+        after : AfterCode (sectionOf section) (shapeAt sel (lo + suc (g .n))) (waitsAfter (g .n)) c' mem' built
         unfolding waits-next
-        after = subst (λ (x : Code). AfterCode (sectionOf section) x (waitsAfter (g .n)) c' mem' built) code-next (f waits-next)
+        after = subst (λ (x : Shape). AfterCode (sectionOf section) x (waitsAfter (g .n)) c' mem' built) shape-next (f waits-next)
 
         -- the parts that end so far, with the code's own
-        found : (o : Option ℕ) → firstTooLong (sectionOf section) (partEndedBy (codeAt sel (lo + suc (g .n))) (waitsAfter (suc (g .n)) .trees)) ≡ o
+        found : (o : Option ℕ) → firstTooLong (sectionOf section) (partEndedBy (shapeAt sel (lo + suc (g .n))) (waitsAfter (suc (g .n)) .trees)) ≡ o
             → firstTooLong (sectionOf section) (waitingParts (waitsAfter (suc (g .n)) .trees)) ≡ o
         unfolding stateAt orElse
         found o q =
             let S = sectionOf section in
             let s = waitsAfter (g .n) in
-            let x = codeAt sel (lo + suc (g .n)) in
+            let x = shapeAt sel (lo + suc (g .n)) in
             let more = step x (s .trees) (s .words) (s .place) (s .rank) (fits-next (g .n) inside .here) .adds in
             ap (firstTooLong S) more ∙ firstTooLong-append S (waitingParts (s .trees)) (partEndedBy x (read x s .trees)) ∙ ap₂ orElse (g .fine) q
 
@@ -151,15 +155,15 @@ module _ {section sel mem₀ : List ℕ} {lo hi rank : ℕ} (w : Buildable secti
         refuse t =
             let S = sectionOf section in
             let ts = waitsAfter (suc (g .n)) .trees in
-            let b = built-parts (codeAt sel) hi lo (w .part) (w .lo-is) (part-formed sel (w .in-selection) hi (w .part) (w .up-to)) (suc (g .n)) inside in
+            let b = built-parts (shapeAt sel) hi lo (w .part) (w .lo-is) (part-formed sel (w .in-selection) hi (w .part) (w .up-to)) (suc (g .n)) inside in
             ap (firstTooLong S) (b .1) ∙ firstTooLong-append S (waitingParts ts) (b .0) ∙ ap (λ (o : Option ℕ). orElse o (firstTooLong S (b .0))) (found (some c') (after .long t))
 
         -- its list waits: the next code
-        pub go-on : {m s lists' next' : ℕ} → built ≡ Made m s → length mem' ≡ length mem → lists' ≡ listsAfter code lists → next' ≡ next + phrasesEnded code → Going mem' lists' next' c'
+        pub go-on : {m s lists' next' : ℕ} → built ≡ Made m s → length mem' ≡ length mem → lists' ≡ listsAfter (shapeOf code) lists → next' ≡ next + phrasesEnded (shapeOf code) → Going mem' lists' next' c'
         unfolding stateAt
         go-on {m} {s} {lists'} {next'} b l i j =
             let z = waitsAfter (g .n) in
-            let x = codeAt sel (lo + suc (g .n)) in
+            let x = shapeAt sel (lo + suc (g .n)) in
             let more = step x (z .trees) (z .words) (z .place) (z .rank) (fits-next (g .n) inside .here) in
             record {
               n = suc (g .n);
@@ -167,8 +171,8 @@ module _ {section sel mem₀ : List ℕ} {lo hi rank : ℕ} (w : Buildable secti
               up-to = omega arith;
               long = l ∙ g .long;
               stack = after .stack m s b;
-              count = i ∙ ap₂ listsAfter code-next (g .count) ∙ sym (more .lists);
-              rank-is = j ∙ ap₂ (λ (k : ℕ) (y : Code). k + phrasesEnded y) (g .rank-is) code-next ∙ sym (rank-read x z);
+              count = i ∙ ap₂ listsAfter shape-next (g .count) ∙ sym (more .lists);
+              rank-is = j ∙ ap₂ (λ (k : ℕ) (y : Shape). k + phrasesEnded y) (g .rank-is) shape-next ∙ sym (rank-read x z);
               fine = found none (after .fine m s b);
             }
 
@@ -177,7 +181,7 @@ module _ {section sel mem₀ : List ℕ} {lo hi rank : ℕ} (w : Buildable secti
       state-end : waitsAfter (g .n) .trees ≡ w .part .tree ∷ []
       state-end =
           let e : g .n ≡ hi - lo = omega (arith, g .here, g .up-to) in
-          ap (λ (i : ℕ). waitsAfter i .trees) e ∙ ap (λ (s : State). s .trees) (built-tree (codeAt sel) hi lo (w .part) (w .lo-is))
+          ap (λ (i : ℕ). waitsAfter i .trees) e ∙ ap (λ (s : State). s .trees) (built-tree (shapeAt sel) hi lo (w .part) (w .lo-is))
 
       pub end-slot : SlotHolds mem 0 (allMatches (sectionOf section) (w .part .tree))
       end-slot =

@@ -5,15 +5,14 @@ use mathlib.Core.Path.{_≡_, refl, sym, ap, _∙_, subst}
 use mathlib.Core.Bool.{true}
 use mathlib.Core.List.{List, [], _∷_, _++_}
 use lib.ListN.{length, length-append}
-use Rattle.model.specs.declared.Code.{Code}
-use Rattle.model.specs.declared.Code.the-variants.{Word, Phrase, Combine, Not, Filter as Filtered}
 use Rattle.model.specs.Accepted.{AcceptedSelection, maxPhrases}
 use Rattle.model.specs.AllStrings.{Every, EveryPhrase, RankUpTo, RanksUpTo}
+use Rattle.model.specs.Kinds.{Shape, aWord, aPhrase, aPair, aChange, shapeAt, shapesOf}
 use Rattle.model.specs.Parts.{PartAt, partStart, phrases, phrasesAll, phrasesEnded, postfix, rankAfter, codesOfTrees, stateAt}
 use Rattle.model.specs.Parts.{fitsAll, listsAll, waitingParts, wellFormed}
 use Rattle.model.specs.Section.{size}
-use Rattle.model.specs.Selection.{codeAt, codesOf, upTo}
-use Rattle.model.specs.Trees.{Tree, phrase, pair, negation, filter, State, read, readAll, fresh, parts, topTree, treeOf}
+use Rattle.model.specs.Selection.{upTo}
+use Rattle.model.specs.Trees.{Tree, phrase, pair, change, State, read, readAll, fresh, parts, topTree, treeOf}
 use Rattle.model.proofs.BuildLaws.{built-parts}
 use Rattle.model.proofs.EveryLaws.{every-append}
 use Rattle.model.proofs.PartsLaws.{part-read, part-well}
@@ -37,8 +36,7 @@ module _ (P : ℕ → List ℕ → Type 0) where
   every-parts (phrase c r ws) a = (a, tt)
   every-parts (pair k c t u) a =
       every-append _ (parts t ++ parts u) (pair k c t u ∷ []) (every-append _ (parts t) (parts u) (every-parts t (a .0)) (every-parts u (a .1))) (a, tt)
-  every-parts (negation c t) a = every-append _ (parts t) (negation c t ∷ []) (every-parts t a) (a, tt)
-  every-parts (filter f c t) a = every-append _ (parts t) (filter f c t ∷ []) (every-parts t a) (a, tt)
+  every-parts (change k c t) a = every-append _ (parts t) (change k c t ∷ []) (every-parts t a) (a, tt)
 
 module _ (Q : Tree → Type 0) where
   -- a tree is the last of its parts
@@ -58,36 +56,36 @@ module _ (Q : Tree → Type 0) where
 
 -- ---- a part of a selection, and the trees that wait while it is built
 
-module _ (sel : List ℕ) (a : AcceptedSelection sel) (hi : ℕ) (w : PartAt (codeAt sel) hi) (up-to : hi ≤ size sel) where
+module _ (sel : List ℕ) (a : AcceptedSelection sel) (hi : ℕ) (w : PartAt (shapeAt sel) hi) (up-to : hi ≤ size sel) where
   pub part-formed : wellFormed (postfix (w .tree)) ≡ true
-  unfolding codesOf
-  part-formed = part-well (codeAt sel) hi w (size sel) (a .well) up-to
+  unfolding shapesOf
+  part-formed = part-well (shapeAt sel) hi w (size sel) (a .well) up-to
 
   ranks-part : RanksUpTo maxPhrases (w .tree)
-  unfolding treeOf topTree codesOf waitingParts codesOfTrees
+  unfolding treeOf topTree shapesOf waitingParts codesOfTrees
   ranks-part =
-      let at = codeAt sel in
+      let at = shapeAt sel in
       let F = upTo at hi in
       let R = upTo (λ i. at (hi + i)) (size sel - hi) in
       let s = fresh 1 1 in
-      let codes : codesOf sel ≡ F ++ R = upTo-split at hi (size sel) up-to in
-      let f = fitsAll-split F R 0 0 (ap (λ (l : List Code). fitsAll l 0 0) (sym codes) ∙ formed (codesOf sel) (a .well) .fit) in
+      let codes : shapesOf sel ≡ F ++ R = upTo-split at hi (size sel) up-to in
+      let f = fitsAll-split F R 0 0 (ap (λ (l : List Shape). fitsAll l 0 0) (sym codes) ∙ formed (shapesOf sel) (a .well) .fit) in
       let g = steps F s (f .0) in
       let r = steps R (readAll F s) (rw (g .lists, g .loose) (f .1)) in
-      let P = parsed (codesOf sel) (a .well) in
-      let whole : waitingParts (readAll (codesOf sel) s .trees) ≡ parts (treeOf sel) = ap waitingParts (P .alone) ∙ ap parts (sym (ap topTree (P .alone))) in
+      let P = parsed (shapesOf sel) (a .well) in
+      let whole : waitingParts (readAll (shapesOf sel) s .trees) ≡ parts (treeOf sel) = ap waitingParts (P .alone) ∙ ap parts (sym (ap topTree (P .alone))) in
       let is : parts (treeOf sel) ≡ waitingParts (readAll F s .trees) ++ r .newer =
-      sym whole ∙ ap (λ (l : List Code). waitingParts (readAll l s .trees)) codes ∙ ap (λ (z : State). waitingParts (z .trees)) (readAll-append F R s) ∙ r .adds in
+      sym whole ∙ ap (λ (l : List Shape). waitingParts (readAll l s .trees)) codes ∙ ap (λ (z : State). waitingParts (z .trees)) (readAll-append F R s) ∙ r .adds in
       let every = subst (Every (RanksUpTo maxPhrases)) is (every-parts (RankUpTo maxPhrases) (treeOf sel) (a .ranks)) in
-      let lists = ap (λ (l : List Code). listsAll l 0) (w .spells) ∙ listsAll-append (codesOfTrees (w .below)) (postfix (w .tree)) 0 ∙ part-lists (w .tree) (listsAll (codesOfTrees (w .below)) 0) in
+      let lists = ap (λ (l : List Shape). listsAll l 0) (w .spells) ∙ listsAll-append (codesOfTrees (w .below)) (postfix (w .tree)) 0 ∙ part-lists (w .tree) (listsAll (codesOfTrees (w .below)) 0) in
       let some : 1 ≤ length (readAll F s .trees) = omega (arith, g .lists, lists) in
       let waiting = every-waiting (RanksUpTo maxPhrases) (readAll F s .trees) (every-split (RanksUpTo maxPhrases) (waitingParts (readAll F s .trees)) (r .newer) every .0) in
       subst (RanksUpTo maxPhrases) (part-read at hi w) (every-top (RanksUpTo maxPhrases) (readAll F s .trees) some waiting)
 
-  pub ranks-state : (lo : ℕ) → lo ≡ partStart (codeAt sel) hi → (n : ℕ) → n ≤ hi - lo → Every (RanksUpTo maxPhrases) (stateAt (codeAt sel) lo (rankAfter (w .below)) n .trees)
+  pub ranks-state : (lo : ℕ) → lo ≡ partStart (shapeAt sel) hi → (n : ℕ) → n ≤ hi - lo → Every (RanksUpTo maxPhrases) (stateAt (shapeAt sel) lo (rankAfter (w .below)) n .trees)
   ranks-state lo e n h =
-      let b = built-parts (codeAt sel) hi lo w e part-formed n h in
-      let ts = stateAt (codeAt sel) lo (rankAfter (w .below)) n .trees in
+      let b = built-parts (shapeAt sel) hi lo w e part-formed n h in
+      let ts = stateAt (shapeAt sel) lo (rankAfter (w .below)) n .trees in
       let every = subst (Every (RanksUpTo maxPhrases)) (b .1) (every-parts (RankUpTo maxPhrases) (w .tree) ranks-part) in
       every-waiting (RanksUpTo maxPhrases) ts (every-split (RanksUpTo maxPhrases) (waitingParts ts) (b .0) every .0)
 
@@ -97,23 +95,21 @@ phrases-le : (t : Tree) → phrases t ≤ length (postfix t)
 unfolding phrases postfix
 phrases-le (phrase c r ws) = omega (arith, length-phrase c r ws)
 phrases-le (pair k c t u) = omega (arith, length-pair k c t u, phrases-le t, phrases-le u)
-phrases-le (negation c t) = omega (arith, length-append (postfix t) (Not ∷ []), phrases-le t)
-phrases-le (filter f c t) = omega (arith, length-append (postfix t) (Filtered f ∷ []), phrases-le t)
+phrases-le (change k c t) = omega (arith, length-append (postfix t) (aChange k ∷ []), phrases-le t)
 
 pub phrases-below : (ts : List Tree) → phrasesAll ts ≤ length (codesOfTrees ts)
 unfolding phrasesAll codesOfTrees
 phrases-below [] = omega arith
 phrases-below (t ∷ ts) = omega (arith, length-append (codesOfTrees ts) (postfix t), phrases-le t, phrases-below ts)
 
-pub rank-read : (c : Code) (s : State) → read c s .rank ≡ s .rank + phrasesEnded c
+pub rank-read : (c : Shape) (s : State) → read c s .rank ≡ s .rank + phrasesEnded c
 unfolding read
-rank-read (Word v) s = omega arith
-rank-read (Phrase k) s = refl
-rank-read (Combine k) s = omega arith
-rank-read Not s = omega arith
-rank-read (Filtered f) s = omega arith
+rank-read (aWord v) s = omega arith
+rank-read (aPhrase k) s = refl
+rank-read (aPair k) s = omega arith
+rank-read (aChange k) s = omega arith
 
-pub rank-state : (at : ℕ → Code) (lo rank n : ℕ) → stateAt at lo rank n .rank ≤ rank + n
+pub rank-state : (at : ℕ → Shape) (lo rank n : ℕ) → stateAt at lo rank n .rank ≤ rank + n
 unfolding stateAt
 rank-state at lo rank zero = omega arith
 rank-state at lo rank (suc n) =

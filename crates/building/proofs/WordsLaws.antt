@@ -9,12 +9,11 @@ use lib.Dec.{leb}
 use lib.ListN.{length, take, drop, getD, length-append}
 use lib.Seq.{drop-cons}
 use borrow.Author.Tests.{leb-true}
-use Rattle.model.specs.declared.Code.{Code}
-use Rattle.model.specs.declared.Code.the-variants.{Word, Phrase, Combine, Not, Filter as Filtered}
+use Rattle.model.specs.declared.Code.the-variants.{Phrase, Filter as Filtered}
 use Rattle.model.specs.declared.Filter.the-variants.{Window}
 use Rattle.model.specs.Accepted.{AcceptedSelection}
 use Rattle.model.specs.Checks.{operandFits, filterOperandFits}
-use Rattle.model.specs.Kinds.{isWord}
+use Rattle.model.specs.Kinds.{Shape, aWord, aPhrase, aPair, aChange, isWord, shapeAt}
 use Rattle.model.specs.Limits.{maxWindow}
 use Rattle.model.specs.Parts.{stateAt}
 use Rattle.model.specs.Section.{size}
@@ -22,6 +21,7 @@ use Rattle.model.specs.Selection.{codeAt, kindAt, operandAt, kindOf, operandOf}
 use Rattle.model.specs.Trees.{State, read}
 use Rattle.model.specs.Waiting.{fits}
 use Rattle.model.proofs.BuildLaws.{Fits}
+use Rattle.model.proofs.KindsLaws.{word-shape}
 use Rattle.model.proofs.SelectionLaws.{kind-code, operand-code}
 use Rattle.model.proofs.TestsLaws.{both-true}
 use Rattle.model.proofs.WaitingLaws.{step}
@@ -67,10 +67,10 @@ module _ (sel : List ℕ) (a : AcceptedSelection sel) (c : ℕ) (from-one : 1 �
       record { from = size sel + (c + 1); ends = omega arith; above = omega arith; held = record { within = omega (arith, a .sized); part = refl } }
   none-word-after (w ∷ ws) e = absurd (omega arith)
 
-  pub one-word-after : (v : ℕ) (ws : List ℕ) → codeAt sel c ≡ Word v → Loose sel c ws → Loose sel (c + 1) (ws ++ v ∷ [])
+  pub one-word-after : (v : ℕ) (ws : List ℕ) → shapeAt sel c ≡ aWord v → Loose sel c ws → Loose sel (c + 1) (ws ++ v ∷ [])
   one-word-after v ws e w =
       let i : w .from + length ws ≡ size sel + c = w .ends in
-      let o : getD sel (w .from + length ws) 0 ≡ v = ap (λ (j : ℕ). getD sel j 0) i ∙ sym operand-at ∙ ap operandOf e in
+      let o : getD sel (w .from + length ws) 0 ≡ v = ap (λ (j : ℕ). getD sel j 0) i ∙ sym operand-at ∙ ap operandOf (word-shape (codeAt sel c) v e) in
       let h : w .from + length ws < length sel = omega (arith, a .sized) in
       let one : Holds sel (w .from + length ws) (v ∷ []) =
       record { within = omega arith; part = ap (take 1) (drop-cons sel (w .from + length ws) 0 h) ∙ ap (λ (x : ℕ). x ∷ []) o } in
@@ -82,26 +82,25 @@ module _ (sel : List ℕ) (a : AcceptedSelection sel) (c : ℕ) (from-one : 1 �
       }
 
   -- after a code other than a word none waits
-  loose-none : (code : Code) (s : State) → isWord code ≡ false → fits code (length (s .trees)) (length (s .words)) ≡ true → Loose sel (c + 1) (read code s .words)
-  loose-none code s h f = none-word-after (read code s .words) (step code (s .trees) (s .words) (s .place) (s .rank) f .loose ∙ rw h)
+  loose-none : (x : Shape) (s : State) → isWord x ≡ false → fits x (length (s .trees)) (length (s .words)) ≡ true → Loose sel (c + 1) (read x s .words)
+  loose-none x s h f = none-word-after (read x s .words) (step x (s .trees) (s .words) (s .place) (s .rank) f .loose ∙ rw h)
 
-  loose-read : (code : Code) (s : State) → codeAt sel c ≡ code → fits code (length (s .trees)) (length (s .words)) ≡ true → Loose sel c (s .words)
-      → Loose sel (c + 1) (read code s .words)
+  loose-read : (x : Shape) (s : State) → shapeAt sel c ≡ x → fits x (length (s .trees)) (length (s .words)) ≡ true → Loose sel c (s .words)
+      → Loose sel (c + 1) (read x s .words)
   unfolding read
-  loose-read (Word v) s e f w = one-word-after v (s .words) e w
-  loose-read (Phrase k) s e f w = loose-none (Phrase k) s refl f
-  loose-read (Combine k) s e f w = loose-none (Combine k) s refl f
-  loose-read Not s e f w = loose-none Not s refl f
-  loose-read (Filtered g) s e f w = loose-none (Filtered g) s refl f
+  loose-read (aWord v) s e f w = one-word-after v (s .words) e w
+  loose-read (aPhrase k) s e f w = loose-none (aPhrase k) s refl f
+  loose-read (aPair k) s e f w = loose-none (aPair k) s refl f
+  loose-read (aChange k) s e f w = loose-none (aChange k) s refl f
 
 module _ (sel : List ℕ) (a : AcceptedSelection sel) (lo rank : ℕ) where
-  pub loose-state : (n : ℕ) → lo + n ≤ size sel → ((i : ℕ) → i < n → Fits (codeAt sel (lo + suc i)) (stateAt (codeAt sel) lo rank i))
-      → Loose sel (lo + suc n) (stateAt (codeAt sel) lo rank n .words)
+  pub loose-state : (n : ℕ) → lo + n ≤ size sel → ((i : ℕ) → i < n → Fits (shapeAt sel (lo + suc i)) (stateAt (shapeAt sel) lo rank i))
+      → Loose sel (lo + suc n) (stateAt (shapeAt sel) lo rank n .words)
   unfolding stateAt
   loose-state zero h f = record { from = size sel + (lo + 1); ends = omega arith; above = omega arith; held = record { within = omega (arith, a .sized); part = refl } }
   loose-state (suc n) h f =
       let before = loose-state n (omega arith) (λ i l. f i (omega arith)) in
-      let s = stateAt (codeAt sel) lo rank n in
+      let s = stateAt (shapeAt sel) lo rank n in
       let next : lo + suc n + 1 ≡ lo + suc (suc n) = omega arith in
-      subst (λ (c : ℕ). Loose sel c (read (codeAt sel (lo + suc n)) s .words)) next
-      (loose-read sel a (lo + suc n) (omega arith) (omega arith) (codeAt sel (lo + suc n)) s refl (f n (omega arith) .here) before)
+      subst (λ (c : ℕ). Loose sel c (read (shapeAt sel (lo + suc n)) s .words)) next
+      (loose-read sel a (lo + suc n) (omega arith) (omega arith) (shapeAt sel (lo + suc n)) s refl (f n (omega arith) .here) before)

@@ -11,10 +11,10 @@ use Rattle.model.specs.declared.Filter.the-variants.{Window}
 use Rattle.model.specs.Accepted.{AcceptedSection, AcceptedSelection, maxPhrases}
 use Rattle.model.specs.AllMatches.{allMatches}
 use Rattle.model.specs.AllStrings.{Every, RanksUpTo}
+use Rattle.model.specs.Kinds.{Shape, shapeOf, shapeAt}
 use Rattle.model.specs.Limits.{maxWaiting, workLength}
 use Rattle.model.specs.Parts.{PartAt, partEndedBy, partStart, rankAfter}
 use Rattle.model.specs.Section.{Section, sectionOf, size}
-use Rattle.model.specs.Selection.{codeAt}
 use Rattle.model.specs.Trees.{State, Tree, read}
 use Rattle.model.specs.Waiting.{fits}
 use Rattle.model.specs.Walk.{firstTooLong}
@@ -28,30 +28,31 @@ use Rattle.window.specs.Inside.{WindowSize}
 pub record Buildable (section selection mem : List ℕ) (lo hi rank : ℕ) : Type 0 where
   pub in-section : AcceptedSection section
   pub in-selection : AcceptedSelection selection
-  pub part : PartAt (codeAt selection) hi
-  pub lo-is : lo ≡ partStart (codeAt selection) hi
+  pub part : PartAt (shapeAt selection) hi
+  pub lo-is : lo ≡ partStart (shapeAt selection) hi
   pub rank-is : rank ≡ rankAfter (part .below)
   pub up-to : hi ≤ size selection
   pub room : workLength ≤ length mem
 
 -- The lists of the trees that wait lie in memory, so many, and the next code, at the place and with the rank that come next, fits.
-pub record Waits (section selection mem : List ℕ) (code : Code) (s : State) (place rank lists : ℕ) : Type 0 where
+pub record Waits (section mem : List ℕ) (shape : Shape) (s : State) (place rank lists : ℕ) : Type 0 where
   pub accepted : AcceptedSection section
   pub stack : Stack mem (map (allMatches (sectionOf section)) (s .trees))
   pub count : lists ≡ length (s .trees)
   pub place-is : place ≡ s .place
   pub rank-is : rank ≡ s .rank
-  pub here : fits code (length (s .trees)) (length (s .words)) ≡ true
+  pub here : fits shape (length (s .trees)) (length (s .words)) ≡ true
   pub few-trees : length (s .trees) ≤ maxWaiting
   pub few-words : length (s .words) ≤ maxWaiting
-  pub ranks : Every (RanksUpTo maxPhrases) (read code s .trees)
-  pub words : (k : ℕ) → code ≡ Phrase k → phraseWords selection place ≡ s .words
-  pub window : (n : ℕ) → code ≡ Filtered (Window n) → WindowSize n
+  pub ranks : Every (RanksUpTo maxPhrases) (read shape s .trees)
   pub room : workLength ≤ length mem
 
+-- a phrase's words are those that wait, and a window's number is in range
 pub record WaitsAt (section selection mem : List ℕ) (code : Code) (place rank lists : ℕ) : Type 0 where
   pub state : State
-  pub waits : Waits section selection mem code state place rank lists
+  pub waits : Waits section mem (shapeOf code) state place rank lists
+  pub words : (k : ℕ) → code ≡ Phrase k → phraseWords selection place ≡ state .words
+  pub window : (n : ℕ) → code ≡ Filtered (Window n) → WindowSize n
 
 -- After the code: either the list of the part that it ends is too long, or the lists of the trees that then wait lie in memory.
 pub record After (s : Section) (new trees : List Tree) (place : ℕ) (mem : List ℕ) (built : Built) : Type 0 where
@@ -59,5 +60,5 @@ pub record After (s : Section) (new trees : List Tree) (place : ℕ) (mem : List
   pub fine : (m n : ℕ) → built ≡ Made m n → firstTooLong s new ≡ none
   pub stack : (m n : ℕ) → built ≡ Made m n → Stack mem (map (allMatches s) trees)
 
-abbrev pub AfterCode : Section → Code → State → ℕ → List ℕ → Built → Type 0
-AfterCode s code before place mem built = After s (partEndedBy code (read code before .trees)) (read code before .trees) place mem built
+abbrev pub AfterCode : Section → Shape → State → ℕ → List ℕ → Built → Type 0
+AfterCode s shape before place mem built = After s (partEndedBy shape (read shape before .trees)) (read shape before .trees) place mem built

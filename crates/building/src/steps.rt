@@ -10,6 +10,7 @@ ghost use lib.ListN.{length};
 ghost use Rattle.model.specs.declared.Filter.the-variants.{Window};
 ghost use Rattle.model.specs.Accepted.{AcceptedSection, maxPhrases};
 ghost use Rattle.model.specs.AllMatches.{filterList, pairList};
+ghost use Rattle.model.specs.Kinds.{shapeOf};
 ghost use Rattle.model.specs.Limits.{maxWaiting};
 ghost use Rattle.model.specs.Rules.{andList, mildNotList, notList, orList, phraseList};
 ghost use Rattle.model.specs.Section.{sectionOf};
@@ -139,7 +140,7 @@ pub fn build_code(
     requires { ⌜ WaitsAt (now section) (now selection) (now mem) code place rank lists ⌝ }
     ensures { λ r.
         ⌜ ((w : WaitsAt (now (section .entry)) (now (selection .entry)) (now (mem .entry)) code place rank lists)
-        → AfterCode (sectionOf (now (section .entry))) code (w .state) place (now (mem .exit)) r) ⌝ }
+        → AfterCode (sectionOf (now (section .entry))) (shapeOf code) (w .state) place (now (mem .exit)) r) ⌝ }
 {
     match code {
         Code::Word(_) => Built::Made {

@@ -6,7 +6,7 @@ use model::Filter;
 use model::Pair;
 use model::RADIX;
 ghost use mathlib.Core.Path.{_≡_};
-ghost use Rattle.model.specs.Kinds.{arity, isWord};
+ghost use Rattle.model.specs.Kinds.{aPair, arity, isWord, shapeOf};
 ghost use Rattle.model.specs.Parts.{isMildNot, isNotCode, partsEnded, phrasesEnded};
 ghost use Rattle.model.specs.Selection.{codeAt, codeOf, combinationOf, filterOf};
 
@@ -67,7 +67,7 @@ pub fn code_at(selection: &[u32], place: u32) -> Code
 }
 
 pub fn is_word(code: Code) -> bool
-    ensures { λ r. ⌜ r ≡ isWord code ⌝ }
+    ensures { λ r. ⌜ r ≡ isWord (shapeOf code) ⌝ }
 {
     match code {
         Code::Word(_) => true,
@@ -80,7 +80,7 @@ pub fn is_word(code: Code) -> bool
 
 // How many lists a code takes.
 pub fn lists_taken(code: Code) -> usize
-    ensures { λ r. ⌜ r ≡ arity code ⌝ }
+    ensures { λ r. ⌜ r ≡ arity (shapeOf code) ⌝ }
 {
     match code {
         Code::Word(_) => 0,
@@ -93,7 +93,7 @@ pub fn lists_taken(code: Code) -> usize
 
 // One for every code other than a word.
 pub fn parts_ended(code: Code) -> u32
-    ensures { λ r. ⌜ r ≡ partsEnded code ⌝ }
+    ensures { λ r. ⌜ r ≡ partsEnded (shapeOf code) ⌝ }
 {
     if is_word(code) {
         return 0;
@@ -103,7 +103,7 @@ pub fn parts_ended(code: Code) -> u32
 
 // One for a phrase, none for another code.
 pub fn phrases_ended(code: Code) -> u32
-    ensures { λ r. ⌜ r ≡ phrasesEnded code ⌝ }
+    ensures { λ r. ⌜ r ≡ phrasesEnded (shapeOf code) ⌝ }
 {
     if is_word(code) {
         return 0;
@@ -115,7 +115,7 @@ pub fn phrases_ended(code: Code) -> u32
 }
 
 pub fn is_not(code: Code) -> bool
-    ensures { λ r. ⌜ r ≡ isNotCode code ⌝ }
+    ensures { λ r. ⌜ r ≡ isNotCode (shapeOf code) ⌝ }
 {
     match code {
         Code::Word(_) => false,
@@ -126,17 +126,23 @@ pub fn is_not(code: Code) -> bool
     }
 }
 
+pub fn is_mild(pair: Pair) -> bool
+    ensures { λ r. ⌜ r ≡ isMildNot (aPair pair) ⌝ }
+{
+    match pair {
+        Pair::Or => false,
+        Pair::And => false,
+        Pair::MildNot => true,
+    }
+}
+
 pub fn is_mild_not(code: Code) -> bool
-    ensures { λ r. ⌜ r ≡ isMildNot code ⌝ }
+    ensures { λ r. ⌜ r ≡ isMildNot (shapeOf code) ⌝ }
 {
     match code {
         Code::Word(_) => false,
         Code::Phrase(_) => false,
-        Code::Combine(pair) => match pair {
-            Pair::Or => false,
-            Pair::And => false,
-            Pair::MildNot => true,
-        },
+        Code::Combine(pair) => is_mild(pair),
         Code::Not => false,
         Code::Filter(_) => false,
     }

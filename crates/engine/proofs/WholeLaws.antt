@@ -7,10 +7,11 @@ use mathlib.Core.Option.{none}
 use lib.ListN.{length}
 use Rattle.model.specs.Accepted.{AcceptedSection, AcceptedSelection}
 use Rattle.model.specs.Checks.{inputRefusal, sectionRefusal, selectionRefusal}
+use Rattle.model.specs.Kinds.{shapeAt, shapesOf}
 use Rattle.model.specs.Limits.{workLength}
 use Rattle.model.specs.Parts.{PartAt, codesOfTrees, phrasesAll}
 use Rattle.model.specs.Section.{size}
-use Rattle.model.specs.Selection.{codeAt, upTo, codesOf}
+use Rattle.model.specs.Selection.{upTo}
 use Rattle.model.specs.Trees.{topTree, readAll, fresh, treeOf}
 use Rattle.model.proofs.ChecksLaws.{otherwise-none, accepted-section, accepted-selection, accepted-part}
 use Rattle.model.proofs.PartsLaws.{part-start, part-read}
@@ -35,7 +36,7 @@ module _ (section selection : List ℕ) (passes : inputRefusal section selection
         in-section = section-accepted;
         in-selection = selection-accepted;
         part = part;
-        lo-is = sym (part-start (codeAt selection) [] (treeOf selection) (size selection) (part .spells));
+        lo-is = sym (part-start (shapeAt selection) [] (treeOf selection) (size selection) (part .spells));
         rank-is = refl;
         up-to = omega arith;
         room = room;
@@ -52,7 +53,7 @@ module _ (section selection : List ℕ) (passes : inputRefusal section selection
       }
 
 -- the part that ends at the last code is the whole: its tree is the selection's
-pub whole-tree : (selection : List ℕ) {hi : ℕ} (w : PartAt (codeAt selection) hi) → hi ≡ size selection → w .tree ≡ treeOf selection
-unfolding treeOf codesOf
+pub whole-tree : (selection : List ℕ) {hi : ℕ} (w : PartAt (shapeAt selection) hi) → hi ≡ size selection → w .tree ≡ treeOf selection
+unfolding treeOf shapesOf
 whole-tree selection {hi} w e =
-    sym (part-read (codeAt selection) hi w) ∙ ap (λ (k : ℕ). topTree (readAll (upTo (codeAt selection) k) (fresh 1 1) .trees)) e
+    sym (part-read (shapeAt selection) hi w) ∙ ap (λ (k : ℕ). topTree (readAll (upTo (shapeAt selection) k) (fresh 1 1) .trees)) e

@@ -12,14 +12,15 @@ use Rattle.model.specs.declared.Filter.{Filter}
 use Rattle.model.specs.declared.Filter.the-variants.{Ordered, Window, Distance, SameSentence, SameParagraph, DifferentSentence, DifferentParagraph, AtStart, AtEnd, EntireContent}
 use Rattle.model.specs.declared.Pair.{Pair}
 use Rattle.model.specs.declared.Pair.the-variants.{Or, And, MildNot}
+use Rattle.model.specs.Kinds.{Change, negated, filtered}
 use Rattle.model.specs.Lists.{allOf, keep, fromTo}
 use Rattle.model.specs.Matches.{Str, Match}
 use Rattle.model.specs.Rules.{standFrom, found, phraseList, orList, joined, andList, noStrings, withInclude, withExclude, notList, reachesBeyond, mildNotList, Keeping, keptIf, keptMatch, kept, join, insideWindow, windowTo, windowEnds, window}
 use Rattle.model.specs.Choices.{turnedStrings}
 use Rattle.model.specs.AllStrings.{Every, AllStrs, AllMatch, AllList, Within, Ranked, EveryPhrase, RankUpTo, RanksUpTo}
-use Rattle.model.specs.AllMatches.{pairList, filterMatch, filterList, allMatches}
+use Rattle.model.specs.AllMatches.{pairList, changeList, filterMatch, filterList, allMatches}
 use Rattle.model.specs.Section.{Section}
-use Rattle.model.specs.Trees.{Tree, phrase, pair, negation, filter}
+use Rattle.model.specs.Trees.{Tree, phrase, pair, change}
 use Rattle.model.proofs.EveryLaws.{every-weaker, every-append, every-value, every-map, every-flatMap, every-kept, every-keep, every-range}
 use Rattle.model.proofs.TestsLaws.{both-true}
 use Rattle.model.proofs.RulesLaws.{not-and, leastStart-bound, greatestEnd-bound, leastStart-greatestEnd}
@@ -137,12 +138,16 @@ module _ (P : Str → Type 0) where
 
     -- ---- allMatches
 
+    all-change : (s : Section) (k : Change) (ms : List Match) → AllList P ms → AllList P (changeList s k ms)
+    unfolding filterList
+    all-change s negated ms a = all-not ms a
+    all-change s (filtered f) ms a = every-flatMap _ _ (filterMatch s f) (all-filter s f) ms a
+
     pub all-matches : (s : Section) (t : Tree) → EveryPhrase (Finds P s) t → AllList P (allMatches s t)
     unfolding allMatches filterList EveryPhrase
     all-matches s (phrase c rank ws) h = all-phrase s rank ws h
     all-matches s (pair k c t u) h = all-pair k (allMatches s t) (allMatches s u) (all-matches s t (h .0)) (all-matches s u (h .1))
-    all-matches s (negation c t) h = all-not (allMatches s t) (all-matches s t h)
-    all-matches s (filter f c t) h = every-flatMap _ _ (filterMatch s f) (all-filter s f) (allMatches s t) (all-matches s t h)
+    all-matches s (change k c t) h = all-change s k (allMatches s t) (all-matches s t h)
 
 -- ---- spans within the section, query positions among the ranks
 
@@ -150,8 +155,7 @@ pub everyPhrase-weaker : (P Q : ℕ → List ℕ → Type 0) → ((rank : ℕ) (
 unfolding EveryPhrase
 everyPhrase-weaker P Q h (phrase c rank ws) a = h rank ws a
 everyPhrase-weaker P Q h (pair k c t u) a = (everyPhrase-weaker P Q h t (a .0), everyPhrase-weaker P Q h u (a .1))
-everyPhrase-weaker P Q h (negation c t) a = everyPhrase-weaker P Q h t a
-everyPhrase-weaker P Q h (filter f c t) a = everyPhrase-weaker P Q h t a
+everyPhrase-weaker P Q h (change k c t) a = everyPhrase-weaker P Q h t a
 
 -- a join lies between the bounds of what is joined
 pub within-join : (n : ℕ) → Closed (Within n)

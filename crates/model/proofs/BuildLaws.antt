@@ -7,8 +7,7 @@ use mathlib.Core.Bool.{true}
 use mathlib.Core.List.{List, [], _∷_, _++_}
 use lib.ListN.{length, drop}
 use lib.Seq.{drop-at}
-use Rattle.model.specs.declared.Code.{Code}
-use Rattle.model.specs.declared.Code.the-variants.{Word, Phrase, Combine, Not, Filter as Filtered}
+use Rattle.model.specs.Kinds.{Shape, aWord, aPhrase, aPair, aChange}
 use Rattle.model.specs.Limits.{maxWaiting}
 use Rattle.model.specs.Selection.{upTo}
 use Rattle.model.specs.Waiting.{fits}
@@ -22,15 +21,14 @@ use Rattle.model.proofs.PartsLaws.{part-start, part-length, fits-at}
 
 -- ---- stateAt
 
-place-read : (c : Code) (s : State) → read c s .place ≡ s .place + 1
+place-read : (c : Shape) (s : State) → read c s .place ≡ s .place + 1
 unfolding read
-place-read (Word w) s = refl
-place-read (Phrase k) s = refl
-place-read (Combine k) s = refl
-place-read Not s = refl
-place-read (Filtered f) s = refl
+place-read (aWord w) s = refl
+place-read (aPhrase k) s = refl
+place-read (aPair k) s = refl
+place-read (aChange k) s = refl
 
-module _ (at : ℕ → Code) (lo rank : ℕ) where
+module _ (at : ℕ → Shape) (lo rank : ℕ) where
   -- the place that comes next
   pub place-state : (n : ℕ) → stateAt at lo rank n .place ≡ lo + suc n
   unfolding stateAt
@@ -46,13 +44,13 @@ module _ (at : ℕ → Code) (lo rank : ℕ) where
 -- ---- a part built alone
 
 -- A code fits where it is read, and no more trees and words wait than may.
-pub record Fits (c : Code) (s : State) : Type 0 where
+pub record Fits (c : Shape) (s : State) : Type 0 where
   pub here : fits c (length (s .trees)) (length (s .words)) ≡ true
   pub few-trees : length (s .trees) ≤ maxWaiting
   pub few-words : length (s .words) ≤ maxWaiting
 
-module _ (at : ℕ → Code) (hi lo : ℕ) (w : PartAt at hi) (e : lo ≡ partStart at hi) where
-  abbrev own : ℕ → Code
+module _ (at : ℕ → Shape) (hi lo : ℕ) (w : PartAt at hi) (e : lo ≡ partStart at hi) where
+  abbrev own : ℕ → Shape
   own i = at (lo + i)
 
   abbrev rank : ℕ
@@ -86,7 +84,7 @@ module _ (at : ℕ → Code) (hi lo : ℕ) (w : PartAt at hi) (e : lo ≡ partSt
   built-tree =
       let p : lo + 1 ≡ placeAfter (w .below) = omega (arith, part-below) in
       let q : lo + 1 + length (postfix (w .tree)) ≡ hi + 1 = omega (arith, part-ends) in
-      state-read at lo rank (hi - lo) ∙ ap (λ (l : List Code). readAll l (fresh (lo + 1) rank)) part-codes ∙ read-part (w .tree) [] (lo + 1) rank
+      state-read at lo rank (hi - lo) ∙ ap (λ (l : List Shape). readAll l (fresh (lo + 1) rank)) part-codes ∙ read-part (w .tree) [] (lo + 1) rank
       ∙ ap₂ (λ (t : Tree) (k : ℕ). state (t ∷ []) [] k (rank + phrases (w .tree))) (ap (λ (k : ℕ). renumbered k rank (w .tree)) p ∙ w .numbered) q
 
   module _ (fine : wellFormed (postfix (w .tree)) ≡ true) where
@@ -116,9 +114,9 @@ module _ (at : ℕ → Code) (hi lo : ℕ) (w : PartAt at hi) (e : lo ≡ partSt
         let R = upTo (λ i. own (n + i)) (hi - lo - n) in
         let s = fresh (lo + 1) rank in
         let allOf : upTo own (hi - lo) ≡ F ++ R = upTo-split own n (hi - lo) h in
-        let f = fitsAll-split F R 0 0 (ap (λ (l : List Code). fitsAll l 0 0) (sym allOf) ∙ formed (upTo own (hi - lo)) alone .fit) in
+        let f = fitsAll-split F R 0 0 (ap (λ (l : List Shape). fitsAll l 0 0) (sym allOf) ∙ formed (upTo own (hi - lo)) alone .fit) in
         let g = steps F s (f .0) in
         let r = steps R (readAll F s) (rw (g .lists, g .loose) (f .1)) in
-        let whole = sym (readAll-append F R s) ∙ ap (λ (l : List Code). readAll l s) (sym allOf) ∙ sym (state-read at lo rank (hi - lo)) ∙ built-tree in
+        let whole = sym (readAll-append F R s) ∙ ap (λ (l : List Shape). readAll l s) (sym allOf) ∙ sym (state-read at lo rank (hi - lo)) ∙ built-tree in
         let here = ap (λ (z : State). waitingParts (z .trees) ++ r .newer) (sym (state-read at lo rank n)) in
         (r .newer, ap (λ (z : State). waitingParts (z .trees)) (sym whole) ∙ r .adds ∙ here)

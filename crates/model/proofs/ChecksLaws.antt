@@ -10,14 +10,13 @@ use mathlib.Core.Option.{Option, some, none, Option·map, Option·some-ne-none, 
 use lib.Dec.{eqb, leb, ltb}
 use lib.ListN.{length}
 use borrow.Author.Tests.{eqb-true, eq-eqb, ne-eqb, ltb-false, le-ltb, leb-false, not-false}
-use Rattle.model.specs.declared.Code.{Code}
-use Rattle.model.specs.declared.Code.the-variants.{Word, Phrase, Combine, Not, Filter as Filtered}
 use Rattle.model.specs.declared.Refusal.{Refusal}
 use Rattle.model.specs.Limits.{maxTokens, maxCodes, maxWaiting}
 use Rattle.model.specs.Lists.{allOf, anyOf, first, fromTo}
 use Rattle.model.specs.Section.{size, wellSized, sentenceAt, paragraphAt}
-use Rattle.model.specs.Selection.{kindAt, operandAt, codeOf, codeAt, codesOf}
-use Rattle.model.specs.Trees.{Tree, phrase, pair, negation, filter, placeOf, topTree, treeOf, parts}
+use Rattle.model.specs.Selection.{kindAt, operandAt, codeOf}
+use Rattle.model.specs.Kinds.{Shape, aWord, aPhrase, aPair, aChange, shapeOf, shapeAt, shapesOf}
+use Rattle.model.specs.Trees.{Tree, phrase, pair, change, placeOf, topTree, treeOf, parts}
 use Rattle.model.specs.Parts.{isNotCode, hasWords, postfix, renumbered, wellFormed, PartAt, codesOfTrees, phrasesAll}
 use Rattle.model.specs.Checks.{refusal, otherwise, Check, tried, wrongSection, faultyIn, faultyAt, faultyPosition, sectionRefusal, wrongSelection, unknownKind}
 use Rattle.model.specs.Checks.{operandFits, wrongOperand, wrongShape, isNot, hasNot, mildOverNot, notUnderMildNot, selectionRefusal}
@@ -139,46 +138,45 @@ fitting-operands sel h c l g = not-false _ (first-range-none (λ i. not (operand
 
 -- ---- hasNot
 
-any-words : (ws : List ℕ) → anyOf isNotCode (map Word ws) ≡ false
+any-words : (ws : List ℕ) → anyOf isNotCode (map aWord ws) ≡ false
 unfolding anyOf
 any-words [] = refl
 any-words (w ∷ ws) = any-words ws
 
-any-both : (xs ys : List Tree) (cs ds : List Code) → anyOf isNot xs ≡ anyOf isNotCode cs → anyOf isNot ys ≡ anyOf isNotCode ds
+any-both : (xs ys : List Tree) (cs ds : List Shape) → anyOf isNot xs ≡ anyOf isNotCode cs → anyOf isNot ys ≡ anyOf isNotCode ds
     → anyOf isNot (xs ++ ys) ≡ anyOf isNotCode (cs ++ ds)
 any-both xs ys cs ds e f = any-append isNot xs ys ∙ ap₂ (λ (a b : Bool). a || b) e f ∙ sym (any-append isNotCode cs ds)
 
 -- a tree has a not where its codes have one
 pub has-not : (t : Tree) → hasNot t ≡ anyOf isNotCode (postfix t)
 unfolding parts postfix anyOf
-has-not (phrase c r ws) = any-both [] (phrase c r ws ∷ []) (map Word ws) (Phrase (length ws) ∷ []) (sym (any-words ws)) refl
+has-not (phrase c r ws) = any-both [] (phrase c r ws ∷ []) (map aWord ws) (aPhrase (length ws) ∷ []) (sym (any-words ws)) refl
 has-not (pair k c t u) =
     let sides = any-both (parts t) (parts u) (postfix t) (postfix u) (has-not t) (has-not u) in
-    any-both (parts t ++ parts u) (pair k c t u ∷ []) (postfix t ++ postfix u) (Combine k ∷ []) sides refl
-has-not (negation c t) = any-both (parts t) (negation c t ∷ []) (postfix t) (Not ∷ []) (has-not t) refl
-has-not (filter f c t) = any-both (parts t) (filter f c t ∷ []) (postfix t) (Filtered f ∷ []) (has-not t) refl
+    any-both (parts t ++ parts u) (pair k c t u ∷ []) (postfix t ++ postfix u) (aPair k ∷ []) sides refl
+has-not (change k c t) = any-both (parts t) (change k c t ∷ []) (postfix t) (aChange k ∷ []) (has-not t) refl
 
 -- ---- selectionRefusal
 
 -- a phrase whose operand fits has a word
-has-words : (k o : ℕ) → operandFits k o ≡ true → hasWords (codeOf k o) ≡ true
+has-words : (k o : ℕ) → operandFits k o ≡ true → hasWords (shapeOf (codeOf k o)) ≡ true
 unfolding operandFits
-has-words k o h = codeOf-cases (λ c. hasWords c ≡ true) k o (λ e. refl) some (λ l q. refl) (λ l. refl) (λ l f. refl)
+has-words k o h = codeOf-cases (λ c. hasWords (shapeOf c) ≡ true) k o (λ e. refl) some (λ l q. refl) (λ l. refl) (λ l f. refl)
   where
     some : k ≡ 1 → leb 1 o ≡ true
     some e = both-true (leb 1 o) (leb o maxWaiting) (ap (λ (n : ℕ). operandFits n o) (sym e) ∙ h) .0
 
 -- a selection that passes the rule is its tree
-tree-spelt : (sel : List ℕ) → wellFormed (codesOf sel) ≡ true → (postfix (treeOf sel) ≡ codesOf sel) × (renumbered 1 1 (treeOf sel) ≡ treeOf sel)
+tree-spelt : (sel : List ℕ) → wellFormed (shapesOf sel) ≡ true → (postfix (treeOf sel) ≡ shapesOf sel) × (renumbered 1 1 (treeOf sel) ≡ treeOf sel)
 unfolding treeOf topTree
 tree-spelt sel well =
-    let P = parsed (codesOf sel) well in
+    let P = parsed (shapesOf sel) well in
     let is : treeOf sel ≡ P .tree = ap topTree (P .alone) in
     (ap postfix is ∙ P .spelt, ap (renumbered 1 1) is ∙ P .numbered ∙ sym is)
 
 -- what holds of a selection that is not refused
 pub accepted-selection : (sel : List ℕ) → selectionRefusal sel ≡ none → AcceptedSelection sel
-unfolding selectionRefusal wrongShape notUnderMildNot codesOf
+unfolding selectionRefusal wrongShape notUnderMildNot shapesOf
 accepted-selection sel h =
     let three = tried-cons _ _ sel h in
     let four = tried-cons _ _ sel (three .1) in
@@ -187,8 +185,8 @@ accepted-selection sel h =
     let seven = tried-cons _ _ sel (six .1) in
     let size-is = sized-selection sel (three .0) in
     let operands = fitting-operands sel (five .0) in
-    let codes = all-upTo (codeAt sel) hasWords (size sel) (λ c l g. has-words (kindAt sel c) (operandAt sel c) (operands c l g)) in
-    let well = misfit-none (codesOf sel) .0 (six .0) in
+    let codes = all-upTo (shapeAt sel) hasWords (size sel) (λ c l g. has-words (kindAt sel c) (operandAt sel c) (operands c l g)) in
+    let well = misfit-none (shapesOf sel) .0 (six .0) in
     let tree = tree-spelt sel well in
     let words = ap (allOf hasWords) (tree .0) ∙ codes in
     let half = phrases-few (treeOf sel) words in
@@ -201,11 +199,11 @@ accepted-selection sel h =
       well = well;
       spelt = tree .0;
       numbered = tree .1;
-      ranks = ranks-to maxPhrases 1 1 (treeOf sel) (tree .1) (omega arith) (omega (arith, size-is .at-most, ap length (tree .0), length-upTo (codeAt sel) (size sel))) words;
+      ranks = ranks-to maxPhrases 1 1 (treeOf sel) (tree .1) (omega arith) (omega (arith, size-is .at-most, ap length (tree .0), length-upTo (shapeAt sel) (size sel))) words;
       no-not = map-eq-none-iff placeOf (first mildOverNot (parts (treeOf sel))) .0 (seven .0);
     }
 
 -- its tree is the part that ends at its last code
-unfoldable pub accepted-part : (sel : List ℕ) → AcceptedSelection sel → PartAt (codeAt sel) (size sel)
-unfolding codesOfTrees codesOf phrasesAll
+unfoldable pub accepted-part : (sel : List ℕ) → AcceptedSelection sel → PartAt (shapeAt sel) (size sel)
+unfolding codesOfTrees shapesOf phrasesAll
 accepted-part sel a = record { tree = treeOf sel; below = []; spells = sym (a .spelt); numbered = a .numbered }

@@ -4,6 +4,7 @@ pub mod ListsLaws
 pub mod EveryLaws
 pub mod SectionLaws
 pub mod SelectionLaws
+pub mod KindsLaws
 pub mod WaitingLaws
 pub mod TreesLaws
 pub mod PartsLaws

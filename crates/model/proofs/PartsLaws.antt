@@ -9,69 +9,56 @@ use lib.Dec.{leb}
 use lib.ListN.{length, length-append}
 use lib.Seq.{append-snoc}
 use borrow.Author.Tests.{ne-eqb, le-leb}
-use Rattle.model.specs.declared.Code.{Code}
-use Rattle.model.specs.declared.Code.the-variants.{Word, Phrase, Combine, Not, Filter as Filtered}
-use Rattle.model.specs.declared.Filter.{Filter}
+use Rattle.model.specs.Kinds.{Change, Shape, aWord, aPhrase, aPair, aChange, shapeOf, isWord, arity, shapeAt, shapesOf}
 use Rattle.model.specs.declared.Pair.{Pair}
 use Rattle.model.specs.Lists.{keep, upFrom, fromTo}
 use Rattle.model.specs.Section.{size}
-use Rattle.model.specs.Selection.{kindAt, operandAt, codeOf, codeAt, upTo, codesOf}
-use Rattle.model.specs.Kinds.{isWord, arity}
+use Rattle.model.specs.Selection.{kindAt, operandAt, codeOf, upTo}
 use Rattle.model.specs.Waiting.{fits}
-use Rattle.model.specs.Trees.{topTree, Tree, phrase, pair, negation, filter, placeOf, State, readAll, fresh, treeOf, parts}
+use Rattle.model.specs.Trees.{topTree, Tree, phrase, pair, change, placeOf, State, readAll, fresh, treeOf, parts}
 use Rattle.model.specs.Parts.{partsEnded, partCount, postfix, phrases, renumbered, state, codesOfTrees, phrasesAll, placeAfter, rankAfter}
 use Rattle.model.specs.Parts.{fitsAll, listsAll, wordsAll, wellFormed, stops, treesNeeded, scanBack, partStart, PartAt}
 use Rattle.model.specs.Walk.{ownCount}
 use Rattle.model.proofs.TestsLaws.{false-true, positive, cond-le}
+use Rattle.model.proofs.KindsLaws.{arity-le}
 use Rattle.model.proofs.SelectionLaws.{codeOf-cases, upTo-map, length-upTo, upTo-split, upTo-front, Ends, ends}
 use Rattle.model.proofs.TreesLaws.{readAll-append, read-part, place-of, length-parts}
 use Rattle.model.proofs.WaitingLaws.{after-part, fitsAll-split, fitsAll-cons, listsAll-append, wordsAll-append, formed, steps, part-alone}
 
 -- ---- scanBack
 
-pub arity-le : (c : Code) → arity c ≤ 2
-arity-le (Word w) = omega arith
-arity-le (Phrase k) = omega arith
-arity-le (Combine k) = omega arith
-arity-le Not = omega arith
-arity-le (Filtered f) = omega arith
-
 -- a code adds at most one to what is to be found
-pub treesNeeded-le : (c : Code) (n : ℕ) → treesNeeded c n ≤ n + 1
+pub treesNeeded-le : (c : Shape) (n : ℕ) → treesNeeded c n ≤ n + 1
 treesNeeded-le c n = let two = arity-le c in cond-le (isWord c) _ _ _ (omega arith) (omega arith)
 
 -- where a code other than a word does not stop the walk, some tree is to be found
-pub stops-on : (c : Code) (n : ℕ) → isWord c ≡ false → stops c n ≡ false → 1 ≤ n
+pub stops-on : (c : Shape) (n : ℕ) → isWord c ≡ false → stops c n ≡ false → 1 ≤ n
 stops-on c n w s = positive n (sym (rw w) ∙ s)
 
 -- a tree's last code, and those before it
-unfoldable lastCode : Tree → Code
-lastCode (phrase c r ws) = Phrase (length ws)
-lastCode (pair k c t u) = Combine k
-lastCode (negation c t) = Not
-lastCode (filter f c t) = Filtered f
+unfoldable lastCode : Tree → Shape
+lastCode (phrase c r ws) = aPhrase (length ws)
+lastCode (pair k c t u) = aPair k
+lastCode (change k c t) = aChange k
 
-unfoldable front : Tree → List Code
-front (phrase c r ws) = map Word ws
+unfoldable front : Tree → List Shape
+front (phrase c r ws) = map aWord ws
 front (pair k c t u) = postfix t ++ postfix u
-front (negation c t) = postfix t
-front (filter f c t) = postfix t
+front (change k c t) = postfix t
 
 front-last : (t : Tree) → postfix t ≡ front t ++ lastCode t ∷ []
 unfolding postfix front lastCode
 front-last (phrase c r ws) = refl
 front-last (pair k c t u) = refl
-front-last (negation c t) = refl
-front-last (filter f c t) = refl
+front-last (change k c t) = refl
 
 stops-last : (t : Tree) → stops (lastCode t) 0 ≡ true
 unfolding lastCode
 stops-last (phrase c r ws) = refl
 stops-last (pair k c t u) = refl
-stops-last (negation c t) = refl
-stops-last (filter f c t) = refl
+stops-last (change k c t) = refl
 
-module _ (at : ℕ → Code) where
+module _ (at : ℕ → Shape) where
   pub scanBack-none : (n : ℕ) → scanBack at 0 n ≡ 0
   unfolding scanBack
   scanBack-none n = refl
@@ -100,44 +87,41 @@ module _ (at : ℕ → Code) where
   ends-last : (hi : ℕ) (t : Tree) (ts : List Tree) → upTo at hi ≡ codesOfTrees (t ∷ ts) → Ends at hi (codesOfTrees ts ++ front t) (lastCode t)
   unfolding codesOfTrees
   ends-last hi t ts e =
-      let ended = ap (λ (l : List Code). codesOfTrees ts ++ l) (front-last t) ∙ sym (append-assoc (codesOfTrees ts) (front t) (lastCode t ∷ [])) in
+      let ended = ap (λ (l : List Shape). codesOfTrees ts ++ l) (front-last t) ∙ sym (append-assoc (codesOfTrees ts) (front t) (lastCode t ∷ [])) in
       ends at hi (codesOfTrees ts ++ front t) (lastCode t) (e ∙ ended)
 
   -- one step back
-  on : (hi n m : ℕ) (xs : List Code) (c : Code) → Ends at hi xs c → stops c n ≡ false → treesNeeded c n ≡ m → scanBack at hi n ≡ scanBack at (length xs) m
+  on : (hi n m : ℕ) (xs : List Shape) (c : Shape) → Ends at hi xs c → stops c n ≡ false → treesNeeded c n ≡ m → scanBack at hi n ≡ scanBack at (length xs) m
   on hi n m xs c e s d =
       let one : hi - 1 ≡ length xs = omega (arith, e .hi-is) in
-      scanBack-on hi n (omega (arith, e .hi-is)) (ap (λ (x : Code). stops x n) (e .code) ∙ s) ∙ ap₂ (scanBack at) one (ap (λ (x : Code). treesNeeded x n) (e .code) ∙ d)
+      scanBack-on hi n (omega (arith, e .hi-is)) (ap (λ (x : Shape). stops x n) (e .code) ∙ s) ∙ ap₂ (scanBack at) one (ap (λ (x : Shape). treesNeeded x n) (e .code) ∙ d)
 
-  scanBack-words : (ws : List ℕ) (hi n : ℕ) (rest : List Code) → upTo at hi ≡ rest ++ map Word ws → scanBack at hi n ≡ scanBack at (length rest) n
+  scanBack-words : (ws : List ℕ) (hi n : ℕ) (rest : List Shape) → upTo at hi ≡ rest ++ map aWord ws → scanBack at hi n ≡ scanBack at (length rest) n
   scanBack-words [] hi n rest e = ap (λ (k : ℕ). scanBack at k n) (sym (length-upTo at hi) ∙ ap length (e ∙ append-nil rest))
   scanBack-words (w ∷ ws) hi n rest e =
-      let e' : upTo at hi ≡ rest ++ Word w ∷ [] ++ map Word ws = e ∙ sym (append-snoc rest (Word w) (map Word ws)) in
-      let f = upTo-front at hi (rest ++ Word w ∷ []) (map Word ws) e' in
-      scanBack-words ws hi n (rest ++ Word w ∷ []) e' ∙ on _ n n rest (Word w) (ends at _ rest (Word w) f) refl refl
+      let e' : upTo at hi ≡ rest ++ aWord w ∷ [] ++ map aWord ws = e ∙ sym (append-snoc rest (aWord w) (map aWord ws)) in
+      let f = upTo-front at hi (rest ++ aWord w ∷ []) (map aWord ws) e' in
+      scanBack-words ws hi n (rest ++ aWord w ∷ []) e' ∙ on _ n n rest (aWord w) (ends at _ rest (aWord w) f) refl refl
 
   -- a tree is found: one less is to be found before it
-  scanBack-tree : (t : Tree) (hi n : ℕ) (rest : List Code) → upTo at hi ≡ rest ++ postfix t → scanBack at hi (suc n) ≡ scanBack at (length rest) n
+  scanBack-tree : (t : Tree) (hi n : ℕ) (rest : List Shape) → upTo at hi ≡ rest ++ postfix t → scanBack at hi (suc n) ≡ scanBack at (length rest) n
   unfolding postfix
   scanBack-tree (phrase c r ws) hi n rest e =
-      let f = ends at hi (rest ++ map Word ws) (Phrase (length ws)) (e ∙ sym (append-assoc rest (map Word ws) (Phrase (length ws) ∷ []))) in
+      let f = ends at hi (rest ++ map aWord ws) (aPhrase (length ws)) (e ∙ sym (append-assoc rest (map aWord ws) (aPhrase (length ws) ∷ []))) in
       on hi (suc n) n _ _ f (ne-eqb (suc n) 0 (omega arith)) (omega arith) ∙ scanBack-words ws _ n rest (f .rest)
   scanBack-tree (pair k c t u) hi n rest e =
-      let f = ends at hi (rest ++ postfix t ++ postfix u) (Combine k) (e ∙ simp append-assoc) in
+      let f = ends at hi (rest ++ postfix t ++ postfix u) (aPair k) (e ∙ simp append-assoc) in
       on hi (suc n) (suc (suc n)) _ _ f (ne-eqb (suc n) 0 (omega arith)) (omega arith) ∙ scanBack-tree u _ (suc n) (rest ++ postfix t) (f .rest)
       ∙ scanBack-tree t _ n rest (upTo-front at _ (rest ++ postfix t) (postfix u) (f .rest))
-  scanBack-tree (negation c t) hi n rest e =
-      let f = ends at hi (rest ++ postfix t) Not (e ∙ sym (append-assoc rest (postfix t) (Not ∷ []))) in
-      on hi (suc n) (suc n) _ _ f (ne-eqb (suc n) 0 (omega arith)) (omega arith) ∙ scanBack-tree t _ n rest (f .rest)
-  scanBack-tree (filter g c t) hi n rest e =
-      let f = ends at hi (rest ++ postfix t) (Filtered g) (e ∙ sym (append-assoc rest (postfix t) (Filtered g ∷ []))) in
+  scanBack-tree (change k c t) hi n rest e =
+      let f = ends at hi (rest ++ postfix t) (aChange k) (e ∙ sym (append-assoc rest (postfix t) (aChange k ∷ []))) in
       on hi (suc n) (suc n) _ _ f (ne-eqb (suc n) 0 (omega arith)) (omega arith) ∙ scanBack-tree t _ n rest (f .rest)
 
   -- with no tree left to find, the walk stops where it is, after a tree's last code
   stay : (ts : List Tree) → upTo at (length (codesOfTrees ts)) ≡ codesOfTrees ts → scanBack at (length (codesOfTrees ts)) 0 ≡ length (codesOfTrees ts)
   unfolding codesOfTrees
   stay [] e = scanBack-none 0
-  stay (t ∷ ts) e = let f = ends-last _ t ts e in scanBack-stop _ 0 (omega (arith, f .hi-is)) (ap (λ (x : Code). stops x 0) (f .code) ∙ stops-last t)
+  stay (t ∷ ts) e = let f = ends-last _ t ts e in scanBack-stop _ 0 (omega (arith, f .hi-is)) (ap (λ (x : Shape). stops x 0) (f .code) ∙ stops-last t)
 
   -- the walk back from a part's last code ends after the codes below it
   pub part-start : (ts : List Tree) (t : Tree) (hi : ℕ) → upTo at hi ≡ codesOfTrees (t ∷ ts) → partStart at hi ≡ length (codesOfTrees ts)
@@ -161,24 +145,24 @@ read-trees (t ∷ ts) =
     ∙ ap₂ (state (renumberedAll (t ∷ ts)) []) place rank
 
 -- The codes before a place fit, and so does the next.
-pub record FitsAt (at : ℕ → Code) (n : ℕ) : Type 0 where
+pub record FitsAt (at : ℕ → Shape) (n : ℕ) : Type 0 where
   pub before : fitsAll (upTo at n) 0 0 ≡ true
   pub here : fits (at (suc n)) (listsAll (upTo at n) 0) (wordsAll (upTo at n) 0) ≡ true
   pub both : fitsAll (upTo at (suc n)) 0 0 ≡ true
 
-pub fits-at : (at : ℕ → Code) (m : ℕ) → wellFormed (upTo at m) ≡ true → (n : ℕ) → n < m → FitsAt at n
+pub fits-at : (at : ℕ → Shape) (m : ℕ) → wellFormed (upTo at m) ≡ true → (n : ℕ) → n < m → FitsAt at n
 unfolding upTo
 fits-at at m fine n h =
     let f = formed (upTo at m) fine .fit in
     let more = upTo (λ i. at (suc n + i)) (m - suc n) in
-    let to = fitsAll-split (upTo at (suc n)) more 0 0 (ap (λ (l : List Code). fitsAll l 0 0) (sym (upTo-split at (suc n) m h)) ∙ f) .0 in
+    let to = fitsAll-split (upTo at (suc n)) more 0 0 (ap (λ (l : List Shape). fitsAll l 0 0) (sym (upTo-split at (suc n) m h)) ∙ f) .0 in
     let b = fitsAll-split (upTo at n) (at (suc n) ∷ []) 0 0 to in
     record { before = b .0; here = fitsAll-cons (at (suc n)) [] (listsAll (upTo at n) 0) (wordsAll (upTo at n) 0) (b .1) .0; both = to }
 
 -- trees that are read are those that their codes are read into: so they are numbered
-module _ (at : ℕ → Code) (hi : ℕ) where
+module _ (at : ℕ → Shape) (hi : ℕ) where
   part-of : (ts : List Tree) (ws : List ℕ) → readAll (upTo at hi) (fresh 1 1) .trees ≡ ts → length ws ≡ 0 → 1 ≤ length ts
-      → codesOfTrees ts ++ map Word ws ≡ upTo at hi → PartAt at hi
+      → codesOfTrees ts ++ map aWord ws ≡ upTo at hi → PartAt at hi
   unfolding renumberedAll
   part-of [] ws a c d e = absurd (omega arith)
   part-of (t ∷ ts) (w ∷ ws) a c d e = absurd (omega arith)
@@ -188,10 +172,10 @@ module _ (at : ℕ → Code) (hi : ℕ) where
       allOf = sym e ∙ append-nil (codesOfTrees (t ∷ ts))
 
       again : renumbered (placeAfter ts) (rankAfter ts) t ∷ renumberedAll ts ≡ t ∷ ts
-      again = sym (ap (λ (s : State). s .trees) (read-trees (t ∷ ts))) ∙ ap (λ (l : List Code). readAll l (fresh 1 1) .trees) (sym allOf) ∙ a
+      again = sym (ap (λ (s : State). s .trees) (read-trees (t ∷ ts))) ∙ ap (λ (l : List Shape). readAll l (fresh 1 1) .trees) (sym allOf) ∙ a
 
 -- every code but a word ends a part
-pub part-at : (at : ℕ → Code) (m : ℕ) → wellFormed (upTo at m) ≡ true → (hi : ℕ) → 1 ≤ hi → hi ≤ m → isWord (at hi) ≡ false → PartAt at hi
+pub part-at : (at : ℕ → Shape) (m : ℕ) → wellFormed (upTo at m) ≡ true → (hi : ℕ) → 1 ≤ hi → hi ≤ m → isWord (at hi) ≡ false → PartAt at hi
 unfolding upTo listsAll wordsAll codesOfTrees
 part-at at m fine zero l h c = absurd (omega arith)
 part-at at m fine (suc n) l h c =
@@ -203,7 +187,7 @@ part-at at m fine (suc n) l h c =
     let s = readAll (upTo at (suc n)) (fresh 1 1) in
     part-of at (suc n) (s .trees) (s .words) refl (words ∙ b .1) (omega arith) (g .spelt)
 
-module _ (at : ℕ → Code) (hi : ℕ) (w : PartAt at hi) where
+module _ (at : ℕ → Shape) (hi : ℕ) (w : PartAt at hi) where
   -- a part's codes stand above those below it
   pub part-length : length (codesOfTrees (w .below)) + length (postfix (w .tree)) ≡ hi
   unfolding codesOfTrees
@@ -220,7 +204,7 @@ module _ (at : ℕ → Code) (hi : ℕ) (w : PartAt at hi) where
   pub part-read : topTree (readAll (upTo at hi) (fresh 1 1) .trees) ≡ w .tree
   unfolding topTree renumberedAll
   part-read =
-      ap (λ (l : List Code). topTree (readAll l (fresh 1 1) .trees)) (w .spells)
+      ap (λ (l : List Shape). topTree (readAll l (fresh 1 1) .trees)) (w .spells)
       ∙ ap (λ (s : State). topTree (s .trees)) (read-trees (w .tree ∷ w .below))
       ∙ w .numbered
 
@@ -228,29 +212,29 @@ module _ (at : ℕ → Code) (hi : ℕ) (w : PartAt at hi) where
   pub part-well : (m : ℕ) → wellFormed (upTo at m) ≡ true → hi ≤ m → wellFormed (postfix (w .tree)) ≡ true
   part-well m fine h =
       let more = upTo (λ i. at (hi + i)) (m - hi) in
-      part-alone (w .below) (w .tree) more (ap wellFormed (ap (λ (l : List Code). l ++ more) (sym (w .spells)) ∙ sym (upTo-split at hi m h)) ∙ fine)
+      part-alone (w .below) (w .tree) more (ap wellFormed (ap (λ (l : List Shape). l ++ more) (sym (w .spells)) ∙ sym (upTo-split at hi m h)) ∙ fine)
 
 -- ---- the parts just below a part's code
 
 -- A combination's sides are the parts that end just before it and just before those.
-pub record PairAt (at : ℕ → Code) (hi mid : ℕ) (k : Pair) (t : Tree) : Type 0 where
+pub record PairAt (at : ℕ → Shape) (hi mid : ℕ) (k : Pair) (t : Tree) : Type 0 where
   pub left : PartAt at mid
   pub right : PartAt at (hi - 1)
   pub is : t ≡ pair k hi (left .tree) (right .tree)
 
--- A not's or a filter's operand is the part that ends just before it.
-pub record WrapAt (at : ℕ → Code) (hi : ℕ) (node : Tree → Tree) (t : Tree) : Type 0 where
-  pub under : PartAt at (hi - 1)
-  pub is : t ≡ node (under .tree)
+-- A change's operand is the part that ends just before it.
+pub record ChangeAt (at : ℕ → Shape) (hi : ℕ) (k : Change) (t : Tree) : Type 0 where
+  pub operand : PartAt at (hi - 1)
+  pub is : t ≡ change k hi (operand .tree)
 
 -- A phrase's words stand just before it.
-pub record PhraseAt (at : ℕ → Code) (hi k rank : ℕ) (before : List Code) (t : Tree) : Type 0 where
+pub record PhraseAt (at : ℕ → Shape) (hi k rank : ℕ) (before : List Shape) (t : Tree) : Type 0 where
   pub words : List ℕ
   pub is : t ≡ phrase hi rank words
   pub long : length words ≡ k
-  pub codes : upTo at (hi - 1) ≡ before ++ map Word words
+  pub codes : upTo at (hi - 1) ≡ before ++ map aWord words
 
-module _ (at : ℕ → Code) (hi : ℕ) (below : List Tree) where
+module _ (at : ℕ → Shape) (hi : ℕ) (below : List Tree) where
   -- the tree t is the part that ends at hi, above those below
   record Here (t : Tree) : Type 0 where
     pub spells : upTo at hi ≡ codesOfTrees (t ∷ below)
@@ -269,11 +253,10 @@ module _ (at : ℕ → Code) (hi : ℕ) (below : List Tree) where
   place-is : (t : Tree) → Here t → placeOf t ≡ hi
   place-is t h = part-place at hi (record { tree = t; below = below; spells = h .spells; numbered = h .numbered })
 
-  pair-of : (t : Tree) → Here t → (k : Pair) (mid : ℕ) → mid ≡ partStart at (hi - 1) → at hi ≡ Combine k → PairAt at hi mid k t
+  pair-of : (t : Tree) → Here t → (k : Pair) (mid : ℕ) → mid ≡ partStart at (hi - 1) → at hi ≡ aPair k → PairAt at hi mid k t
   unfolding lastCode front codesOfTrees renumbered placeOf phrasesAll
   pair-of (phrase c r ws) h k mid m e = absurd (omega (arith, ap arity (sym e ∙ last-is (phrase c r ws) h)))
-  pair-of (negation c t) h k mid m e = absurd (omega (arith, ap arity (sym e ∙ last-is (negation c t) h)))
-  pair-of (filter f c t) h k mid m e = absurd (omega (arith, ap arity (sym e ∙ last-is (filter f c t) h)))
+  pair-of (change j c t) h k mid m e = absurd (omega (arith, ap arity (sym e ∙ last-is (change j c t) h)))
   pair-of (pair j c t u) h k mid m e =
       let at-mid : placeAfter below + length (postfix t) ≡ placeAfter (t ∷ below) = omega (arith, length-append (codesOfTrees below) (postfix t)) in
       let rank-mid : rankAfter below + phrases t ≡ rankAfter (t ∷ below) = omega arith in
@@ -294,64 +277,49 @@ module _ (at : ℕ → Code) (hi : ℕ) (below : List Tree) where
       let same : j ≡ k = cc (last-is (pair j c t u) h) in
       record { left = left; right = right; is = ap₂ (λ (i : Pair) (x : ℕ). pair i x t u) same (place-is (pair j c t u) h) }
 
-  wrapped : (t : Tree) → upTo at (hi - 1) ≡ codesOfTrees below ++ postfix t → renumbered (placeAfter below) (rankAfter below) t ≡ t → PartAt at (hi - 1)
-  unfolding codesOfTrees
-  wrapped t s n = record { tree = t; below = below; spells = s; numbered = n }
+  change-of : (t : Tree) → Here t → (k : Change) → at hi ≡ aChange k → ChangeAt at hi k t
+  unfolding lastCode front codesOfTrees renumbered placeOf
+  change-of (phrase c r ws) h k e = absurd (omega (arith, ap arity (sym e ∙ last-is (phrase c r ws) h)))
+  change-of (pair j c t u) h k e = absurd (omega (arith, ap arity (sym e ∙ last-is (pair j c t u) h)))
+  change-of (change j c t) h k e =
+      let same : j ≡ k = cc (last-is (change j c t) h) in
+      let operand : PartAt at (hi - 1) = record { tree = t; below = below; spells = rest-is (change j c t) h; numbered = cc } in
+      record { operand = operand; is = ap₂ (λ (i : Change) (x : ℕ). change i x t) same (place-is (change j c t) h) }
 
-  negation-of : (t : Tree) → Here t → at hi ≡ Not → WrapAt at hi (negation hi) t
-  unfolding lastCode front renumbered placeOf wrapped
-  negation-of (phrase c r ws) h e = absurd (omega (arith, ap arity (sym e ∙ last-is (phrase c r ws) h)))
-  negation-of (pair j c t u) h e = absurd (omega (arith, ap arity (sym e ∙ last-is (pair j c t u) h)))
-  negation-of (filter f c t) h e = let z : _≡_ {A = ℕ} 0 1 = cc (last-is (filter f c t) h) in absurd (omega arith)
-  negation-of (negation c t) h e = record { under = wrapped t (rest-is (negation c t) h) (cc); is = ap (λ (x : ℕ). negation x t) (place-is (negation c t) h) }
-
-  filter-of : (t : Tree) → Here t → (f : Filter) → at hi ≡ Filtered f → WrapAt at hi (filter f hi) t
-  unfolding lastCode front renumbered placeOf wrapped
-  filter-of (phrase c r ws) h f e = absurd (omega (arith, ap arity (sym e ∙ last-is (phrase c r ws) h)))
-  filter-of (pair j c t u) h f e = absurd (omega (arith, ap arity (sym e ∙ last-is (pair j c t u) h)))
-  filter-of (negation c t) h f e = let z : _≡_ {A = ℕ} 0 1 = cc (last-is (negation c t) h) in absurd (omega arith)
-  filter-of (filter g c t) h f e =
-      let same : g ≡ f = cc (last-is (filter g c t) h) in
-      record { under = wrapped t (rest-is (filter g c t) h) (cc); is = ap₂ (λ (i : Filter) (x : ℕ). filter i x t) same (place-is (filter g c t) h) }
-
-  phrase-of : (t : Tree) → Here t → (k : ℕ) → at hi ≡ Phrase k → PhraseAt at hi k (rankAfter below) (codesOfTrees below) t
+  phrase-of : (t : Tree) → Here t → (k : ℕ) → at hi ≡ aPhrase k → PhraseAt at hi k (rankAfter below) (codesOfTrees below) t
   unfolding lastCode front renumbered placeOf
   phrase-of (pair j c t u) h k e = absurd (omega (arith, ap arity (sym e ∙ last-is (pair j c t u) h)))
-  phrase-of (negation c t) h k e = absurd (omega (arith, ap arity (sym e ∙ last-is (negation c t) h)))
-  phrase-of (filter f c t) h k e = absurd (omega (arith, ap arity (sym e ∙ last-is (filter f c t) h)))
+  phrase-of (change j c t) h k e = absurd (omega (arith, ap arity (sym e ∙ last-is (change j c t) h)))
   phrase-of (phrase c r ws) h k e =
       let same : r ≡ rankAfter below = cc in
       let is : phrase c r ws ≡ phrase hi (rankAfter below) ws = ap₂ (λ (x y : ℕ). phrase x y ws) (place-is (phrase c r ws) h) same in
       record { words = ws; is = is; long = cc (last-is (phrase c r ws) h); codes = rest-is (phrase c r ws) h }
 
-module _ (at : ℕ → Code) (hi : ℕ) (w : PartAt at hi) where
+module _ (at : ℕ → Shape) (hi : ℕ) (w : PartAt at hi) where
   -- a part does not end in a word
-  pub word-at : {A : Type 0} (v : ℕ) → at hi ≡ Word v → A
-  word-at v e = false-true (ap (λ (c : Code). stops c 0) (sym e ∙ ends-last at hi (w .tree) (w .below) (w .spells) .code) ∙ stops-last (w .tree))
+  pub word-at : {A : Type 0} (v : ℕ) → at hi ≡ aWord v → A
+  word-at v e = false-true (ap (λ (c : Shape). stops c 0) (sym e ∙ ends-last at hi (w .tree) (w .below) (w .spells) .code) ∙ stops-last (w .tree))
 
   -- a part by the code at its place
-  pub pair-at : (k : Pair) (mid : ℕ) → mid ≡ partStart at (hi - 1) → at hi ≡ Combine k → PairAt at hi mid k (w .tree)
+  pub pair-at : (k : Pair) (mid : ℕ) → mid ≡ partStart at (hi - 1) → at hi ≡ aPair k → PairAt at hi mid k (w .tree)
   pair-at = pair-of at hi (w .below) (w .tree) (record { spells = w .spells; numbered = w .numbered })
 
-  pub negation-at : at hi ≡ Not → WrapAt at hi (negation hi) (w .tree)
-  negation-at = negation-of at hi (w .below) (w .tree) (record { spells = w .spells; numbered = w .numbered })
+  pub change-at : (k : Change) → at hi ≡ aChange k → ChangeAt at hi k (w .tree)
+  change-at = change-of at hi (w .below) (w .tree) (record { spells = w .spells; numbered = w .numbered })
 
-  pub filter-at : (f : Filter) → at hi ≡ Filtered f → WrapAt at hi (filter f hi) (w .tree)
-  filter-at = filter-of at hi (w .below) (w .tree) (record { spells = w .spells; numbered = w .numbered })
-
-  pub phrase-at : (k : ℕ) → at hi ≡ Phrase k → PhraseAt at hi k (rankAfter (w .below)) (codesOfTrees (w .below)) (w .tree)
+  pub phrase-at : (k : ℕ) → at hi ≡ aPhrase k → PhraseAt at hi k (rankAfter (w .below)) (codesOfTrees (w .below)) (w .tree)
   phrase-at = phrase-of at hi (w .below) (w .tree) (record { spells = w .spells; numbered = w .numbered })
 
 -- ---- partCount, ownCount
 
 -- the codes that count are those of kind 1 and up
-partsEnded-code : (k o : ℕ) → partsEnded (codeOf k o) ≡ cond (leb 1 k) 1 0
-partsEnded-code k o = codeOf-cases (λ c. partsEnded c ≡ cond (leb 1 k) 1 0) k o (λ e. rw e) (λ e. rw e) (λ h q. some h) some (λ h f. some h)
+partsEnded-code : (k o : ℕ) → partsEnded (shapeOf (codeOf k o)) ≡ cond (leb 1 k) 1 0
+partsEnded-code k o = codeOf-cases (λ c. partsEnded (shapeOf c) ≡ cond (leb 1 k) 1 0) k o (λ e. rw e) (λ e. rw e) (λ h q. some h) some (λ h f. some h)
   where
     some : 1 ≤ k → _≡_ {A = ℕ} 1 (cond (leb 1 k) 1 0)
     some h = rw (le-leb 1 k h)
 
-partCount-keep : (at : ℕ → Code) (q : ℕ → Bool) → ((c : ℕ) → partsEnded (at c) ≡ cond (q c) 1 0) → (xs : List ℕ) → partCount (map at xs) ≡ length (keep q xs)
+partCount-keep : (at : ℕ → Shape) (q : ℕ → Bool) → ((c : ℕ) → partsEnded (at c) ≡ cond (q c) 1 0) → (xs : List ℕ) → partCount (map at xs) ≡ length (keep q xs)
 unfolding partCount keep
 partCount-keep at q h [] = refl
 partCount-keep at q h (x ∷ xs) = ap₂ (λ (a b : ℕ). a + b) (h x) (partCount-keep at q h xs) ∙ add (q x)
@@ -361,13 +329,13 @@ partCount-keep at q h (x ∷ xs) = ap₂ (λ (a b : ℕ). a + b) (h x) (partCoun
     add false = omega arith
 
 -- a selection's own count is that of its codes but the words, and of its tree's parts
-pub partCount-codes : (sel : List ℕ) → partCount (codesOf sel) ≡ ownCount sel
-unfolding codesOf ownCount fromTo
+pub partCount-codes : (sel : List ℕ) → partCount (shapesOf sel) ≡ ownCount sel
+unfolding shapesOf ownCount fromTo
 partCount-codes sel =
     let n = size sel in
     let e : n ≡ n + 1 - 1 = omega arith in
-    ap partCount (upTo-map (codeAt sel) n) ∙ partCount-keep (codeAt sel) (λ c. leb 1 (kindAt sel c)) (λ c. partsEnded-code (kindAt sel c) (operandAt sel c)) (upFrom 1 n)
+    ap partCount (upTo-map (shapeAt sel) n) ∙ partCount-keep (shapeAt sel) (λ c. leb 1 (kindAt sel c)) (λ c. partsEnded-code (kindAt sel c) (operandAt sel c)) (upFrom 1 n)
     ∙ ap (λ (k : ℕ). length (keep (λ c. leb 1 (kindAt sel c)) (upFrom 1 k))) e
 
-pub parts-own : (sel : List ℕ) → postfix (treeOf sel) ≡ codesOf sel → length (parts (treeOf sel)) ≡ ownCount sel
+pub parts-own : (sel : List ℕ) → postfix (treeOf sel) ≡ shapesOf sel → length (parts (treeOf sel)) ≡ ownCount sel
 parts-own sel spelt = length-parts (treeOf sel) ∙ ap partCount spelt ∙ partCount-codes sel

@@ -104,7 +104,7 @@ codeOf-cases P k o w p c n f =
 
 -- ---- upTo
 
-module _ (at : ℕ → Code) where
+module _ {A : Type 0} (at : ℕ → A) where
   pub length-upTo : (n : ℕ) → length (upTo at n) ≡ n
   unfolding upTo
   length-upTo zero = refl
@@ -117,46 +117,46 @@ module _ (at : ℕ → Code) where
   upTo-add n (suc k) =
       let later = upTo (λ i. at (n + i)) k in
       let e : n + suc k ≡ suc (n + k) = omega arith in
-      ap (upTo at) e ∙ ap₂ (λ (l : List Code) (i : ℕ). l ++ at i ∷ []) (upTo-add n k) (sym e) ∙ append-assoc (upTo at n) later (at (n + suc k) ∷ [])
+      ap (upTo at) e ∙ ap₂ (λ (l : List A) (i : ℕ). l ++ at i ∷ []) (upTo-add n k) (sym e) ∙ append-assoc (upTo at n) later (at (n + suc k) ∷ [])
 
   -- a row cut after its first n codes
   pub upTo-split : (n m : ℕ) → n ≤ m → upTo at m ≡ upTo at n ++ upTo (λ i. at (n + i)) (m - n)
   upTo-split n m h = let e : m ≡ n + (m - n) = omega arith in ap (upTo at) e ∙ upTo-add n (m - n)
 
   -- codes at the front of a row are its first
-  pub upTo-front : (hi : ℕ) (xs ys : List Code) → upTo at hi ≡ xs ++ ys → upTo at (length xs) ≡ xs
+  pub upTo-front : (hi : ℕ) (xs ys : List A) → upTo at hi ≡ xs ++ ys → upTo at (length xs) ≡ xs
   upTo-front hi xs ys e =
       let n = length xs in
       let h : n ≤ hi = omega (arith, length-upTo hi, ap length e, length-append xs ys) in
       let more = upTo (λ i. at (n + i)) (hi - n) in
       sym (take-at (upTo at n) more n (length-upTo n)) ∙ ap (take n) (sym (upTo-split n hi h) ∙ e) ∙ take-append-seam xs ys
 
-  pub getD-upTo : (m i : ℕ) → i < m → (d : Code) → getD (upTo at m) i d ≡ at (suc i)
+  pub getD-upTo : (m i : ℕ) → i < m → (d : A) → getD (upTo at m) i d ≡ at (suc i)
   unfolding upTo
   getD-upTo m i h d =
       let more = upTo (λ j. at (suc i + j)) (m - suc i) in
-      ap (λ (l : List Code). getD l i d) (upTo-split (suc i) m h ∙ append-snoc (upTo at i) (at (suc i)) more)
+      ap (λ (l : List A). getD l i d) (upTo-split (suc i) m h ∙ append-snoc (upTo at i) (at (suc i)) more)
       ∙ getD-at (upTo at i) (at (suc i)) more d i (length-upTo i)
 
   -- the first hi codes end in the code c
-  pub record Ends (hi : ℕ) (xs : List Code) (c : Code) : Type 0 where
+  pub record Ends (hi : ℕ) (xs : List A) (c : A) : Type 0 where
     pub hi-is : hi ≡ suc (length xs)
     pub code : at hi ≡ c
     pub rest : upTo at (length xs) ≡ xs
 
-  pub ends : (hi : ℕ) (xs : List Code) (c : Code) → upTo at hi ≡ xs ++ c ∷ [] → Ends hi xs c
+  pub ends : (hi : ℕ) (xs : List A) (c : A) → upTo at hi ≡ xs ++ c ∷ [] → Ends hi xs c
   ends hi xs c e =
       let n = length xs in
       let hi-is : hi ≡ suc n = omega (arith, length-upTo hi, ap length e, length-append xs (c ∷ [])) in
-      let same : getD (upTo at (suc n)) n (Word 0) ≡ c = ap (λ (l : List Code). getD l n (Word 0)) (ap (upTo at) (sym hi-is) ∙ e) ∙ getD-append-seam xs c [] (Word 0) in
-      record { hi-is = hi-is; code = ap at hi-is ∙ sym (getD-upTo (suc n) n (omega arith) (Word 0)) ∙ same; rest = upTo-front hi xs (c ∷ []) e }
+      let same : getD (upTo at (suc n)) n c ≡ c = ap (λ (l : List A). getD l n c) (ap (upTo at) (sym hi-is) ∙ e) ∙ getD-append-seam xs c [] c in
+      record { hi-is = hi-is; code = ap at hi-is ∙ sym (getD-upTo (suc n) n (omega arith) c) ∙ same; rest = upTo-front hi xs (c ∷ []) e }
 
   -- the codes from one place on: that code, and those after it
   pub drop-upTo : (m i : ℕ) → i < m → drop i (upTo at m) ≡ at (i + 1) ∷ drop (i + 1) (upTo at m)
   drop-upTo m i h =
       let e : suc i ≡ i + 1 = omega arith in
       let long : i < length (upTo at m) = omega (arith, length-upTo m) in
-      drop-cons (upTo at m) i (Word 0) long ∙ ap₂ (λ (c : Code) (k : ℕ). c ∷ drop k (upTo at m)) (getD-upTo m i h (Word 0) ∙ ap at e) e
+      drop-cons (upTo at m) i (at 0) long ∙ ap₂ (λ (c : A) (k : ℕ). c ∷ drop k (upTo at m)) (getD-upTo m i h (at 0) ∙ ap at e) e
 
   -- a row's first codes, by their places
   pub upTo-map : (n : ℕ) → upTo at n ≡ map at (upFrom 1 n)
@@ -164,10 +164,10 @@ module _ (at : ℕ → Code) where
   upTo-map zero = refl
   upTo-map (suc n) =
       let e : suc n ≡ 1 + n = omega arith in
-      ap₂ (λ (l : List Code) (i : ℕ). l ++ at i ∷ []) (upTo-map n) e ∙ sym (ap (map at) (upFrom-snoc 1 n) ∙ map-append at (upFrom 1 n) ((1 + n) ∷ []))
+      ap₂ (λ (l : List A) (i : ℕ). l ++ at i ∷ []) (upTo-map n) e ∙ sym (ap (map at) (upFrom-snoc 1 n) ∙ map-append at (upFrom 1 n) ((1 + n) ∷ []))
 
   -- a test that all codes pass, from each of them
-  pub all-upTo : (p : Code → Bool) (n : ℕ) → ((c : ℕ) → 1 ≤ c → c ≤ n → p (at c) ≡ true) → allOf p (upTo at n) ≡ true
+  pub all-upTo : (p : A → Bool) (n : ℕ) → ((c : ℕ) → 1 ≤ c → c ≤ n → p (at c) ≡ true) → allOf p (upTo at n) ≡ true
   unfolding upTo allOf
   all-upTo p zero h = refl
   all-upTo p (suc n) h =

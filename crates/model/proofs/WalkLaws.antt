@@ -13,10 +13,11 @@ use Rattle.model.specs.declared.Quick.the-variants.{Answered, Refused}
 use Rattle.model.specs.declared.Refusal.{Refusal}
 use Rattle.model.specs.AllMatches.{allMatches}
 use Rattle.model.specs.Checks.{refusal}
+use Rattle.model.specs.Kinds.{negated, filtered}
 use Rattle.model.specs.Lists.{first}
 use Rattle.model.specs.Matches.{isYes, tooLong}
 use Rattle.model.specs.Section.{Section}
-use Rattle.model.specs.Trees.{Tree, phrase, pair, negation, filter, placeOf, parts}
+use Rattle.model.specs.Trees.{Tree, phrase, pair, change, placeOf, parts}
 use Rattle.model.specs.Walk.{isTooLong, firstTooLong, unlessTooLong, build, turned, orWalk, andWalk, walk}
 use Rattle.model.specs.Walked.{walkAnswer, walkBuilds, walkReaches}
 use Rattle.model.proofs.YesLaws.{yes-phrase, yes-or, yes-and, yes-not}
@@ -29,8 +30,7 @@ pub parts-last : (t : Tree) → (before : List Tree) × (parts t ≡ before ++ t
 unfolding parts
 parts-last (phrase c rank ws) = ([], refl)
 parts-last (pair k c t u) = (parts t ++ parts u, refl)
-parts-last (negation c t) = (parts t, refl)
-parts-last (filter f c t) = (parts t, refl)
+parts-last (change k c t) = (parts t, refl)
 
 -- ---- firstTooLong
 
@@ -124,9 +124,9 @@ walk-is s (pair And c t u) =
     rw (walk-is s t, walk-is s u, tooLong-sides s (walkBuilds s t) (walkAnswer s t) (walkBuilds s u) [], length-sides (walkReaches s t) (walkAnswer s t) (walkReaches s u) [] (pair And c t u))
     (and-walked (firstTooLong s (walkBuilds s t)) (firstTooLong s (walkBuilds s u)) (walkAnswer s t) (walkAnswer s u) (length (walkReaches s t)) (length (walkReaches s u)))
 walk-is s (pair MildNot c t u) = refl
-walk-is s (negation c t) =
-    rw (walk-is s t, length-append (walkReaches s t) (negation c t ∷ [])) (not-walked (firstTooLong s (walkBuilds s t)) (walkAnswer s t) (length (walkReaches s t)))
-walk-is s (filter f c t) = refl
+walk-is s (change negated c t) =
+    rw (walk-is s t, length-append (walkReaches s t) (change negated c t ∷ [])) (not-walked (firstTooLong s (walkBuilds s t)) (walkAnswer s t) (length (walkReaches s t)))
+walk-is s (change (filtered f) c t) = refl
 
 -- ---- walkAnswer
 
@@ -136,8 +136,8 @@ walkAnswer-complete s (phrase c rank ws) = sym (yes-phrase s rank ws)
 walkAnswer-complete s (pair Or c t u) = ap₂ _||_ (walkAnswer-complete s t) (walkAnswer-complete s u) ∙ sym (yes-or (allMatches s t) (allMatches s u))
 walkAnswer-complete s (pair And c t u) = ap₂ _&&_ (walkAnswer-complete s t) (walkAnswer-complete s u) ∙ sym (yes-and (allMatches s t) (allMatches s u))
 walkAnswer-complete s (pair MildNot c t u) = refl
-walkAnswer-complete s (negation c t) = ap not (walkAnswer-complete s t) ∙ sym (yes-not (allMatches s t))
-walkAnswer-complete s (filter f c t) = refl
+walkAnswer-complete s (change negated c t) = ap not (walkAnswer-complete s t) ∙ sym (yes-not (allMatches s t))
+walkAnswer-complete s (change (filtered f) c t) = refl
 
 -- ---- walkBuilds, walkReaches
 
@@ -158,8 +158,8 @@ walkBuilds-reaches s (pair Or c t u) =
 walkBuilds-reaches s (pair And c t u) =
     sublist-append (pair And c t u ∷ []) (Sublistᴰ·append (walkBuilds-reaches s t) (cond-both (walkAnswer s t) (walkBuilds-reaches s u) Sublistᴰ·slnil))
 walkBuilds-reaches s (pair MildNot c t u) = Sublistᴰ·refl (parts (pair MildNot c t u))
-walkBuilds-reaches s (negation c t) = sublist-append (negation c t ∷ []) (walkBuilds-reaches s t)
-walkBuilds-reaches s (filter f c t) = Sublistᴰ·refl (parts (filter f c t))
+walkBuilds-reaches s (change negated c t) = sublist-append (change negated c t ∷ []) (walkBuilds-reaches s t)
+walkBuilds-reaches s (change (filtered f) c t) = Sublistᴰ·refl (parts (change (filtered f) c t))
 
 -- Every code that it reaches is the tree's, in the same order: none counts twice.
 pub walkReaches-parts : (s : Section) (t : Tree) → Sublistᴰ (walkReaches s t) (parts t)
@@ -170,8 +170,8 @@ walkReaches-parts s (pair Or c t u) =
 walkReaches-parts s (pair And c t u) =
     Sublistᴰ·append (Sublistᴰ·append (walkReaches-parts s t) (cond-into (walkAnswer s t) (walkReaches-parts s u) (Sublistᴰ·nil-sublist (parts u)))) (Sublistᴰ·refl (pair And c t u ∷ []))
 walkReaches-parts s (pair MildNot c t u) = Sublistᴰ·refl (parts (pair MildNot c t u))
-walkReaches-parts s (negation c t) = Sublistᴰ·append (walkReaches-parts s t) (Sublistᴰ·refl (negation c t ∷ []))
-walkReaches-parts s (filter f c t) = Sublistᴰ·refl (parts (filter f c t))
+walkReaches-parts s (change negated c t) = Sublistᴰ·append (walkReaches-parts s t) (Sublistᴰ·refl (change negated c t ∷ []))
+walkReaches-parts s (change (filtered f) c t) = Sublistᴰ·refl (parts (change (filtered f) c t))
 
 pub walkBuilds-parts : (s : Section) (t : Tree) → Sublistᴰ (walkBuilds s t) (parts t)
 walkBuilds-parts s t = Sublistᴰ·trans (walkBuilds-reaches s t) (walkReaches-parts s t)

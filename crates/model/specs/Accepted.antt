@@ -12,7 +12,8 @@ use Rattle.model.specs.Limits.{maxTokens, maxCodes, workLength}
 use Rattle.model.specs.Lists.{first}
 use Rattle.model.specs.Parts.{postfix, renumbered, wellFormed}
 use Rattle.model.specs.Section.{size, sentenceAt, paragraphAt}
-use Rattle.model.specs.Selection.{kindAt, operandAt, codesOf}
+use Rattle.model.specs.Selection.{kindAt, operandAt}
+use Rattle.model.specs.Kinds.{shapesOf}
 use Rattle.model.specs.Trees.{treeOf, parts}
 
 -- "Sentence numbers are all zero (not reported) or all nonzero and never falling; paragraph numbers likewise." A unit is either, as the number at a
@@ -43,8 +44,8 @@ pub record AcceptedSelection (selection : List ℕ) : Type 0 where
   pub few : size selection ≤ maxCodes
   pub known : (c : ℕ) → 1 ≤ c → c ≤ size selection → kindAt selection c ≤ 15
   pub operands : (c : ℕ) → 1 ≤ c → c ≤ size selection → operandFits (kindAt selection c) (operandAt selection c) ≡ true
-  pub well : wellFormed (codesOf selection) ≡ true
-  pub spelt : postfix (treeOf selection) ≡ codesOf selection
+  pub well : wellFormed (shapesOf selection) ≡ true
+  pub spelt : postfix (treeOf selection) ≡ shapesOf selection
   pub numbered : renumbered 1 1 (treeOf selection) ≡ treeOf selection
   pub ranks : RanksUpTo maxPhrases (treeOf selection)
   pub no-not : first mildOverNot (parts (treeOf selection)) ≡ none

@@ -5,10 +5,11 @@ use Rattle.model.specs.declared.Filter.{Filter}
 use Rattle.model.specs.declared.Filter.the-variants.{Ordered, Window, Distance, SameSentence, SameParagraph, DifferentSentence, DifferentParagraph, AtStart, AtEnd, EntireContent}
 use Rattle.model.specs.declared.Pair.{Pair}
 use Rattle.model.specs.declared.Pair.the-variants.{Or, And, MildNot}
+use Rattle.model.specs.Kinds.{Change, negated, filtered}
 use Rattle.model.specs.Matches.{Match}
 use Rattle.model.specs.Rules.{phraseList, orList, andList, notList, mildNotList, kept, ordered, window, distance, same, different, atStart, atEnd, entireContent}
 use Rattle.model.specs.Section.{Section}
-use Rattle.model.specs.Trees.{Tree, phrase, pair, negation, filter}
+use Rattle.model.specs.Trees.{Tree, phrase, pair, change}
 
 abbrev pub pairList : Pair → List Match → List Match → List Match
 pairList Or = orList
@@ -31,8 +32,11 @@ filterMatch s EntireContent = kept (entireContent s)
 unfoldable pub filterList : Section → Filter → List Match → List Match
 filterList s f ms = flatMap (filterMatch s f) ms
 
+abbrev pub changeList : Section → Change → List Match → List Match
+changeList s negated = notList
+changeList s (filtered f) = filterList s f
+
 unfoldable pub allMatches : Section → Tree → List Match
 allMatches s (phrase c rank ws) = phraseList s rank ws
 allMatches s (pair k c t u) = pairList k (allMatches s t) (allMatches s u)
-allMatches s (negation c t) = notList (allMatches s t)
-allMatches s (filter f c t) = filterList s f (allMatches s t)
+allMatches s (change k c t) = changeList s k (allMatches s t)

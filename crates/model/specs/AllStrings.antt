@@ -4,7 +4,7 @@ use Prim.Native.Nat.{ℕ, _≤_}
 use mathlib.Core.List.{List, [], _∷_}
 use lib.ListN.{length}
 use Rattle.model.specs.Matches.{Str, Match}
-use Rattle.model.specs.Trees.{Tree, phrase, pair, negation, filter}
+use Rattle.model.specs.Trees.{Tree, phrase, pair, change}
 
 unfoldable pub Every : {A : Type 0} → (A → Type 0) → List A → Type 0
 Every P [] = Unit {0}
@@ -36,8 +36,7 @@ pub record Ranked (r : ℕ) (s : Str) : Type 0 where
 unfoldable pub EveryPhrase : (ℕ → List ℕ → Type 0) → Tree → Type 0
 EveryPhrase P (phrase c rank ws) = P rank ws
 EveryPhrase P (pair k c t u) = EveryPhrase P t × EveryPhrase P u
-EveryPhrase P (negation c t) = EveryPhrase P t
-EveryPhrase P (filter f c t) = EveryPhrase P t
+EveryPhrase P (change k c t) = EveryPhrase P t
 
 -- a rank of 1 to r, and at least one word
 pub record RankUpTo (r rank : ℕ) (words : List ℕ) : Type 0 where

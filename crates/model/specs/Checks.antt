@@ -9,9 +9,10 @@ use Rattle.model.specs.declared.Refusal.{Refusal}
 use Rattle.model.specs.Limits.{maxTokens, maxCodes, maxWaiting, maxWindow, maxDistance, workLength, bufferLength, radix}
 use Rattle.model.specs.Lists.{anyOf, first, fromTo}
 use Rattle.model.specs.Section.{size, wellSized, sentenceAt, paragraphAt}
-use Rattle.model.specs.Selection.{kindAt, operandAt, codesOf}
+use Rattle.model.specs.Selection.{kindAt, operandAt}
+use Rattle.model.specs.Kinds.{isNegation, shapesOf}
 use Rattle.model.specs.Waiting.{firstMisfit}
-use Rattle.model.specs.Trees.{Tree, phrase, pair, negation, filter, placeOf, treeOf, parts}
+use Rattle.model.specs.Trees.{Tree, phrase, pair, change, placeOf, treeOf, parts}
 
 -- a refusal by number and place
 abbrev pub refusal : ℕ → ℕ → Refusal
@@ -75,14 +76,13 @@ wrongOperand selection = first (λ c. not (operandFits (kindAt selection c) (ope
 
 -- 6, "first code breaking the waiting rule (m if only the end does)": "shape wrong"
 unfoldable pub wrongShape : List ℕ → Option ℕ
-wrongShape selection = firstMisfit (codesOf selection)
+wrongShape selection = firstMisfit (shapesOf selection)
 
 -- 7, the first such kind 5: "a not under a mild not"; "No kind 4 may stand in either side of a kind 5."
 abbrev pub isNot : Tree → Bool
 isNot (phrase c r ws) = false
 isNot (pair k c t u) = false
-isNot (negation c t) = true
-isNot (filter f c t) = false
+isNot (change k c t) = isNegation k
 
 abbrev pub hasNot : Tree → Bool
 hasNot t = anyOf isNot (parts t)
@@ -92,8 +92,7 @@ mildOverNot (phrase c r ws) = false
 mildOverNot (pair Or c t u) = false
 mildOverNot (pair And c t u) = false
 mildOverNot (pair MildNot c t u) = hasNot t || hasNot u
-mildOverNot (negation c t) = false
-mildOverNot (filter f c t) = false
+mildOverNot (change k c t) = false
 
 unfoldable pub notUnderMildNot : List ℕ → Option ℕ
 notUnderMildNot selection = Option·map placeOf (first mildOverNot (parts (treeOf selection)))

@@ -18,8 +18,9 @@ use Rattle.model.specs.Lists.{allOf, anyOf, isEmpty, keep, first, allPai
 use Rattle.model.specs.Matches.{Str, Match, strings}
 use Rattle.model.specs.Rules.{standFrom, phraseList, noStrings, andList, notList, mildNotList, leastStart, greatestEnd, join, kept, windowEnds, window, inUnitFor}
 use Rattle.model.specs.Section.{wellSized}
-use Rattle.model.specs.Selection.{upTo, codesOf}
-use Rattle.model.specs.Trees.{placeOf, combine, wrap, read, readAll, topTree, treeOf, parts}
+use Rattle.model.specs.Selection.{upTo}
+use Rattle.model.specs.Kinds.{shapesOf}
+use Rattle.model.specs.Trees.{placeOf, combine, changeLast, read, readAll, topTree, treeOf, parts}
 use Rattle.model.specs.Waiting.{firstMisfitFrom}
 use Rattle.model.specs.Walk.{firstTooLong, build, walk}
 
@@ -144,7 +145,7 @@ entries =
 
 pub examples-hold : allOf right entries ≡ true
 unfolding eachSame sameStr sameMatch countsMatches countsStrings listingSays quickSays buffered holds right inParagraph select one six emptySection four entries
-    xor allOf anyOf isEmpty keep first allPairs neighbours insertSorted sort upFrom fromTo flatMap wellSized upTo codesOf firstMisfitFrom placeOf combine wrap read readAll topTree treeOf parts strings
+    xor allOf anyOf isEmpty keep first allPairs neighbours insertSorted sort upFrom fromTo flatMap wellSized upTo shapesOf firstMisfitFrom placeOf combine changeLast read readAll topTree treeOf parts strings
     standFrom phraseList andList notList mildNotList leastStart greatestEnd join kept windowEnds window inUnitFor filterList allMatches
     tried wrongSection faultyAt faultyPosition wrongSelection unknownKind filterOperandFits operandFits wrongOperand wrongShape notUnderMildNot sectionRefusal selectionRefusal inputRefusal listingChecks quickChecks
     firstTooLong build walk listingRefusal listingAnswer listingNumbers listingBuffer quickAnswer

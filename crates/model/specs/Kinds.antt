@@ -1,22 +1,54 @@
--- What a code is to the waiting rule, to trees and to parts is two facts: whether it is a word, and how many lists it takes. Every code but a word
--- makes one list of those that it takes.
+-- The shape of a code is what the waiting rule, trees and parts see of it: "Kind 0 .. adds a word. Kind 1 needs p = k .. Other kinds .. 2, 3 and 5 need
+-- w ≥ 2 .., the rest need w ≥ 1." A word waits; every other code makes one list, of the words that wait, of the last list or of the last two.
 use Prim.Native.Nat.{ℕ}
 use mathlib.Core.Bool.{Bool, true, false}
+use mathlib.Core.List.{List}
 use Rattle.model.specs.declared.Code.{Code}
-use Rattle.model.specs.declared.Code.the-variants.{Word, Phrase, Combine, Not, Filter}
+use Rattle.model.specs.declared.Code.the-variants.{Word, Phrase, Combine, Not, Filter as Filtered}
+use Rattle.model.specs.declared.Filter.{Filter}
+use Rattle.model.specs.declared.Pair.{Pair}
+use Rattle.model.specs.Section.{size}
+use Rattle.model.specs.Selection.{codeAt, upTo}
 
--- kind 0: "word of a phrase"
-abbrev pub isWord : Code → Bool
-isWord (Word v) = true
-isWord (Phrase k) = false
-isWord (Combine k) = false
-isWord Not = false
-isWord (Filter f) = false
+-- what a code makes of the last list
+pub data Change : Type 0 where
+  negated : Change
+  filtered : Filter → Change
 
--- "kinds 2, 3 and 5 need w ≥ 2 .., the rest need w ≥ 1"; a phrase takes words, and no list
-abbrev pub arity : Code → ℕ
-arity (Word v) = 0
-arity (Phrase k) = 0
-arity (Combine k) = 2
-arity Not = 1
-arity (Filter f) = 1
+pub data Shape : Type 0 where
+  aWord : (number : ℕ) → Shape
+  aPhrase : (words : ℕ) → Shape
+  aPair : Pair → Shape
+  aChange : Change → Shape
+
+-- the table: a new kind enters here
+abbrev pub shapeOf : Code → Shape
+shapeOf (Word v) = aWord v
+shapeOf (Phrase k) = aPhrase k
+shapeOf (Combine k) = aPair k
+shapeOf Not = aChange negated
+shapeOf (Filtered f) = aChange (filtered f)
+
+abbrev pub isWord : Shape → Bool
+isWord (aWord v) = true
+isWord (aPhrase k) = false
+isWord (aPair k) = false
+isWord (aChange k) = false
+
+-- how many lists it takes
+abbrev pub arity : Shape → ℕ
+arity (aWord v) = 0
+arity (aPhrase k) = 0
+arity (aPair k) = 2
+arity (aChange k) = 1
+
+abbrev pub isNegation : Change → Bool
+isNegation negated = true
+isNegation (filtered f) = false
+
+-- the shapes of a selection's codes
+abbrev pub shapeAt : List ℕ → ℕ → Shape
+shapeAt selection c = shapeOf (codeAt selection c)
+
+unfoldable pub shapesOf : List ℕ → List Shape
+shapesOf selection = upTo (shapeAt selection) (size selection)

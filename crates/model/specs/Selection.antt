@@ -9,7 +9,7 @@ use Rattle.model.specs.declared.Filter.{Filter}
 use Rattle.model.specs.declared.Filter.the-variants.{Ordered, Window, Distance, SameSentence, SameParagraph, DifferentSentence, DifferentParagraph, AtStart, AtEnd, EntireContent}
 use Rattle.model.specs.declared.Pair.the-variants.{Or, And, MildNot}
 use Rattle.model.specs.Limits.{radix}
-use Rattle.model.specs.Section.{size, firstAt, secondAt}
+use Rattle.model.specs.Section.{firstAt, secondAt}
 
 -- "codes count from 1"
 abbrev pub kindAt : List ℕ → ℕ → ℕ
@@ -90,10 +90,7 @@ codeOf kind operand =
 abbrev pub codeAt : List ℕ → ℕ → Code
 codeAt selection c = codeOf (kindAt selection c) (operandAt selection c)
 
--- the first n codes of a row of codes
-unfoldable pub upTo : (ℕ → Code) → ℕ → List Code
+-- the first n of a row
+unfoldable pub upTo : {A : Type 0} → (ℕ → A) → ℕ → List A
 upTo at zero = []
 upTo at (suc n) = upTo at n ++ at (suc n) ∷ []
-
-unfoldable pub codesOf : List ℕ → List Code
-codesOf selection = upTo (codeAt selection) (size selection)

@@ -1,24 +1,19 @@
 -- A selection that keeps the waiting rule, as a tree. A node knows its code's place; a phrase knows also its rank among the phrases and its words.
 use Prim.Native.Nat.{ℕ, _+_}
 use mathlib.Core.List.{List, [], _∷_, _++_}
-use Rattle.model.specs.declared.Code.{Code}
-use Rattle.model.specs.declared.Code.the-variants.{Word, Phrase, Combine, Not, Filter as Filtered}
-use Rattle.model.specs.declared.Filter.{Filter}
+use Rattle.model.specs.Kinds.{Change, Shape, aWord, aPhrase, aPair, aChange, shapesOf}
 use Rattle.model.specs.declared.Pair.{Pair}
-use Rattle.model.specs.Selection.{codesOf}
 
 pub data Tree : Type 0 where
   phrase : (place rank : ℕ) → (words : List ℕ) → Tree
   pair : Pair → (place : ℕ) → (left right : Tree) → Tree
-  negation : (place : ℕ) → (operand : Tree) → Tree
-  filter : Filter → (place : ℕ) → (operand : Tree) → Tree
+  change : Change → (place : ℕ) → (operand : Tree) → Tree
 
 -- the place of the code that ends the tree
 unfoldable pub placeOf : Tree → ℕ
 placeOf (phrase c r ws) = c
 placeOf (pair k c t u) = c
-placeOf (negation c t) = c
-placeOf (filter f c t) = c
+placeOf (change k c t) = c
 
 -- What waits while codes are read: trees, the last first; loose words in order; and the place and the rank that come next.
 pub record State : Type 0 where
@@ -33,20 +28,19 @@ combine k c [] = []
 combine k c (u ∷ []) = u ∷ []
 combine k c (u ∷ t ∷ ts) = pair k c t u ∷ ts
 
--- a not or a filter takes the last one
-unfoldable pub wrap : (Tree → Tree) → List Tree → List Tree
-wrap f [] = []
-wrap f (t ∷ ts) = f t ∷ ts
+-- a change takes the last one
+unfoldable pub changeLast : Change → ℕ → List Tree → List Tree
+changeLast k c [] = []
+changeLast k c (t ∷ ts) = change k c t ∷ ts
 
 -- one code read; "Its query position is its rank among the kind-1 codes, from 1"
-unfoldable pub read : Code → State → State
-read (Word w) s = record { trees = s .trees; words = s .words ++ w ∷ []; place = s .place + 1; rank = s .rank }
-read (Phrase k) s = record { trees = phrase (s .place) (s .rank) (s .words) ∷ s .trees; words = []; place = s .place + 1; rank = s .rank + 1 }
-read (Combine k) s = record { trees = combine k (s .place) (s .trees); words = s .words; place = s .place + 1; rank = s .rank }
-read Not s = record { trees = wrap (negation (s .place)) (s .trees); words = s .words; place = s .place + 1; rank = s .rank }
-read (Filtered f) s = record { trees = wrap (filter f (s .place)) (s .trees); words = s .words; place = s .place + 1; rank = s .rank }
+unfoldable pub read : Shape → State → State
+read (aWord w) s = record { trees = s .trees; words = s .words ++ w ∷ []; place = s .place + 1; rank = s .rank }
+read (aPhrase k) s = record { trees = phrase (s .place) (s .rank) (s .words) ∷ s .trees; words = []; place = s .place + 1; rank = s .rank + 1 }
+read (aPair k) s = record { trees = combine k (s .place) (s .trees); words = s .words; place = s .place + 1; rank = s .rank }
+read (aChange k) s = record { trees = changeLast k (s .place) (s .trees); words = s .words; place = s .place + 1; rank = s .rank }
 
-unfoldable pub readAll : List Code → State → State
+unfoldable pub readAll : List Shape → State → State
 readAll [] s = s
 readAll (c ∷ cs) s = readAll cs (read c s)
 
@@ -60,11 +54,10 @@ topTree [] = phrase 0 0 []
 topTree (t ∷ ts) = t
 
 unfoldable pub treeOf : List ℕ → Tree
-treeOf selection = topTree (readAll (codesOf selection) (fresh 1 1) .trees)
+treeOf selection = topTree (readAll (shapesOf selection) (fresh 1 1) .trees)
 
 -- The part of a code "is its code and every code below it": the parts in a tree, one for each code but those of kind 0, in postfix order.
 unfoldable pub parts : Tree → List Tree
 parts (phrase c r ws) = phrase c r ws ∷ []
 parts (pair k c t u) = parts t ++ parts u ++ pair k c t u ∷ []
-parts (negation c t) = parts t ++ negation c t ∷ []
-parts (filter f c t) = parts t ++ filter f c t ∷ []
+parts (change k c t) = parts t ++ change k c t ∷ []

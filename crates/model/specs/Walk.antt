@@ -8,6 +8,7 @@ use lib.ListN.{length}
 use Rattle.model.specs.declared.Pair.the-variants.{Or, And, MildNot}
 use Rattle.model.specs.declared.Quick.{Quick}
 use Rattle.model.specs.declared.Quick.the-variants.{Answered, Refused}
+use Rattle.model.specs.Kinds.{negated, filtered}
 use Rattle.model.specs.AllMatches.{allMatches}
 use Rattle.model.specs.Checks.{refusal}
 use Rattle.model.specs.Lists.{first, isEmpty, keep, fromTo}
@@ -15,7 +16,7 @@ use Rattle.model.specs.Matches.{isYes, tooLong}
 use Rattle.model.specs.Rules.{phraseList}
 use Rattle.model.specs.Section.{Section, size}
 use Rattle.model.specs.Selection.{kindAt}
-use Rattle.model.specs.Trees.{Tree, phrase, pair, negation, filter, placeOf, parts}
+use Rattle.model.specs.Trees.{Tree, phrase, pair, change, placeOf, parts}
 
 -- 9, "the first such code built": "its list has over 256 matches or 512 strings". "Building makes one list for each code of the part but kind 0,
 -- in postfix order; a list is measured complete, and the steps inside a rule are not."
@@ -56,11 +57,11 @@ andWalk (Refused r) right = Refused r
 -- "a phrase is yes if its list isn't empty"
 unfoldable pub walk : Section → Tree → Quick
 walk s (phrase c rank ws) = Answered (not (isEmpty (phraseList s rank ws))) 1
-walk s (negation c t) = turned (walk s t)
+walk s (change negated c t) = turned (walk s t)
 walk s (pair Or c t u) = let right = walk s u in orWalk (walk s t) right
 walk s (pair And c t u) = let right = walk s u in andWalk (walk s t) right
 walk s (pair MildNot c t u) = build s (pair MildNot c t u)
-walk s (filter f c t) = build s (filter f c t)
+walk s (change (filtered f) c t) = build s (change (filtered f) c t)
 
 -- "The selection's own count is that of all its codes but those of kind 0."
 unfoldable pub ownCount : List ℕ → ℕ

@@ -3,36 +3,37 @@
 use mathlib.Core.Bool.{Bool, not, _&&_, _||_, cond}
 use mathlib.Core.List.{List, [], _∷_, _++_}
 use Rattle.model.specs.declared.Pair.the-variants.{Or, And, MildNot}
+use Rattle.model.specs.Kinds.{negated, filtered}
 use Rattle.model.specs.AllMatches.{allMatches}
 use Rattle.model.specs.Lists.{isEmpty}
 use Rattle.model.specs.Matches.{isYes}
 use Rattle.model.specs.Rules.{phraseList}
 use Rattle.model.specs.Section.{Section}
-use Rattle.model.specs.Trees.{Tree, phrase, pair, negation, filter, parts}
+use Rattle.model.specs.Trees.{Tree, phrase, pair, change, parts}
 
 -- the answer that the walk comes to where no list that it builds is too long
 unfoldable pub walkAnswer : Section → Tree → Bool
 walkAnswer s (phrase c rank ws) = not (isEmpty (phraseList s rank ws))
-walkAnswer s (negation c t) = not (walkAnswer s t)
+walkAnswer s (change negated c t) = not (walkAnswer s t)
 walkAnswer s (pair Or c t u) = walkAnswer s t || walkAnswer s u
 walkAnswer s (pair And c t u) = walkAnswer s t && walkAnswer s u
 walkAnswer s (pair MildNot c t u) = isYes (allMatches s (pair MildNot c t u))
-walkAnswer s (filter f c t) = isYes (allMatches s (filter f c t))
+walkAnswer s (change (filtered f) c t) = isYes (allMatches s (change (filtered f) c t))
 
 -- the codes that it builds, in order, were no list too long
 unfoldable pub walkBuilds : Section → Tree → List Tree
 walkBuilds s (phrase c rank ws) = []
-walkBuilds s (negation c t) = walkBuilds s t
+walkBuilds s (change negated c t) = walkBuilds s t
 walkBuilds s (pair Or c t u) = walkBuilds s t ++ cond (walkAnswer s t) [] (walkBuilds s u)
 walkBuilds s (pair And c t u) = walkBuilds s t ++ cond (walkAnswer s t) (walkBuilds s u) []
 walkBuilds s (pair MildNot c t u) = parts (pair MildNot c t u)
-walkBuilds s (filter f c t) = parts (filter f c t)
+walkBuilds s (change (filtered f) c t) = parts (change (filtered f) c t)
 
 -- the codes that it walks or builds, were no list too long
 unfoldable pub walkReaches : Section → Tree → List Tree
 walkReaches s (phrase c rank ws) = phrase c rank ws ∷ []
-walkReaches s (negation c t) = walkReaches s t ++ negation c t ∷ []
+walkReaches s (change negated c t) = walkReaches s t ++ change negated c t ∷ []
 walkReaches s (pair Or c t u) = walkReaches s t ++ cond (walkAnswer s t) [] (walkReaches s u) ++ pair Or c t u ∷ []
 walkReaches s (pair And c t u) = walkReaches s t ++ cond (walkAnswer s t) (walkReaches s u) [] ++ pair And c t u ∷ []
 walkReaches s (pair MildNot c t u) = parts (pair MildNot c t u)
-walkReaches s (filter f c t) = parts (filter f c t)
+walkReaches s (change (filtered f) c t) = parts (change (filtered f) c t)

@@ -7,7 +7,7 @@ use mathlib.Core.List.{[], _∷_}
 use mathlib.Core.Option.{Option, some, none}
 use lib.ListN.{drop}
 use borrow.Author.Tests.{eq-eqb, ne-eqb}
-use Rattle.model.specs.declared.Code.{Code}
+use Rattle.model.specs.Kinds.{Shape}
 use Rattle.model.specs.Lists.{anyOf}
 use Rattle.model.specs.Parts.{isNotCode, stops, treesNeeded, scanBack}
 use Rattle.model.specs.Selection.{upTo}
@@ -18,11 +18,11 @@ use Rattle.model.proofs.WaitingLaws.{misfit-here, misfit-on, misfit-end}
 
 -- ---- the waiting rule
 
-module _ (at : ℕ → Code) (m : ℕ) where
+module _ (at : ℕ → Shape) (m : ℕ) where
   abbrev misfitAfter : ℕ → ℕ → ℕ → Option ℕ
   misfitAfter c w p = firstMisfitFrom c (drop c (upTo at m)) w p
 
-  module _ (c w p : ℕ) (h : c < m) (code : Code) (e : code ≡ at (c + 1)) where
+  module _ (c w p : ℕ) (h : c < m) (code : Shape) (e : code ≡ at (c + 1)) where
     pub misfits-here : fits code w p ≡ false → misfitAfter c w p ≡ some (c + 1)
     misfits-here f = misfit-here at m c w p h (ap (λ k. fits k w p) (sym e) ∙ f)
 
@@ -46,23 +46,23 @@ module _ (at : ℕ → Code) (m : ℕ) where
 
 -- ---- the start of a part
 
-module _ (at : ℕ → Code) (c n : ℕ) (h : 0 < c) (code : Code) (e : code ≡ at c) where
+module _ (at : ℕ → Shape) (c n : ℕ) (h : 0 < c) (code : Shape) (e : code ≡ at c) where
   pub scanBack-here : stops code n ≡ true → c ≡ scanBack at c n
   scanBack-here s = sym (scanBack-stop at c n h (ap (λ k. stops k n) (sym e) ∙ s))
 
   pub scanBack-before : stops code n ≡ false → (k : ℕ) → k ≡ treesNeeded code n → scanBack at (c - 1) k ≡ scanBack at c n
   scanBack-before s k d = ap (scanBack at (c - 1)) (d ∙ ap (λ x. treesNeeded x n) e) ∙ sym (scanBack-on at c n h (ap (λ x. stops x n) (sym e) ∙ s))
 
-pub scanBack-zero : (at : ℕ → Code) (c n : ℕ) → c ≡ 0 → 0 ≡ scanBack at c n
+pub scanBack-zero : (at : ℕ → Shape) (c n : ℕ) → c ≡ 0 → 0 ≡ scanBack at c n
 scanBack-zero at c n e = sym (ap (λ k. scanBack at k n) e ∙ scanBack-none at n)
 
 -- ---- a not among the codes of a part, from the last to the first
 
-module _ (at : ℕ → Code) (lo : ℕ) where
+module _ (at : ℕ → Shape) (lo : ℕ) where
   abbrev nots : ℕ → Bool
   nots c = anyOf isNotCode (upTo (λ i. at (lo + i)) (c - lo))
 
-  module _ (c : ℕ) (h : lo < c) (code : Code) (e : code ≡ at c) where
+  module _ (c : ℕ) (h : lo < c) (code : Shape) (e : code ≡ at c) where
     last-is : nots c ≡ (nots (c - 1) || isNotCode code)
     unfolding upTo anyOf
     last-is =

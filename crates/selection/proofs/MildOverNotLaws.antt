@@ -8,20 +8,18 @@ use mathlib.Core.Bool.{true, false, _&&_, or-false}
 use mathlib.Core.List.{List, [], _∷_, _++_}
 use mathlib.Core.Logic.{_⊎_, inl, inr, ⊎-elim}
 use mathlib.Core.Option.{Option, some, none, Option·map, orElse, map-eq-none-iff, Option·none-ne-some}
-use Rattle.model.specs.declared.Code.{Code}
-use Rattle.model.specs.declared.Code.the-variants.{Word, Phrase, Combine, Not, Filter}
 use Rattle.model.specs.declared.Pair.the-variants.{Or, And, MildNot}
 use Rattle.model.specs.Checks.{isNot, mildOverNot, notUnderMildNot}
-use Rattle.model.specs.Kinds.{isWord}
+use Rattle.model.specs.Kinds.{Shape, aWord, aPhrase, aPair, aChange, isWord, shapeAt, shapesOf}
 use Rattle.model.specs.Lists.{anyOf, first}
 use Rattle.model.specs.Parts.{isNotCode, isMildNot, postfix, fitsAll, wellFormed, partEndedBy, waitingParts, PartAt, partStart}
 use Rattle.model.specs.Section.{size}
-use Rattle.model.specs.Selection.{upTo, codeAt, codesOf}
+use Rattle.model.specs.Selection.{upTo}
 use Rattle.model.specs.Trees.{Tree, pair, placeOf, State, read, readAll, fresh, topTree, treeOf, parts}
 use Rattle.model.proofs.BuildLaws.{part-codes}
 use Rattle.model.proofs.ChecksLaws.{has-not}
 use Rattle.model.proofs.ListsLaws.{any-append, first-append}
-use Rattle.model.proofs.PartsLaws.{fits-at, part-at, part-place, part-read, word-at, pair-at, negation-at, filter-at, phrase-at}
+use Rattle.model.proofs.PartsLaws.{fits-at, part-at, part-place, part-read, word-at, pair-at, change-at, phrase-at}
 use Rattle.model.proofs.SelectionLaws.{upTo-split}
 use Rattle.model.proofs.TestsLaws.{false-true, and-join}
 use Rattle.model.proofs.TreesLaws.{readAll-append, readAll-snoc}
@@ -37,21 +35,20 @@ mild-tree k c t u =
     sym (any-append isNot (parts t ++ parts u) (pair MildNot c t u ∷ []) ∙ or-false (anyOf isNot (parts t ++ parts u)) ∙ any-append isNot (parts t) (parts u))
     ∙ has-not (pair MildNot c t u)
 
-module _ (at : ℕ → Code) (hi : ℕ) (w : PartAt at hi) where
-  pub mild-part : (code : Code) → at hi ≡ code → mildOverNot (w .tree) ≡ (isMildNot code && anyOf isNotCode (postfix (w .tree)))
-  mild-part (Word v) e = word-at at hi w v e
-  mild-part (Phrase k) e = ap mildOverNot (phrase-at at hi w k e .is)
-  mild-part (Combine Or) e = ap mildOverNot (pair-at at hi w Or _ refl e .is)
-  mild-part (Combine And) e = ap mildOverNot (pair-at at hi w And _ refl e .is)
-  mild-part (Combine MildNot) e =
+module _ (at : ℕ → Shape) (hi : ℕ) (w : PartAt at hi) where
+  pub mild-part : (code : Shape) → at hi ≡ code → mildOverNot (w .tree) ≡ (isMildNot code && anyOf isNotCode (postfix (w .tree)))
+  mild-part (aWord v) e = word-at at hi w v e
+  mild-part (aPhrase k) e = ap mildOverNot (phrase-at at hi w k e .is)
+  mild-part (aPair Or) e = ap mildOverNot (pair-at at hi w Or _ refl e .is)
+  mild-part (aPair And) e = ap mildOverNot (pair-at at hi w And _ refl e .is)
+  mild-part (aPair MildNot) e =
       let is = pair-at at hi w MildNot _ refl e .is in
       ap mildOverNot is ∙ mild-tree 0 hi _ _ ∙ ap (λ t. anyOf isNotCode (postfix t)) (sym is)
-  mild-part Not e = ap mildOverNot (negation-at at hi w e .is)
-  mild-part (Filter f) e = ap mildOverNot (filter-at at hi w f e .is)
+  mild-part (aChange k) e = ap mildOverNot (change-at at hi w k e .is)
 
 -- ---- all the parts up to a code
 
-abbrev after : (ℕ → Code) → ℕ → State
+abbrev after : (ℕ → Shape) → ℕ → State
 after at c = readAll (upTo at c) (fresh 1 1)
 
 -- the place of the first mild not over a not among some parts
@@ -59,7 +56,7 @@ abbrev pub placeIn : List Tree → Option ℕ
 placeIn ts = Option·map placeOf (first mildOverNot ts)
 
 -- the place found among the parts that end at the first c codes
-abbrev pub found : (ℕ → Code) → ℕ → Option ℕ
+abbrev pub found : (ℕ → Shape) → ℕ → Option ℕ
 found at c = placeIn (waitingParts (readAll (upTo at c) (fresh 1 1) .trees))
 
 placeIn-append : (xs ys : List Tree) → placeIn xs ≡ none → placeIn (xs ++ ys) ≡ placeIn ys
@@ -80,18 +77,17 @@ unfolding first
 placeIn-one t e = rw e
 
 -- a word ends no part, any other code one
-ends-part : (code : Code) → ((isMildNot code ≡ false) × ((ts : List Tree) → partEndedBy code ts ≡ [])) ⊎ ((isWord code ≡ false) × ((ts : List Tree) → partEndedBy code ts ≡ topTree ts ∷ []))
-ends-part (Word v) = inl (refl, λ ts. refl)
-ends-part (Phrase k) = inr (refl, λ ts. refl)
-ends-part (Combine k) = inr (refl, λ ts. refl)
-ends-part Not = inr (refl, λ ts. refl)
-ends-part (Filter f) = inr (refl, λ ts. refl)
+ends-part : (code : Shape) → ((isMildNot code ≡ false) × ((ts : List Tree) → partEndedBy code ts ≡ [])) ⊎ ((isWord code ≡ false) × ((ts : List Tree) → partEndedBy code ts ≡ topTree ts ∷ []))
+ends-part (aWord v) = inl (refl, λ ts. refl)
+ends-part (aPhrase k) = inr (refl, λ ts. refl)
+ends-part (aPair k) = inr (refl, λ ts. refl)
+ends-part (aChange k) = inr (refl, λ ts. refl)
 
 placeIn-none : (t : Tree) → mildOverNot t ≡ false → placeIn (t ∷ []) ≡ none
 unfolding first
 placeIn-none t e = rw e
 
-module _ (at : ℕ → Code) (m : ℕ) (well : wellFormed (upTo at m) ≡ true) where
+module _ (at : ℕ → Shape) (m : ℕ) (well : wellFormed (upTo at m) ≡ true) where
   module _ (c : ℕ) (h : c < m) where
     -- one code more adds the part that it ends
     adds : waitingParts (after at (suc c) .trees) ≡ waitingParts (after at c .trees) ++ partEndedBy (at (suc c)) (after at (suc c) .trees)
@@ -106,7 +102,7 @@ module _ (at : ℕ → Code) (m : ℕ) (well : wellFormed (upTo at m) ≡ true) 
     part e = part-at at m well (suc c) (omega arith) h e
 
     module _ (e : isWord (at (suc c)) ≡ false) where
-      is-mild : (code : Code) → at (suc c) ≡ code → mildOverNot (topTree (after at (suc c) .trees)) ≡ (isMildNot code && anyOf isNotCode (partCodes at (suc c)))
+      is-mild : (code : Shape) → at (suc c) ≡ code → mildOverNot (topTree (after at (suc c) .trees)) ≡ (isMildNot code && anyOf isNotCode (partCodes at (suc c)))
       unfolding partCodes
       is-mild code d =
           ap mildOverNot (part-read at (suc c) (part e)) ∙ mild-part at (suc c) (part e) code d
@@ -117,7 +113,7 @@ module _ (at : ℕ → Code) (m : ℕ) (well : wellFormed (upTo at m) ≡ true) 
 
   -- ---- the turns of the search
 
-  module _ (c : ℕ) (h : c < m) (none-yet : found at c ≡ none) (code : Code) (d : code ≡ at (suc c)) where
+  module _ (c : ℕ) (h : c < m) (none-yet : found at c ≡ none) (code : Shape) (d : code ≡ at (suc c)) where
     newer : (ts : List Tree) → partEndedBy code (after at (suc c) .trees) ≡ ts → found at (suc c) ≡ placeIn ts
     newer ts e =
         ap placeIn (adds c h) ∙ placeIn-append (waitingParts (after at c .trees)) (partEndedBy (at (suc c)) (after at (suc c) .trees)) none-yet
@@ -141,7 +137,7 @@ module _ (at : ℕ → Code) (m : ℕ) (well : wellFormed (upTo at m) ≡ true) 
         (ends-part code)
 
   -- the same, with the code's own place
-  module _ (c : ℕ) (h : c < m) (none-yet : found at c ≡ none) (code : Code) (d : code ≡ at (c + 1)) where
+  module _ (c : ℕ) (h : c < m) (none-yet : found at c ≡ none) (code : Shape) (d : code ≡ at (c + 1)) where
     d' : code ≡ at (suc c)
     d' = d ∙ ap at (add-one c)
 
@@ -155,14 +151,14 @@ module _ (at : ℕ → Code) (m : ℕ) (well : wellFormed (upTo at m) ≡ true) 
 
 -- ---- the whole selection
 
-module _ (sel : List ℕ) (well : wellFormed (codesOf sel) ≡ true) where
-  abbrev row : ℕ → Code
-  row = codeAt sel
+module _ (sel : List ℕ) (well : wellFormed (shapesOf sel) ≡ true) where
+  abbrev row : ℕ → Shape
+  row = shapeAt sel
 
   -- all codes read, the parts are the tree's
   whole : waitingParts (after row (size sel) .trees) ≡ parts (treeOf sel)
-  unfolding treeOf waitingParts codesOf topTree
-  whole = let P = parsed (codesOf sel) well in rw (P .alone)
+  unfolding treeOf waitingParts shapesOf topTree
+  whole = let P = parsed (shapesOf sel) well in rw (P .alone)
 
   pub found-none : found row (size sel) ≡ none → notUnderMildNot sel ≡ none
   unfolding notUnderMildNot
@@ -170,7 +166,7 @@ module _ (sel : List ℕ) (well : wellFormed (codesOf sel) ≡ true) where
 
   -- what is found among the first codes is found among all
   pub found-some : (c : ℕ) → c ≤ size sel → (place : ℕ) → found row c ≡ some place → notUnderMildNot sel ≡ some place
-  unfolding notUnderMildNot codesOf
+  unfolding notUnderMildNot shapesOf
   found-some c h place e =
       let rest = upTo (λ i. row (c + i)) (size sel - c) in
       let allOf = upTo-split row c (size sel) h in

@@ -7,8 +7,7 @@ use mathlib.Core.List.{List, [], _∷_, _++_}
 use lib.Dec.{eqb, leb, ltb}
 use lib.ListN.{length, take, drop}
 use borrow.Author.Tests.{lt-ltb, le-ltb, le-leb, lt-leb}
-use Rattle.model.specs.declared.Code.{Code}
-use Rattle.model.specs.Kinds.{isWord, arity}
+use Rattle.model.specs.Kinds.{Shape, isWord, arity}
 use Rattle.model.specs.Parts.{phrasesEnded}
 use Rattle.model.specs.Section.{size}
 use Rattle.model.specs.Selection.{operandAt, upTo}
@@ -17,16 +16,16 @@ use Rattle.model.proofs.TestsLaws.{cond-le}
 
 -- ---- phrasesIn
 
-pub phrasesIn-append : (xs ys : List Code) → phrasesIn (xs ++ ys) ≡ phrasesIn xs + phrasesIn ys
+pub phrasesIn-append : (xs ys : List Shape) → phrasesIn (xs ++ ys) ≡ phrasesIn xs + phrasesIn ys
 unfolding phrasesIn
 phrasesIn-append [] ys = omega arith
 phrasesIn-append (x ∷ xs) ys = omega (arith, phrasesIn-append xs ys)
 
-pub phrasesEnded-le : (c : Code) → phrasesEnded c ≤ 1
+pub phrasesEnded-le : (c : Shape) → phrasesEnded c ≤ 1
 phrasesEnded-le c = cond-le (isWord c) _ _ _ (omega arith) (cond-le (eqb (arity c) 0) _ _ _ (omega arith) (omega arith))
 
 -- one code more
-pub phrasesIn-more : (at : ℕ → Code) (c : ℕ) (code : Code) → code ≡ at (c + 1) → (n k : ℕ) → n ≡ phrasesIn (upTo at c) → k ≡ phrasesEnded code
+pub phrasesIn-more : (at : ℕ → Shape) (c : ℕ) (code : Shape) → code ≡ at (c + 1) → (n k : ℕ) → n ≡ phrasesIn (upTo at c) → k ≡ phrasesEnded code
     → n + k ≡ phrasesIn (upTo at (c + 1))
 unfolding phrasesIn upTo
 phrasesIn-more at c code e n k a b =

@@ -4,7 +4,7 @@ use mathlib.Core.Bool.{_&&_, cond}
 use mathlib.Core.List.{List, [], _∷_}
 use lib.Dec.{leb, ltb}
 use lib.ListN.{length, take, drop}
-use Rattle.model.specs.declared.Code.{Code}
+use Rattle.model.specs.Kinds.{Shape}
 use Rattle.model.specs.Parts.{phrasesEnded}
 use Rattle.model.specs.Section.{size}
 use Rattle.model.specs.Selection.{operandAt}
@@ -17,6 +17,6 @@ phraseWords selection c =
     []
 
 -- how many phrases are among codes; of the codes up to a phrase, it is the phrase's rank
-unfoldable pub phrasesIn : List Code → ℕ
+unfoldable pub phrasesIn : List Shape → ℕ
 phrasesIn [] = 0
 phrasesIn (c ∷ cs) = phrasesEnded c + phrasesIn cs

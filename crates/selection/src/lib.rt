@@ -10,13 +10,13 @@ ghost use mathlib.Core.Bool.{true};
 ghost use mathlib.Core.Path.{_≡_};
 ghost use Rattle.model.specs.Answers.{checkedOf, faultOf};
 ghost use Rattle.model.specs.Checks.{notUnderMildNot, selectionRefusal};
+ghost use Rattle.model.specs.Kinds.{shapesOf};
 ghost use Rattle.model.specs.Parts.{wellFormed};
 ghost use Rattle.model.specs.Section.{size};
-ghost use Rattle.model.specs.Selection.{codesOf};
 
 // Refusal 7: the first mild not with a not in either side.
 fn not_under_mild_not(selection: &[u32]) -> Fault
-    requires { ⌜ wellFormed (codesOf (now selection)) ≡ true ⌝ }
+    requires { ⌜ wellFormed (shapesOf (now selection)) ≡ true ⌝ }
     ensures { λ r. ⌜ r ≡ faultOf (notUnderMildNot (now (selection .entry))) ⌝ }
 {
     let m = lent::number_at(selection, 0);

@@ -3,15 +3,16 @@ use model::Code;
 ghost use mathlib.Core.Bool.{false};
 ghost use mathlib.Core.Path.{_≡_};
 ghost use Prim.Native.Nat.{_<_};
+ghost use Rattle.model.specs.Kinds.{shapeAt, shapeOf};
 ghost use Rattle.model.specs.Lists.{anyOf};
 ghost use Rattle.model.specs.Parts.{isNotCode, partStart, stops, treesNeeded};
-ghost use Rattle.model.specs.Selection.{codeAt, upTo};
+ghost use Rattle.model.specs.Selection.{upTo};
 ghost use Rattle.selection.specs.PartCodes.{partCodes};
 ghost use Rattle.selection.specs.Phrases.{phrasesIn, phraseWords};
 
 // Walking back with so many trees to find: does the part start after this code?
 fn stops_at(code: Code, trees: usize) -> bool
-    ensures { λ r. ⌜ r ≡ stops code trees ⌝ }
+    ensures { λ r. ⌜ r ≡ stops (shapeOf code) trees ⌝ }
 {
     if codes::is_word(code) {
         return false;
@@ -21,19 +22,24 @@ fn stops_at(code: Code, trees: usize) -> bool
 
 // The trees still to find before this code.
 fn trees_needed(code: Code, trees: usize) -> usize
-    requires { ⌜ stops code trees ≡ false ⌝ }
+    requires { ⌜ stops (shapeOf code) trees ≡ false ⌝ }
     requires { ⌜ trees < 4294967297 ⌝ }
-    ensures { λ r. ⌜ r ≡ treesNeeded code trees ⌝ }
+    ensures { λ r. ⌜ r ≡ treesNeeded (shapeOf code) trees ⌝ }
 {
     if codes::is_word(code) {
         return trees;
     }
-    trees + codes::lists_taken(code) - 1
+    let taken = codes::lists_taken(code);
+    // a phrase is a tree found; before another code the last of its lists' trees takes its place
+    if taken == 0 {
+        return trees - 1;
+    }
+    trees + (taken - 1)
 }
 
 // How many codes stand before the part that ends at a place.
 pub fn part_start(selection: &[u32], place: u32) -> u32
-    ensures { λ r. ⌜ r ≡ partStart (codeAt (now (selection .entry))) place ⌝ }
+    ensures { λ r. ⌜ r ≡ partStart (shapeAt (now (selection .entry))) place ⌝ }
 {
     let mut trees: usize = 1;
     let mut c = place;
@@ -50,7 +56,7 @@ pub fn part_start(selection: &[u32], place: u32) -> u32
 
 // Does a not stand in the part that ends at a place?
 pub fn has_not(selection: &[u32], place: u32) -> bool
-    ensures { λ r. ⌜ r ≡ anyOf isNotCode (partCodes (codeAt (now (selection .entry))) place) ⌝ }
+    ensures { λ r. ⌜ r ≡ anyOf isNotCode (partCodes (shapeAt (now (selection .entry))) place) ⌝ }
 {
     let before = part_start(selection, place);
     let mut c = place;
@@ -66,7 +72,7 @@ pub fn has_not(selection: &[u32], place: u32) -> bool
 
 // How many phrases are among the codes up to a place: the rank of a phrase that stands there.
 pub fn rank_at(selection: &[u32], place: u32) -> u32
-    ensures { λ r. ⌜ r ≡ phrasesIn (upTo (codeAt (now (selection .entry))) place) ⌝ }
+    ensures { λ r. ⌜ r ≡ phrasesIn (upTo (shapeAt (now (selection .entry))) place) ⌝ }
 {
     let mut rank: u32 = 0;
     let mut c: u32 = 0;

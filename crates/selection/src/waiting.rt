@@ -8,7 +8,7 @@ ghost use Prim.Native.Nat.{_<_, _≤_};
 ghost use lib.Dec.{eqb, leb};
 ghost use Rattle.model.specs.Answers.{faultOf};
 ghost use Rattle.model.specs.Checks.{wrongShape};
-ghost use Rattle.model.specs.Kinds.{arity};
+ghost use Rattle.model.specs.Kinds.{arity, shapeOf};
 ghost use Rattle.model.specs.Waiting.{fits, listsAfter, wordsAfter};
 
 // "Other kinds need p = 0", and so many lists
@@ -23,7 +23,7 @@ fn takes(needed: usize, lists: usize, words: usize) -> bool
 
 // Does a code fit where so many lists and words wait?
 fn code_fits(code: Code, lists: usize, words: usize) -> bool
-    ensures { λ r. ⌜ r ≡ fits code lists words ⌝ }
+    ensures { λ r. ⌜ r ≡ fits (shapeOf code) lists words ⌝ }
 {
     match code {
         Code::Word(_) => words < MAX_WAITING as usize,
@@ -41,9 +41,9 @@ fn code_fits(code: Code, lists: usize, words: usize) -> bool
 
 // The lists that wait after a code that finds those that it takes.
 pub fn lists_after(code: Code, lists: usize) -> usize
-    requires { ⌜ arity code ≤ lists ⌝ }
+    requires { ⌜ arity (shapeOf code) ≤ lists ⌝ }
     requires { ⌜ lists < 4294967296 ⌝ }
-    ensures { λ r. ⌜ r ≡ listsAfter code lists ⌝ }
+    ensures { λ r. ⌜ r ≡ listsAfter (shapeOf code) lists ⌝ }
 {
     if codes::is_word(code) {
         return lists;
@@ -54,7 +54,7 @@ pub fn lists_after(code: Code, lists: usize) -> usize
 // The loose words that wait after a code.
 fn words_after(code: Code, words: usize) -> usize
     requires { ⌜ words < 4294967296 ⌝ }
-    ensures { λ r. ⌜ r ≡ wordsAfter code words ⌝ }
+    ensures { λ r. ⌜ r ≡ wordsAfter (shapeOf code) words ⌝ }
 {
     if codes::is_word(code) {
         return words + 1;

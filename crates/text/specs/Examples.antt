@@ -9,12 +9,13 @@ use lib.Dec.{eqb}
 use Rattle.model.specs.AllMatches.{filterList, allMatches}
 use Rattle.model.specs.Answers.{listed, listingRefusal, listingAnswer}
 use Rattle.model.specs.Checks.{refusal, tried, wrongSection, faultyAt, faultyPosition, wrongSelection, unknownKind, filterOperandFits, operandFits, wrongOperand, wrongShape, notUnderMildNot, sectionRefusal, selectionRefusal, inputRefusal, listingChecks}
+use Rattle.model.specs.Kinds.{shapesOf}
 use Rattle.model.specs.Lists.{allOf, anyOf, isEmpty, keep, first, allPairs, neighbours, insertSorted, sort, upFrom, fromTo}
 use Rattle.model.specs.Matches.{Str, Match, strings}
 use Rattle.model.specs.Rules.{standFrom, phraseList, noStrings, andList, leastStart, greatestEnd, join, windowEnds, window}
 use Rattle.model.specs.Section.{wellSized}
-use Rattle.model.specs.Selection.{upTo, codesOf}
-use Rattle.model.specs.Trees.{placeOf, combine, wrap, read, readAll, topTree, treeOf, parts}
+use Rattle.model.specs.Selection.{upTo}
+use Rattle.model.specs.Trees.{placeOf, combine, changeLast, read, readAll, topTree, treeOf, parts}
 use Rattle.model.specs.Waiting.{firstMisfitFrom}
 use Rattle.model.specs.Walk.{firstTooLong}
 use Rattle.model.specs.declared.Listing.the-variants.{Refused}
@@ -85,7 +86,7 @@ entries =
 
 pub examples-hold : allOf right entries ≡ true
 unfolding sameBytes right string one printed wire six selected entries digits decimal spanText queryText stringText lineOf matchText headText answerText listingText numbersOf programText
-    xor allOf anyOf isEmpty keep first allPairs neighbours insertSorted sort upFrom fromTo flatMap wellSized upTo codesOf firstMisfitFrom placeOf combine wrap read readAll topTree treeOf parts strings
+    xor allOf anyOf isEmpty keep first allPairs neighbours insertSorted sort upFrom fromTo flatMap wellSized upTo shapesOf firstMisfitFrom placeOf combine changeLast read readAll topTree treeOf parts strings
     standFrom phraseList andList leastStart greatestEnd join windowEnds window filterList allMatches
     tried wrongSection faultyAt faultyPosition wrongSelection unknownKind filterOperandFits operandFits wrongOperand wrongShape notUnderMildNot sectionRefusal selectionRefusal inputRefusal listingChecks
     firstTooLong listingRefusal listingAnswer

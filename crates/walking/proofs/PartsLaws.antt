@@ -6,17 +6,16 @@ use mathlib.Core.Bool.{Bool}
 use mathlib.Core.List.{List, [], _∷_, _++_, map}
 use mathlib.Core.Option.{Option, some, none, Option·map, Option·none-ne-some}
 use lib.ListN.{length}
-use Rattle.model.specs.declared.Code.{Code}
-use Rattle.model.specs.declared.Code.the-variants.{Word, Phrase, Combine, Not, Filter as Filtered}
 use Rattle.model.specs.declared.Quick.the-variants.{Answered, Refused}
 use Rattle.model.specs.declared.Refusal.{Refusal}
 use Rattle.model.specs.AllMatches.{allMatches}
 use Rattle.model.specs.Checks.{refusal}
+use Rattle.model.specs.Kinds.{Shape, aWord, aPhrase, aPair, aChange, shapeAt}
 use Rattle.model.specs.Matches.{isYes}
 use Rattle.model.specs.Parts.{partsEnded, partCount, postfix, phrases, partStart, rankAfter, codesOfTrees, phrasesAll}
 use Rattle.model.specs.Section.{sectionOf}
-use Rattle.model.specs.Selection.{codeAt, upTo}
-use Rattle.model.specs.Trees.{Tree, phrase, pair, negation, filter, parts}
+use Rattle.model.specs.Selection.{upTo}
+use Rattle.model.specs.Trees.{Tree, phrase, pair, change, parts}
 use Rattle.model.specs.Walk.{firstTooLong, build}
 use Rattle.model.proofs.BuildLaws.{part-below, part-count}
 use Rattle.model.proofs.PartsLaws.{start-le}
@@ -34,7 +33,7 @@ use Rattle.walking.specs.Walkable.{Walkable}
 -- ---- partCount
 
 -- one code more
-pub partCount-more : (at : ℕ → Code) (c base n k : ℕ) (code : Code) → code ≡ at (c + 1) → base + n ≡ partCount (upTo at c) → k ≡ partsEnded code
+pub partCount-more : (at : ℕ → Shape) (c base n k : ℕ) (code : Shape) → code ≡ at (c + 1) → base + n ≡ partCount (upTo at c) → k ≡ partsEnded code
     → base + (n + k) ≡ partCount (upTo at (c + 1))
 unfolding partCount upTo
 partCount-more at c base n k code e h i =
@@ -44,23 +43,22 @@ partCount-more at c base n k code e h i =
 
 -- ---- phrasesIn
 
-phrases-le : (cs : List Code) → phrasesIn cs ≤ length cs
+phrases-le : (cs : List Shape) → phrasesIn cs ≤ length cs
 unfolding phrasesIn
 phrases-le [] = omega arith
 phrases-le (c ∷ cs) = omega (arith, phrases-le cs, phrasesEnded-le c)
 
-phrases-words : (ws : List ℕ) → phrasesIn (map Word ws) ≡ 0
+phrases-words : (ws : List ℕ) → phrasesIn (map aWord ws) ≡ 0
 unfolding phrasesIn
 phrases-words [] = refl
 phrases-words (w ∷ ws) = omega (arith, phrases-words ws)
 
 phrases-tree : (t : Tree) → phrasesIn (postfix t) ≡ phrases t
 unfolding postfix phrases phrasesIn
-phrases-tree (phrase c r ws) = omega (arith, phrasesIn-append (map Word ws) (Phrase (length ws) ∷ []), phrases-words ws)
+phrases-tree (phrase c r ws) = omega (arith, phrasesIn-append (map aWord ws) (aPhrase (length ws) ∷ []), phrases-words ws)
 phrases-tree (pair k c t u) =
-    omega (arith, phrasesIn-append (postfix t ++ postfix u) (Combine k ∷ []), phrasesIn-append (postfix t) (postfix u), phrases-tree t, phrases-tree u)
-phrases-tree (negation c t) = omega (arith, phrasesIn-append (postfix t) (Not ∷ []), phrases-tree t)
-phrases-tree (filter f c t) = omega (arith, phrasesIn-append (postfix t) (Filtered f ∷ []), phrases-tree t)
+    omega (arith, phrasesIn-append (postfix t ++ postfix u) (aPair k ∷ []), phrasesIn-append (postfix t) (postfix u), phrases-tree t, phrases-tree u)
+phrases-tree (change k c t) = omega (arith, phrasesIn-append (postfix t) (aChange k ∷ []), phrases-tree t)
 
 phrases-trees : (ts : List Tree) → phrasesIn (codesOfTrees ts) ≡ phrasesAll ts
 unfolding codesOfTrees phrasesAll phrasesIn
@@ -70,30 +68,30 @@ phrases-trees (t ∷ ts) = omega (arith, phrasesIn-append (codesOfTrees ts) (pos
 -- ---- a part to build
 
 module _ {section sel mem : List ℕ} {hi : ℕ} (w : Walkable section sel mem hi) where
-  pub starts-before : partStart (codeAt sel) hi ≤ hi
-  starts-before = start-le (codeAt sel) hi
+  pub starts-before : partStart (shapeAt sel) hi ≤ hi
+  starts-before = start-le (shapeAt sel) hi
 
   -- the phrases before it
-  pub rank-few : phrasesIn (upTo (codeAt sel) (partStart (codeAt sel) hi)) ≤ hi
+  pub rank-few : phrasesIn (upTo (shapeAt sel) (partStart (shapeAt sel) hi)) ≤ hi
   rank-few =
-      let lo = partStart (codeAt sel) hi in
-      omega (arith, phrases-le (upTo (codeAt sel) lo), length-upTo (codeAt sel) lo, starts-before)
+      let lo = partStart (shapeAt sel) hi in
+      omega (arith, phrases-le (upTo (shapeAt sel) lo), length-upTo (shapeAt sel) lo, starts-before)
 
-  pub rank-is : phrasesIn (upTo (codeAt sel) (partStart (codeAt sel) hi)) + 1 ≡ rankAfter (w .part .below)
+  pub rank-is : phrasesIn (upTo (shapeAt sel) (partStart (shapeAt sel) hi)) + 1 ≡ rankAfter (w .part .below)
   unfolding codesOfTrees
   rank-is =
-      let lo = partStart (codeAt sel) hi in
-      let front : upTo (codeAt sel) lo ≡ codesOfTrees (w .part .below) =
-      ap (upTo (codeAt sel)) (part-below (codeAt sel) hi lo (w .part) refl) ∙ upTo-front (codeAt sel) hi (codesOfTrees (w .part .below)) (postfix (w .part .tree)) (w .part .spells) in
+      let lo = partStart (shapeAt sel) hi in
+      let front : upTo (shapeAt sel) lo ≡ codesOfTrees (w .part .below) =
+      ap (upTo (shapeAt sel)) (part-below (shapeAt sel) hi lo (w .part) refl) ∙ upTo-front (shapeAt sel) hi (codesOfTrees (w .part .below)) (postfix (w .part .tree)) (w .part .spells) in
       omega (arith, ap phrasesIn front, phrases-trees (w .part .below))
 
-  abbrev pub buildable : {lo rank : ℕ} → lo ≡ partStart (codeAt sel) hi → rank ≡ phrasesIn (upTo (codeAt sel) lo) → Buildable section sel mem lo hi (rank + 1)
+  abbrev pub buildable : {lo rank : ℕ} → lo ≡ partStart (shapeAt sel) hi → rank ≡ phrasesIn (upTo (shapeAt sel) lo) → Buildable section sel mem lo hi (rank + 1)
   buildable e r = record {
     in-section = w .in-section;
     in-selection = w .in-selection;
     part = w .part;
     lo-is = e;
-    rank-is = ap (λ (k : ℕ). k + 1) (r ∙ ap (λ (l : ℕ). phrasesIn (upTo (codeAt sel) l)) e) ∙ rank-is;
+    rank-is = ap (λ (k : ℕ). k + 1) (r ∙ ap (λ (l : ℕ). phrasesIn (upTo (shapeAt sel) l)) e) ∙ rank-is;
     up-to = w .up-to;
     room = w .room;
   }
@@ -109,12 +107,12 @@ module _ {section sel mem : List ℕ} {hi : ℕ} (w : Walkable section sel mem h
       nine-at (some place) f = let same : refusal 9 place ≡ r = cc in ap (λ (q : Refusal). some (q .place)) same
 
   pub build-answers : {mem' : List ℕ} {part : Part} {lo n : ℕ} {answer : Bool} → PartList (sectionOf section) (w .part .tree) mem' part → part ≡ Built
-      → lo ≡ partStart (codeAt sel) hi
+      → lo ≡ partStart (shapeAt sel) hi
       → ((s : SlotAt mem' 0) → answer ≡ isYes (s .list))
-      → partCount (upTo (codeAt sel) lo) + n ≡ partCount (upTo (codeAt sel) hi)
+      → partCount (upTo (shapeAt sel) lo) + n ≡ partCount (upTo (shapeAt sel) hi)
       → Answered answer n ≡ build (sectionOf section) (w .part .tree)
   unfolding build
   build-answers {mem'} {part} {lo} {n} {answer} b e l y h =
       let list = allMatches (sectionOf section) (w .part .tree) in
-      let all : n ≡ length (parts (w .part .tree)) = omega (arith, part-count (codeAt sel) hi lo (w .part) l) in
+      let all : n ≡ length (parts (w .part .tree)) = omega (arith, part-count (shapeAt sel) hi lo (w .part) l) in
       rw (b .fine e, y (record { list = list; slot = b .slot e }), all)

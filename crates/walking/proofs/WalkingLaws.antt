@@ -13,22 +13,22 @@ use Rattle.model.proofs.Code.{the-type}
 use lib.Seq.{append-snoc}
 use Rattle.model.specs.declared.Code.{Code}
 use Rattle.model.specs.declared.Code.the-variants.{Word, Phrase, Combine, Not, Filter as Filtered}
-use Rattle.model.specs.declared.Filter.{Filter}
 use Rattle.model.specs.declared.Pair.{Pair}
 use Rattle.model.specs.declared.Pair.the-variants.{Or, And, MildNot}
 use Rattle.model.specs.declared.Quick.{Quick}
 use Rattle.model.specs.declared.Quick.the-variants.{Answered, Refused}
 use Rattle.model.specs.Accepted.{AcceptedSelection}
+use Rattle.model.specs.Kinds.{Change, negated, filtered, Shape, aWord, aPair, aChange, shapeOf, isNegation, shapeAt}
 use Rattle.model.specs.Limits.{maxCodes, workLength}
 use Rattle.model.specs.Lists.{isEmpty}
 use Rattle.model.specs.Parts.{PartAt, isMildNot, partStart, postfix, rankAfter, codesOfTrees}
 use Rattle.model.specs.Rules.{phraseList}
 use Rattle.model.specs.Section.{Section, sectionOf, size}
 use Rattle.model.specs.Selection.{codeAt, upTo}
-use Rattle.model.specs.Trees.{Tree, phrase, pair, negation, filter, parts}
+use Rattle.model.specs.Trees.{Tree, phrase, pair, change, parts}
 use Rattle.model.specs.Walk.{firstTooLong, unlessTooLong, build, turned, orWalk, andWalk, walk}
 use Rattle.model.specs.Walked.{walkAnswer, walkBuilds, walkReaches}
-use Rattle.model.proofs.PartsLaws.{PairAt, WrapAt, pair-at, negation-at, filter-at, phrase-at, word-at, part-some, part-length}
+use Rattle.model.proofs.PartsLaws.{PairAt, pair-at, change-at, phrase-at, word-at, part-some, part-length}
 use Rattle.model.proofs.TestsLaws.{false-true}
 use Rattle.model.proofs.SelectionLaws.{length-upTo, upTo-front, ends}
 use Rattle.model.proofs.TreesLaws.{partCount-le, length-parts}
@@ -92,21 +92,26 @@ module _ (b : Bool) (n : ℕ) where
 
   module _ (s : Section) (c : ℕ) (t u : Tree) where
     -- the left side decides: its answer, and one code more
-    pair-decided : (k : Pair) → isMildNot (Combine k) ≡ false → decides k (walk s t) ≡ true → passedUp b n (walk s (pair k c t u)) ≡ passedUp b (n + 1) (walk s t)
+    pair-decided : (k : Pair) → isMildNot (aPair k) ≡ false → decides k (walk s t) ≡ true → passedUp b n (walk s (pair k c t u)) ≡ passedUp b (n + 1) (walk s t)
     unfolding walk
     pair-decided Or e d = or-decided (walk s t) (walk s u) d
     pair-decided And e d = and-decided (walk s t) (walk s u) d
     pair-decided MildNot e d = false-true (sym e)
 
     -- it does not: the right side's answer, with the left side's codes and one more
-    pair-undecided : (k : Pair) → isMildNot (Combine k) ≡ false → decides k (walk s t) ≡ false
+    pair-undecided : (k : Pair) → isMildNot (aPair k) ≡ false → decides k (walk s t) ≡ false
         → passedUp b n (walk s (pair k c t u)) ≡ passedUp b (n + 1 + codesIn (walk s t)) (walk s u)
     unfolding walk
     pair-undecided Or e d = or-undecided (walk s t) (walk s u) d
     pair-undecided And e d = and-undecided (walk s t) (walk s u) d
     pair-undecided MildNot e d = false-true (sym e)
 
-mild-builds : (s : Section) (k : Pair) (c : ℕ) (t u : Tree) → isMildNot (Combine k) ≡ true → walk s (pair k c t u) ≡ build s (pair k c t u)
+change-builds : (s : Section) (k : Change) (c : ℕ) (t : Tree) → isNegation k ≡ false → walk s (change k c t) ≡ build s (change k c t)
+unfolding walk
+change-builds s negated c t e = false-true (sym e)
+change-builds s (filtered f) c t e = refl
+
+mild-builds : (s : Section) (k : Pair) (c : ℕ) (t u : Tree) → isMildNot (aPair k) ≡ true → walk s (pair k c t u) ≡ build s (pair k c t u)
 unfolding walk
 mild-builds s Or c t u e = false-true e
 mild-builds s And c t u e = false-true e
@@ -119,20 +124,20 @@ loose-none sel a c h =
     record { from = size sel + (c + 1); ends = omega arith; above = omega arith; held = record { within = omega (arith, a .sized); part = refl } }
 
 -- words one after the other are the operands just before the next code
-loose-words : (sel : List ℕ) (a : AcceptedSelection sel) (front : List Code) (us ws : List ℕ) (c : ℕ) → upTo (codeAt sel) c ≡ front ++ map Word ws → c < size sel
+loose-words : (sel : List ℕ) (a : AcceptedSelection sel) (front : List Shape) (us ws : List ℕ) (c : ℕ) → upTo (shapeAt sel) c ≡ front ++ map aWord ws → c < size sel
     → Loose sel (length front + 1) us
     → Loose sel (c + 1) (us ++ ws)
 loose-words sel a front us [] c e h l =
-    let k : length front + 1 ≡ c + 1 = omega (arith, sym (length-upTo (codeAt sel) c) ∙ ap length (e ∙ append-nil front)) in
+    let k : length front + 1 ≡ c + 1 = omega (arith, sym (length-upTo (shapeAt sel) c) ∙ ap length (e ∙ append-nil front)) in
     subst (λ (j : ℕ). Loose sel j (us ++ [])) k (subst (Loose sel (length front + 1)) (sym (append-nil us)) l)
 loose-words sel a front us (w ∷ ws) c e h l =
-    let at = codeAt sel in
-    let longer = front ++ Word w ∷ [] in
-    let e' : upTo at c ≡ longer ++ map Word ws = e ∙ sym (append-snoc front (Word w) (map Word ws)) in
-    let here = ends at (length longer) front (Word w) (upTo-front at c longer (map Word ws) e') in
+    let at = shapeAt sel in
+    let longer = front ++ aWord w ∷ [] in
+    let e' : upTo at c ≡ longer ++ map aWord ws = e ∙ sym (append-snoc front (aWord w) (map aWord ws)) in
+    let here = ends at (length longer) front (aWord w) (upTo-front at c longer (map aWord ws) e') in
     let i : length longer ≡ length front + 1 = omega (arith, here .hi-is) in
-    let up-to : length longer ≤ c = omega (arith, sym (length-upTo at c) ∙ ap length e' ∙ length-append longer (map Word ws)) in
-    let code : at (length front + 1) ≡ Word w = ap at (sym i) ∙ here .code in
+    let up-to : length longer ≤ c = omega (arith, sym (length-upTo at c) ∙ ap length e' ∙ length-append longer (map aWord ws)) in
+    let code : at (length front + 1) ≡ aWord w = ap at (sym i) ∙ here .code in
     let more = one-word-after sel a (length front + 1) (omega arith) (omega (arith, i, up-to)) w us code l in
     let more' : Loose sel (length longer + 1) (us ++ w ∷ []) = subst (λ (j : ℕ). Loose sel (j + 1) (us ++ w ∷ [])) (sym i) more in
     subst (Loose sel (c + 1)) (append-snoc us w ws) (loose-words sel a longer (us ++ w ∷ []) ws c e' h more')
@@ -146,7 +151,7 @@ pub below-room : {section sel mem : List ℕ} {hi : ℕ} (mem' : List ℕ) → W
 below-room mem' w l = omega (arith, w .room)
 
 -- a part below the one in hand, with memory as it has become
-abbrev pub below : {section sel mem : List ℕ} {hi lower : ℕ} (mem' : List ℕ) → Walkable section sel mem hi → PartAt (codeAt sel) lower → lower ≤ hi → length mem' ≡ length mem
+abbrev pub below : {section sel mem : List ℕ} {hi lower : ℕ} (mem' : List ℕ) → Walkable section sel mem hi → PartAt (shapeAt sel) lower → lower ≤ hi → length mem' ≡ length mem
     → Walkable section sel mem' lower
 below mem' w p h l = record {
   in-section = w .in-section;
@@ -158,10 +163,10 @@ below mem' w p h l = record {
 
 module _ {section sel mem : List ℕ} {hi : ℕ} (w : Walkable section sel mem hi) where
   pub some-codes : 1 ≤ hi
-  some-codes = part-some (codeAt sel) hi (w .part)
+  some-codes = part-some (shapeAt sel) hi (w .part)
 
   pub word-walks : {A : Type 0} {code : Code} {v : ℕ} → code ≡ codeAt sel hi → code ≡ Word v → A
-  word-walks {A} {code} {v} e c = word-at (codeAt sel) hi (w .part) v (sym e ∙ c)
+  word-walks {A} {code} {v} e c = word-at (shapeAt sel) hi (w .part) v (ap shapeOf (sym e ∙ c))
 
   -- a phrase
   pub phrase-walks : {code : Code} {k : ℕ} {words : List ℕ} {r : Quick} → code ≡ codeAt sel hi → code ≡ Phrase k → words ≡ phraseWords sel hi
@@ -169,10 +174,10 @@ module _ {section sel mem : List ℕ} {hi : ℕ} (w : Walkable section sel mem h
       → r ≡ walk (sectionOf section) (w .part .tree)
   unfolding walk
   phrase-walks {code} {k} {words} {r} e c ws a =
-      let p = phrase-at (codeAt sel) hi (w .part) k (sym e ∙ c) in
+      let p = phrase-at (shapeAt sel) hi (w .part) k (ap shapeOf (sym e ∙ c)) in
       let front = codesOfTrees (w .part .below) in
       let up-to : length front ≤ hi - 1 =
-      omega (arith, sym (length-upTo (codeAt sel) (hi - 1)) ∙ ap length (p .codes) ∙ length-append front (map Word (p .words))) in
+      omega (arith, sym (length-upTo (shapeAt sel) (hi - 1)) ∙ ap length (p .codes) ∙ length-append front (map aWord (p .words))) in
       let fewer : hi - 1 < size sel = omega (arith, some-codes, w .up-to) in
       let loose = loose-words sel (w .in-selection) front [] (p .words) (hi - 1) (p .codes) fewer (loose-none sel (w .in-selection) (length front) (omega (arith, up-to, fewer))) in
       let last : hi - 1 + 1 ≡ hi = omega (arith, some-codes) in
@@ -181,34 +186,32 @@ module _ {section sel mem : List ℕ} {hi : ℕ} (w : Walkable section sel mem h
       ∙ ap (λ (l : List ℕ). Answered (not (isEmpty (phraseList (sectionOf section) (rankAfter (w .part .below)) l))) 1) (ws ∙ found)
       ∙ ap (walk (sectionOf section)) (sym (p .is))
 
-  -- a filter
-  pub filter-walks : {code : Code} {f : Filter} → code ≡ codeAt sel hi → code ≡ Filtered f
-      → build (sectionOf section) (w .part .tree) ≡ walk (sectionOf section) (w .part .tree)
-  unfolding walk
-  filter-walks {code} {f} e c = let p = filter-at (codeAt sel) hi (w .part) f (sym e ∙ c) in rw (p .is)
+  -- a change other than a not
+  change-walks : {k : Change} → shapeAt sel hi ≡ aChange k → isNegation k ≡ false → build (sectionOf section) (w .part .tree) ≡ walk (sectionOf section) (w .part .tree)
+  change-walks {k} e n = let p = change-at (shapeAt sel) hi (w .part) k e in rw (p .is) (sym (change-builds (sectionOf section) k hi (p .operand .tree) n))
 
   -- a combination
-  abbrev pub sides : {code : Code} {k : Pair} {mid : ℕ} → code ≡ codeAt sel hi → code ≡ Combine k → mid ≡ partStart (codeAt sel) (hi - 1)
-      → PairAt (codeAt sel) hi mid k (w .part .tree)
-  sides {code} {k} {mid} e c m = pair-at (codeAt sel) hi (w .part) k mid m (sym e ∙ c)
+  abbrev pub sides : {code : Code} {k : Pair} {mid : ℕ} → code ≡ codeAt sel hi → code ≡ Combine k → mid ≡ partStart (shapeAt sel) (hi - 1)
+      → PairAt (shapeAt sel) hi mid k (w .part .tree)
+  sides {code} {k} {mid} e c m = pair-at (shapeAt sel) hi (w .part) k mid m (ap shapeOf (sym e ∙ c))
 
-  pub mild-walks : {code : Code} {k : Pair} → code ≡ codeAt sel hi → code ≡ Combine k → isMildNot (Combine k) ≡ true
+  pub mild-walks : {code : Code} {k : Pair} → code ≡ codeAt sel hi → code ≡ Combine k → isMildNot (aPair k) ≡ true
       → build (sectionOf section) (w .part .tree) ≡ walk (sectionOf section) (w .part .tree)
   mild-walks {code} {k} e c m =
-      let p = sides {mid = partStart (codeAt sel) (hi - 1)} e c refl in
+      let p = sides {mid = partStart (shapeAt sel) (hi - 1)} e c refl in
       rw (p .is) (sym (mild-builds (sectionOf section) k hi (p .left .tree) (p .right .tree) m))
 
   -- any other part that the walk does not go into
-  pub leaf-builds : (code : Code) → code ≡ codeAt sel hi → OneOf (0 ∷ 2 ∷ 3 ∷ 4 ∷ []) (tagOf the-type code) → goesInto code ≡ false
+  pub leaf-builds : (code : Code) → code ≡ codeAt sel hi → OneOf (0 ∷ 2 ∷ 3 ∷ 4 ∷ []) (tagOf the-type code) → goesInto (shapeOf code) ≡ false
       → build (sectionOf section) (w .part .tree) ≡ walk (sectionOf section) (w .part .tree)
   leaf-builds (Word v) e o g = word-walks e refl
   leaf-builds (Phrase k) e o g = absurd (miss (0 ∷ 2 ∷ 3 ∷ 4 ∷ []) 1 tt o)
-  leaf-builds (Combine k) e o g = mild-walks e refl (not-false (isMildNot (Combine k)) g)
-  leaf-builds Not e o g = false-true (sym g)
-  leaf-builds (Filtered f) e o g = filter-walks e refl
+  leaf-builds (Combine k) e o g = mild-walks e refl (not-false (isMildNot (aPair k)) g)
+  leaf-builds Not e o g = change-walks (ap shapeOf (sym e)) g
+  leaf-builds (Filtered f) e o g = change-walks (ap shapeOf (sym e)) g
 
 -- the codes of the arm that takes no not and no combination
-pub leaf-code : (code : Code) → OneOf (0 ∷ 1 ∷ 4 ∷ []) (tagOf the-type code) → goesInto code ≡ false
+pub leaf-code : (code : Code) → OneOf (0 ∷ 1 ∷ 4 ∷ []) (tagOf the-type code) → goesInto (shapeOf code) ≡ false
 leaf-code (Word v) o = refl
 leaf-code (Phrase k) o = refl
 leaf-code (Combine k) o = absurd (miss (0 ∷ 1 ∷ 4 ∷ []) 2 tt o)
@@ -228,7 +231,7 @@ pub start : {section sel mem : List ℕ} {hi : ℕ} (w : Walkable section sel me
 start {section} {sel} {mem} {hi} w = record {
   here = w;
   up-to = omega arith;
-  few = omega (arith, part-length (codeAt sel) hi (w .part), w .up-to, w .in-selection .few);
+  few = omega (arith, part-length (shapeAt sel) hi (w .part), w .up-to, w .in-selection .few);
   same = passed-whole (walk (sectionOf section) (w .part .tree));
 }
 
@@ -247,22 +250,22 @@ module _ {section sel mem : List ℕ} {hi : ℕ} {whole : Tree} {place : ℕ} {b
   pub under-not : {code : Code} → code ≡ codeAt sel place → code ≡ Not → Going section sel hi whole mem (place - 1) (not b) (n + 1)
   unfolding walk postfix
   under-not {code} e c =
-      let p = negation-at (codeAt sel) place (g .here .part) (sym e ∙ c) in
-      let t = p .under .tree in
+      let p = change-at (shapeAt sel) place (g .here .part) negated (ap shapeOf (sym e ∙ c)) in
+      let t = p .operand .tree in
       record {
-        here = below mem (g .here) (p .under) (omega arith) refl;
+        here = below mem (g .here) (p .operand) (omega arith) refl;
         up-to = omega (arith, g .up-to);
-        few = omega (arith, ap (λ (x : Tree). length (postfix x)) (p .is), length-append (postfix t) (Not ∷ []), g .few);
+        few = omega (arith, ap (λ (x : Tree). length (postfix x)) (p .is), length-append (postfix t) (aChange negated ∷ []), g .few);
         same = sym (passed-turned b n (walk (sectionOf section) t)) ∙ ap (λ (x : Tree). passedUp b n (walk (sectionOf section) x)) (sym (p .is)) ∙ g .same;
       }
 
-  module _ {k : Pair} {mid : ℕ} (p : PairAt (codeAt sel) place mid k tree) (plain : isMildNot (Combine k) ≡ false) where
+  module _ {k : Pair} {mid : ℕ} (p : PairAt (shapeAt sel) place mid k tree) (plain : isMildNot (aPair k) ≡ false) where
     sizes : length (postfix tree) ≡ length (postfix (p .left .tree)) + length (postfix (p .right .tree)) + 1
     unfolding postfix
     sizes =
         let l = postfix (p .left .tree) in
         let r = postfix (p .right .tree) in
-        omega (arith, ap (λ (x : Tree). length (postfix x)) (p .is), length-append (l ++ r) (Combine k ∷ []), length-append l r)
+        omega (arith, ap (λ (x : Tree). length (postfix x)) (p .is), length-append (l ++ r) (aPair k ∷ []), length-append l r)
 
     module _ {l : Quick} (left : l ≡ walk (sectionOf section) (p .left .tree)) where
       -- the left side decides

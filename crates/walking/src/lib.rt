@@ -7,9 +7,10 @@ use model::Quick;
 ghost use mathlib.Core.Bool.{false};
 ghost use mathlib.Core.Path.{_≡_};
 ghost use Prim.Native.Nat.{_+_, _≤_};
+ghost use Rattle.model.specs.Kinds.{shapeAt};
 ghost use Rattle.model.specs.Parts.{partCount};
 ghost use Rattle.model.specs.Section.{sectionOf};
-ghost use Rattle.model.specs.Selection.{codeAt, upTo};
+ghost use Rattle.model.specs.Selection.{upTo};
 ghost use Rattle.model.specs.Walk.{build as buildOf, walk as walkOf};
 ghost use Rattle.walking.specs.Steps.{answerOf, goesInto};
 ghost use Rattle.walking.specs.Walkable.{Walkable};
@@ -17,7 +18,7 @@ ghost use Rattle.walking.specs.Walkable.{Walkable};
 // How many codes other than words stand at the places lo + 1 to hi.
 fn count_codes(selection: &[u32], lo: u32, hi: u32) -> u32
     requires { ⌜ lo ≤ hi ⌝ }
-    ensures { λ r. ⌜ partCount (upTo (codeAt (now (selection .entry))) lo) + r ≡ partCount (upTo (codeAt (now (selection .entry))) hi) ⌝ }
+    ensures { λ r. ⌜ partCount (upTo (shapeAt (now (selection .entry))) lo) + r ≡ partCount (upTo (shapeAt (now (selection .entry))) hi) ⌝ }
 {
     let mut n: u32 = 0;
     let mut c = lo;
@@ -48,7 +49,7 @@ fn build_part(section: &[u32], selection: &[u32], work: &mut [u32], hi: u32) -> 
 // The answer of a part that the walk does not go into: "a phrase is yes if its list isn't empty", found at the first find; another part is built.
 fn answer_leaf(section: &[u32], selection: &[u32], work: &mut [u32], hi: u32) -> u64
     requires { ⌜ Walkable (now section) (now selection) (now work) hi ⌝ }
-    ensures { λ r. ⌜ ((w : Walkable (now (section .entry)) (now (selection .entry)) (now (work .entry)) hi) → goesInto (codeAt (now (selection .entry)) hi) ≡ false → answerOf r ≡ walkOf (sectionOf (now (section .entry))) (w .part .tree)) ⌝ }
+    ensures { λ r. ⌜ ((w : Walkable (now (section .entry)) (now (selection .entry)) (now (work .entry)) hi) → goesInto (shapeAt (now (selection .entry)) hi) ≡ false → answerOf r ≡ walkOf (sectionOf (now (section .entry))) (w .part .tree)) ⌝ }
 {
     let code = codes::code_at(selection, hi);
     let Code::Phrase(_) = code else {
@@ -77,7 +78,7 @@ fn walk_part(section: &[u32], selection: &[u32], work: &mut [u32], hi: u32) -> u
                 place -= 1;
             }
             Code::Combine(pair) => {
-                if codes::is_mild_not(code) {
+                if codes::is_mild(pair) {
                     let answer = answer_leaf(section, selection, work, place);
                     return answers::passed_up(answer, turned, codes);
                 }

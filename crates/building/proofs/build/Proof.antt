@@ -1,6 +1,7 @@
 -- Invariant: the lists of the trees that wait after the codes read lie in memory, and none built so far is too long. Measure: the codes left.
 use Rattle.building.proofs.BuildingLaws.{Going, lo-le, start, rank-few, lists-few, lists-found, waits-next, refuse, go-on, end-slot, end-fine, part-long, part-built}
 use Rattle.building.specs.State.{Buildable}
+use Rattle.model.specs.Kinds.{shapeOf}
 use Rattle.selection.proofs.PhrasesLaws.{phrasesEnded-le}
 use mathlib.Core.Path.{_≡_, refl, ap}
 use borrow.Author.Needs.{needs}
@@ -64,7 +65,7 @@ add-next c =
     let a = c .before .before .before .before .before .before .before .before in
     let l = a .before .before in
     let w = l .before .before .before .before .pre in
-    omega (arith, c .phrases-ended .ensures, phrasesEnded-le (a .code-at .result), rank-few w (l .loop .inv .2 w), w .in-selection .few)
+    omega (arith, c .phrases-ended .ensures, phrasesEnded-le (shapeOf (a .code-at .result)), rank-few w (l .loop .inv .2 w), w .in-selection .few)
 
 loop-less : tie.Need-loop-less Inv-loop μ-loop
 loop-less c = search needs

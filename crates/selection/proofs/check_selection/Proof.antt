@@ -5,7 +5,7 @@ use Rattle.model.proofs.WaitingLaws.{misfit-none}
 use Rattle.model.specs.Answers.{checkedOf}
 use Rattle.model.specs.Checks.{Check, tried, wrongShape, selectionRefusal}
 use Rattle.model.specs.Section.{size}
-use Rattle.model.specs.Selection.{codesOf}
+use Rattle.model.specs.Kinds.{shapesOf}
 use borrow.Author.Needs.{needs}
 use borrow.Author.Tests.{not-true, not-false}
 use mathlib.Core.Path.{_≡_, sym, ap, ap₂, _∙_}
@@ -82,7 +82,7 @@ unfolding wrongShape
 not-under-mild-not-requires c κs =
     let h = c .before .before in
     let s = h .before .before .before .before .before .before .before .before .before .before .args .selection .now in
-    misfit-none (codesOf s) .0 (fault-nowhere (wrongShape s) (sym (h .wrong-shape .ensures) ∙ c .enum-told3 .given .1))
+    misfit-none (shapesOf s) .0 (fault-nowhere (wrongShape s) (sym (h .wrong-shape .ensures) ∙ c .enum-told3 .given .1))
 
 enum-known-under : tie.Need-enum-known-under
 enum-known-under c = search needs

@@ -2,7 +2,8 @@
 use Rattle.selection.proofs.MildOverNotLaws.{found, none-after, some-after, found-none, found-some}
 use Rattle.selection.specs.PartCodes.{partCodes}
 use Rattle.model.specs.Trees.{readAll}
-use Rattle.model.specs.Selection.{upTo, codeAt, codesOf}
+use Rattle.model.specs.Selection.{upTo}
+use Rattle.model.specs.Kinds.{shapeAt, shapeOf, shapesOf}
 use Rattle.model.specs.Section.{size}
 use Rattle.model.specs.Parts.{isNotCode, isMildNot, waitingParts}
 use Rattle.model.specs.Lists.{anyOf, first}
@@ -17,7 +18,7 @@ use Rattle.selection.proofs.not_under_mild_not.Statement.{statement}
 use Rattle.selection.proofs.not_under_mild_not.Tie as tie
 
 abbrev Inv-loop : tie.InvT-loop
-Inv-loop selection m c₀ c = (c ≤ m) × (found (codeAt selection) c ≡ none)
+Inv-loop selection m c₀ c = (c ≤ m) × (found (shapeAt selection) c ≡ none)
 
 abbrev μ-loop : tie.MeasureT-loop
 μ-loop selection m c₀ c = m - c
@@ -42,7 +43,7 @@ has-not-requires : tie.Need-has-not-requires Inv-loop μ-loop
 has-not-requires c κs = search needs
 
 returns : tie.Need-returns Inv-loop μ-loop
-unfolding codesOf
+unfolding shapesOf
 returns c =
     let l = c .before .before .before .before .before .before in
     let st = l .before .before .before in
@@ -50,37 +51,37 @@ returns c =
     let h : l .loop .c < size s = omega (arith, l .before .number-at .ensures) in
     let n : l .loop .c + 1 ≤ size s = omega arith in
     ap faultOf (sym (found-some s (st .pre) (l .loop .c + 1) n _
-    (some-after (codeAt s) (size s) (st .pre) (l .loop .c) h (l .loop .inv .1) _ (c .before .before .before .before .code-at .ensures)
+    (some-after (shapeAt s) (size s) (st .pre) (l .loop .c) h (l .loop .inv .1) _ (ap shapeOf (c .before .before .before .before .code-at .ensures))
     (sym (c .before .before .before .is-mild-not .ensures) ∙ c .before .before .if1 .taken) (sym (c .before .has-not .ensures) ∙ c .if2 .taken))))
 
 loop-less : tie.Need-loop-less Inv-loop μ-loop
 loop-less c = search needs
 
 loop-again : tie.Need-loop-again Inv-loop μ-loop
-unfolding codesOf
+unfolding shapesOf
 loop-again c =
     let l = c .before .before .before .before .before .before in
     let st = l .before .before .before in
     let s = st .args .selection .now in
     let h : l .loop .c < size s = omega (arith, l .before .number-at .ensures) in (
       omega arith,
-      none-after (codeAt s) (size s) (st .pre) (l .loop .c) h (l .loop .inv .1) _ (c .before .before .before .before .code-at .ensures)
-          (ap (isMildNot (c .before .before .before .before .code-at .result) &&_) (sym (c .before .has-not .ensures) ∙ c .if2 .left) ∙ and-false (isMildNot (c .before .before .before .before .code-at .result))),
+      none-after (shapeAt s) (size s) (st .pre) (l .loop .c) h (l .loop .inv .1) _ (ap shapeOf (c .before .before .before .before .code-at .ensures))
+          (ap (isMildNot (shapeOf (c .before .before .before .before .code-at .result)) &&_) (sym (c .before .has-not .ensures) ∙ c .if2 .left) ∙ and-false (isMildNot (shapeOf (c .before .before .before .before .code-at .result)))),
     )
 
 loop-less-2 : tie.Need-loop-less-2 Inv-loop μ-loop
 loop-less-2 c = search needs
 
 loop-again-2 : tie.Need-loop-again-2 Inv-loop μ-loop
-unfolding codesOf
+unfolding shapesOf
 loop-again-2 c =
     let l = c .before .before .before .before in
     let st = l .before .before .before in
     let s = st .args .selection .now in
     let h : l .loop .c < size s = omega (arith, l .before .number-at .ensures) in (
       omega arith,
-      none-after (codeAt s) (size s) (st .pre) (l .loop .c) h (l .loop .inv .1) _ (c .before .before .code-at .ensures)
-          (ap (_&& anyOf isNotCode (partCodes (codeAt s) (l .loop .c + 1))) (sym (c .before .is-mild-not .ensures) ∙ c .if1 .left)),
+      none-after (shapeAt s) (size s) (st .pre) (l .loop .c) h (l .loop .inv .1) _ (ap shapeOf (c .before .before .code-at .ensures))
+          (ap (_&& anyOf isNotCode (partCodes (shapeAt s) (l .loop .c + 1))) (sym (c .before .is-mild-not .ensures) ∙ c .if1 .left)),
     )
 
 returns-2 : tie.Need-returns-2 Inv-loop μ-loop
@@ -89,7 +90,7 @@ returns-2 c =
     let st = l .before .before .before in
     let s = st .args .selection .now in
     let z : l .loop .c ≡ size s = omega (arith, l .before .number-at .ensures) in
-    ap faultOf (sym (found-none s (st .pre) (ap (found (codeAt s)) (sym z) ∙ l .loop .inv .1)))
+    ap faultOf (sym (found-none s (st .pre) (ap (found (shapeAt s)) (sym z) ∙ l .loop .inv .1)))
 
 pub not-under-mild-not-spec : {M : Type 1} → statement M
 not-under-mild-not-spec =

@@ -5,11 +5,11 @@ use mathlib.Core.Bool.{false, not}
 use mathlib.Core.Path.{_≡_, refl, sym, ap, _∙_}
 use lib.ListN.{length}
 use Prim.Native.Nat.{_-_, _≤_}
-use Rattle.model.specs.declared.Code.the-variants.{Combine}
+use Rattle.model.specs.declared.Code.{Code}
 use Rattle.model.specs.declared.Pair.{Pair}
+use Rattle.model.specs.Kinds.{aPair, shapeOf, shapeAt}
 use Rattle.model.specs.Parts.{isMildNot}
 use Rattle.model.specs.Section.{sectionOf}
-use Rattle.model.specs.Selection.{codeAt}
 use Rattle.model.specs.Walk.{walk}
 use Rattle.model.proofs.PartsLaws.{PairAt, start-le}
 use Rattle.walking.specs.Steps.{answerOf, goesInto}
@@ -28,7 +28,7 @@ use Rattle.selection.proofs.parts.part_start.Reads as part-start-reads
 use Rattle.walking.proofs.answer_leaf.Reads as answer-leaf-reads
 use Rattle.walking.proofs.answers.codes_in.Reads as codes-in-reads
 use Rattle.walking.proofs.answers.decides.Reads as decides-reads
-use Rattle.codes.proofs.is_mild_not.Reads as is-mild-not-reads
+use Rattle.codes.proofs.is_mild.Reads as is-mild-reads
 use Rattle.walking.proofs.answers.passed_up.Reads as passed-up-reads
 use Rattle.walking.proofs.+walk_part.{statement}
 use Rattle.walking.proofs.+walk_part.Tie.{close}
@@ -47,8 +47,8 @@ abbrev claims : ℕ → walk-part-lts.Claims
 claims t = (
   code-at-reads.Asked,
   code-at-reads.Learnt,
-  is-mild-not-reads.Asked,
-  is-mild-not-reads.Learnt,
+  is-mild-reads.Asked,
+  is-mild-reads.Learnt,
   answer-leaf-reads.Asked,
   answer-leaf-reads.Learnt,
   passed-up-reads.Asked,
@@ -88,7 +88,7 @@ module _ (t : ℕ) (a : walk-part-lts.After-code-at (claims t) (walk-part-at t) 
   abbrev Answers : ℕ → Type 0
   Answers r = (w : Whole) → answerOf r ≡ walk (sectionOf (entry .args .section .now)) (going w .here .part .tree)
 
-module _ (t : ℕ) (m : walk-part-lts.After-is-mild-not (claims t) (walk-part-at t) walk-part.Post Inv-loop μ-loop) where
+module _ (t : ℕ) (m : walk-part-lts.After-is-mild (claims t) (walk-part-at t) walk-part.Post Inv-loop μ-loop) where
   abbrev at-code : walk-part-lts.After-code-at (claims t) (walk-part-at t) walk-part.Post Inv-loop μ-loop
   at-code = m .before .before .before .before
 
@@ -100,32 +100,32 @@ mild : (t : ℕ) (k : walk-part-lts.After-answer-leaf (claims t) (walk-part-at t
     → Answers t (at-code t (k .before .before .before)) (k .answer-leaf .result)
 mild t k w =
     let m = k .before .before .before in
-    let code-is = sym (at-code t m .code-at .ensures) ∙ m .before .before .code .given .1 in
-    k .answer-leaf .ensures (going t (at-code t m) w .here) (ap goesInto code-is ∙ ap not (sym (m .is-mild-not .ensures) ∙ k .before .before .if1 .taken))
+    let code-is = ap shapeOf (sym (at-code t m .code-at .ensures) ∙ m .before .before .code .given .1) in
+    k .answer-leaf .ensures (going t (at-code t m) w .here) (ap goesInto code-is ∙ ap not (sym (m .is-mild .ensures) ∙ k .before .before .if1 .taken))
 
 -- a phrase, a filter
 other : (t : ℕ) (k : walk-part-lts.After-answer-leaf2 (claims t) (walk-part-at t) walk-part.Post Inv-loop μ-loop)
     → Answers t (k .before .before .before) (k .answer-leaf2 .result)
 other t k w =
     let m = k .before .before in
-    k .answer-leaf2 .ensures (going t (m .before) w .here) (ap goesInto (sym (m .before .code-at .ensures)) ∙ leaf-code (m .before .code-at .result) (m .match .keys3))
+    k .answer-leaf2 .ensures (going t (m .before) w .here) (ap (λ (x : Code). goesInto (shapeOf x)) (sym (m .before .code-at .ensures)) ∙ leaf-code (m .before .code-at .result) (m .match .keys3))
 
 -- the sides of an or, of an and
 module _ (t : ℕ) (p : walk-part-lts.After-part-start (claims t) (walk-part-at t) walk-part.Post Inv-loop μ-loop) where
   abbrev code : walk-part-lts.After-code-at (claims t) (walk-part-at t) walk-part.Post Inv-loop μ-loop
   code = at-code t (p .before .before)
 
-  plain : isMildNot (Combine (combination t (p .before .before))) ≡ false
-  plain = sym (p .before .before .is-mild-not .ensures) ∙ p .before .if1 .left
+  plain : isMildNot (aPair (combination t (p .before .before))) ≡ false
+  plain = sym (p .before .before .is-mild .ensures) ∙ p .before .if1 .left
 
   sides-of : (w : Whole t code)
-      → PairAt (codeAt (entry t code .args .selection .now)) (code .before .loop .place) (p .part-start .result) (combination t (p .before .before)) (going t code w .here .part .tree)
+      → PairAt (shapeAt (entry t code .args .selection .now)) (code .before .loop .place) (p .part-start .result) (combination t (p .before .before)) (going t code w .here .part .tree)
   sides-of w = sides (going t code w .here) (code .code-at .ensures) (p .before .before .before .before .code .given .1) (p .part-start .ensures)
 
   mid-before : p .part-start .result < code .before .loop .place
   mid-before =
       let here = going t code (own t code) .here in
-      omega (arith, p .part-start .ensures, start-le (codeAt (entry t code .args .selection .now)) (code .before .loop .place - 1), some-codes here)
+      omega (arith, p .part-start .ensures, start-le (shapeAt (entry t code .args .selection .now)) (code .before .loop .place - 1), some-codes here)
 
   left-walkable : (w : Whole t code) → Walkable (entry t code .args .section .now) (entry t code .args .selection .now) (code .before .loop .work) (p .part-start .result)
   left-walkable w = below _ (going t code w .here) (sides-of w .left) (omega (arith, mid-before)) refl
@@ -162,8 +162,8 @@ walk-part-loop-again t c =
 walk-part-enum-known-code : (t : ℕ) → walk-part-lts.Need-enum-known-code (claims t) (walk-part-at t) walk-part.Post Inv-loop μ-loop
 walk-part-enum-known-code t c = search needs
 
-walk-part-is-mild-not-requires : (t : ℕ) → walk-part-lts.Need-is-mild-not-requires (claims t) (walk-part-at t) walk-part.Post Inv-loop μ-loop
-walk-part-is-mild-not-requires t c κs = search needs
+walk-part-is-mild-requires : (t : ℕ) → walk-part-lts.Need-is-mild-requires (claims t) (walk-part-at t) walk-part.Post Inv-loop μ-loop
+walk-part-is-mild-requires t c κs = search needs
 
 walk-part-answer-leaf-requires : (t : ℕ) → walk-part-lts.Need-answer-leaf-requires (claims t) (walk-part-at t) walk-part.Post Inv-loop μ-loop
 walk-part-answer-leaf-requires t c κs = let a = at-code t (c .before .before) in going t a (own t a) .here
@@ -278,7 +278,7 @@ pub +walk-part-spec : {M : Type 1} → statement M
     (walk-part-loop-less t)
     (walk-part-loop-again t)
     (walk-part-enum-known-code t)
-    (walk-part-is-mild-not-requires t)
+    (walk-part-is-mild-requires t)
     (walk-part-answer-leaf-requires t)
     (walk-part-passed-up-requires t)
     (walk-part-same-length t)

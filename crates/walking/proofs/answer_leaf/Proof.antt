@@ -2,6 +2,8 @@
 use mathlib.Core.Bool.{Bool}
 use mathlib.Core.Path.{sym, ap, _∙_}
 use borrow.Author.Needs.{needs}
+use Rattle.model.specs.declared.Code.{Code}
+use Rattle.model.specs.Kinds.{shapeOf}
 use Rattle.model.specs.declared.Quick.the-variants.{Answered}
 use Rattle.walking.specs.Steps.{goesInto}
 use Rattle.walking.proofs.WalkingLaws.{phrase-walks, leaf-builds}
@@ -24,7 +26,7 @@ returns : tie.Need-returns
 returns c = λ w g.
     let k = c .before .before in
     let m = k .before .before in
-    k .build-part .ensures w ∙ leaf-builds w _ (m .before .code-at .ensures) (m .match .keys2) (ap goesInto (m .before .code-at .ensures) ∙ g)
+    k .build-part .ensures w ∙ leaf-builds w _ (m .before .code-at .ensures) (m .match .keys2) (ap (λ (x : Code). goesInto (shapeOf x)) (m .before .code-at .ensures) ∙ g)
 
 phrase-words-requires : tie.Need-phrase-words-requires
 phrase-words-requires c κs = search needs

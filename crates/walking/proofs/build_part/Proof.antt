@@ -1,7 +1,8 @@
 -- The part is built from its start with its first phrase's rank; its codes are those but words after its start.
 use Rattle.walking.proofs.PartsLaws.{rank-few, starts-before, buildable, build-long, build-answers}
 use Rattle.selection.specs.Phrases.{phrasesIn}
-use Rattle.model.specs.Selection.{codeAt, upTo}
+use Rattle.model.specs.Kinds.{shapeAt}
+use Rattle.model.specs.Selection.{upTo}
 use Prim.Native.Nat.{ℕ}
 use native.Mathlib.Omega.{arith}
 use mathlib.Core.Path.{ap, _∙_}
@@ -18,7 +19,7 @@ rank-at-requires c κs = search needs
 add-build : tie.Need-add-build
 add-build c = let r = c .before in
     let st = r .before .before .before .before .before in
-    omega (arith, rank-few (st .pre), r .rank-at .ensures, ap (λ (l : ℕ). phrasesIn (upTo (codeAt (st .args .selection .now)) l)) (r .before .part-start .ensures), st .pre .up-to, st .pre .in-selection .few)
+    omega (arith, rank-few (st .pre), r .rank-at .ensures, ap (λ (l : ℕ). phrasesIn (upTo (shapeAt (st .args .selection .now)) l)) (r .before .part-start .ensures), st .pre .up-to, st .pre .in-selection .few)
 
 build-requires : tie.Need-build-requires
 build-requires c κs = let r = c .before in

@@ -1,7 +1,8 @@
 -- Invariant: so many codes but words stand after lo up to c. Measure: the codes left.
 use Rattle.walking.proofs.PartsLaws.{partCount-more}
 use Rattle.model.proofs.TreesLaws.{partsEnded-le}
-use Rattle.model.specs.Selection.{codeAt, upTo}
+use Rattle.model.specs.Kinds.{shapeOf, shapeAt}
+use Rattle.model.specs.Selection.{upTo}
 use Rattle.model.specs.Parts.{partCount}
 use Prim.Native.Nat.{ℕ, _+_, _-_, _≤_}
 use native.Mathlib.Omega.{arith}
@@ -11,7 +12,7 @@ use Rattle.walking.proofs.count_codes.Statement.{statement}
 use Rattle.walking.proofs.count_codes.Tie as tie
 
 abbrev Inv-loop : tie.InvT-loop
-Inv-loop selection lo hi n₀ c₀ n c = (lo ≤ c) × (c ≤ hi) × (n + lo ≤ c) × (partCount (upTo (codeAt selection) lo) + n ≡ partCount (upTo (codeAt selection) c))
+Inv-loop selection lo hi n₀ c₀ n c = (lo ≤ c) × (c ≤ hi) × (n + lo ≤ c) × (partCount (upTo (shapeAt selection) lo) + n ≡ partCount (upTo (shapeAt selection) c))
 
 abbrev μ-loop : tie.MeasureT-loop
 μ-loop selection lo hi n₀ c₀ n c = hi - c
@@ -29,7 +30,7 @@ parts-ended-requires : tie.Need-parts-ended-requires Inv-loop μ-loop
 parts-ended-requires c κs = search needs
 
 add-n : tie.Need-add-n Inv-loop μ-loop
-add-n c = omega (arith, c .parts-ended .ensures, partsEnded-le (c .before .code-at .result))
+add-n c = omega (arith, c .parts-ended .ensures, partsEnded-le (shapeOf (c .before .code-at .result)))
 
 loop-less : tie.Need-loop-less Inv-loop μ-loop
 loop-less c = search needs
@@ -39,15 +40,15 @@ loop-again c = let l = c .before .before .before in
     let a = l .before .before .args in (
       omega arith,
       omega arith,
-      omega (arith, c .parts-ended .ensures, partsEnded-le (c .before .code-at .result)),
-      partCount-more (codeAt (a .selection .now)) (l .loop .c) _ _ _ _ (c .before .code-at .ensures) (l .loop .inv .3) (c .parts-ended .ensures),
+      omega (arith, c .parts-ended .ensures, partsEnded-le (shapeOf (c .before .code-at .result))),
+      partCount-more (shapeAt (a .selection .now)) (l .loop .c) _ _ _ _ (ap shapeOf (c .before .code-at .ensures)) (l .loop .inv .3) (c .parts-ended .ensures),
     )
 
 returns : tie.Need-returns Inv-loop μ-loop
 returns c = let l = c .before in
     let a = l .before .before .args in
     let z : l .loop .c ≡ a .hi = omega arith in
-    l .loop .inv .3 ∙ ap (λ (k : ℕ). partCount (upTo (codeAt (a .selection .now)) k)) z
+    l .loop .inv .3 ∙ ap (λ (k : ℕ). partCount (upTo (shapeAt (a .selection .now)) k)) z
 
 pub count-codes-spec : {M : Type 1} → statement M
 count-codes-spec =

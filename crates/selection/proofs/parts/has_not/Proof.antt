@@ -1,10 +1,11 @@
 -- Invariant: the codes up to c have a not exactly where the part has one. Measure: c.
 use Rattle.selection.proofs.CodeLoopsLaws.{nots-here, nots-before, nots-none}
 use Rattle.selection.specs.PartCodes.{partCodes}
-use Rattle.model.specs.Selection.{codeAt, upTo}
+use Rattle.model.specs.Selection.{upTo}
+use Rattle.model.specs.Kinds.{shapeAt, shapeOf}
 use Rattle.model.specs.Parts.{isNotCode}
 use Rattle.model.specs.Lists.{anyOf}
-use mathlib.Core.Path.{_≡_, sym, _∙_}
+use mathlib.Core.Path.{_≡_, sym, ap, _∙_}
 use borrow.Author.Needs.{needs}
 use native.Mathlib.Omega.{arith}
 use Prim.Native.Nat.{_≤_, _+_, _-_}
@@ -12,7 +13,7 @@ use Rattle.selection.proofs.parts.has_not.Statement.{statement}
 use Rattle.selection.proofs.parts.has_not.Tie as tie
 
 abbrev Inv-loop : tie.InvT-loop
-Inv-loop selection place before c₀ c = (c ≤ place) × (anyOf isNotCode (upTo (λ i. codeAt selection (before + i)) (c - before)) ≡ anyOf isNotCode (partCodes (codeAt selection) place))
+Inv-loop selection place before c₀ c = (c ≤ place) × (anyOf isNotCode (upTo (λ i. shapeAt selection (before + i)) (c - before)) ≡ anyOf isNotCode (partCodes (shapeAt selection) place))
 
 abbrev μ-loop : tie.MeasureT-loop
 μ-loop selection place before c₀ c = c
@@ -34,7 +35,7 @@ returns : tie.Need-returns Inv-loop μ-loop
 returns c =
     let l = c .before .before .before .before in
     let s = l .before .before .before .args .selection .now in
-    nots-here (codeAt s) (l .before .part-start .result) (l .loop .c) (c .before .before .before .loop-test .taken) _ (c .before .before .code-at .ensures) (sym (c .before .is-not .ensures) ∙ c .if1 .taken)
+    nots-here (shapeAt s) (l .before .part-start .result) (l .loop .c) (c .before .before .before .loop-test .taken) _ (ap shapeOf (c .before .before .code-at .ensures)) (sym (c .before .is-not .ensures) ∙ c .if1 .taken)
     ∙ l .loop .inv .1
 
 sub-c : tie.Need-sub-c Inv-loop μ-loop
@@ -48,7 +49,7 @@ loop-again c =
     let l = c .before .before .before .before in
     let s = l .before .before .before .args .selection .now in (
       omega arith,
-      nots-before (codeAt s) (l .before .part-start .result) (l .loop .c) (c .before .before .before .loop-test .taken) _ (c .before .before .code-at .ensures) (sym (c .before .is-not .ensures) ∙ c .if1 .left)
+      nots-before (shapeAt s) (l .before .part-start .result) (l .loop .c) (c .before .before .before .loop-test .taken) _ (ap shapeOf (c .before .before .code-at .ensures)) (sym (c .before .is-not .ensures) ∙ c .if1 .left)
           ∙ l .loop .inv .1,
     )
 
@@ -56,7 +57,7 @@ returns-2 : tie.Need-returns-2 Inv-loop μ-loop
 returns-2 c =
     let l = c .before in
     let s = l .before .before .before .args .selection .now in
-    nots-none (codeAt s) (l .before .part-start .result) (l .loop .c) (c .loop-test .left) ∙ l .loop .inv .1
+    nots-none (shapeAt s) (l .before .part-start .result) (l .loop .c) (c .loop-test .left) ∙ l .loop .inv .1
 
 pub has-not-spec : {M : Type 1} → statement M
 has-not-spec =
