@@ -8,9 +8,8 @@ use Rattle.model.specs.AllMatches.{filterMatch, filterList}
 use Rattle.model.specs.Matches.{Match}
 use Rattle.model.specs.Rules.{kept}
 use Rattle.model.specs.Section.{Section}
-use Rattle.units.specs.declared.Unit.the-variants.{Sentence, Paragraph}
 use Rattle.filter_rules.specs.declared.Keeper.{Keeper}
-use Rattle.filter_rules.specs.declared.Keeper.the-variants.{Ordered, Distance, Same, Different, AtStart, AtEnd, EntireContent}
+use Rattle.filter_rules.specs.declared.Keeper.the-variants.{Ordered, Distance, SameSentence, SameParagraph, DifferentSentence, DifferentParagraph, AtStart, AtEnd, EntireContent}
 use Rattle.filter_rules.specs.declared.Rule.the-variants.{Keep}
 use Rattle.filter_rules.proofs.Keeper.{the-type}
 use Rattle.filter_rules.specs.Keepers.{filterOf, keepingOf}
@@ -18,10 +17,10 @@ use Rattle.filter_rules.specs.Keepers.{filterOf, keepingOf}
 keeper-match : (s : Section) (k : Keeper) → kept (keepingOf s k) ≡ filterMatch s (filterOf (Keep k))
 keeper-match s Ordered = refl
 keeper-match s (Distance a b) = refl
-keeper-match s (Same Sentence) = refl
-keeper-match s (Same Paragraph) = refl
-keeper-match s (Different Sentence) = refl
-keeper-match s (Different Paragraph) = refl
+keeper-match s SameSentence = refl
+keeper-match s SameParagraph = refl
+keeper-match s DifferentSentence = refl
+keeper-match s DifferentParagraph = refl
 keeper-match s AtStart = refl
 keeper-match s AtEnd = refl
 keeper-match s EntireContent = refl
@@ -31,11 +30,13 @@ unfolding filterList
 keeper-list s k ms = ap (λ F. flatMap F ms) (keeper-match s k)
 
 -- no filter joins but distance, by their tags
-pub no-join : (s : Section) (k : Keeper) → OneOf (0 ∷ 2 ∷ 3 ∷ 4 ∷ 5 ∷ 6 ∷ []) (tagOf the-type k) → false ≡ keepingOf s k .joins
+pub no-join : (s : Section) (k : Keeper) → OneOf (0 ∷ 2 ∷ 3 ∷ 4 ∷ 5 ∷ 6 ∷ 7 ∷ 8 ∷ []) (tagOf the-type k) → false ≡ keepingOf s k .joins
 no-join s Ordered t = refl
-no-join s (Distance a b) t = absurd (miss (0 ∷ 2 ∷ 3 ∷ 4 ∷ 5 ∷ 6 ∷ []) 1 tt t)
-no-join s (Same unit) t = refl
-no-join s (Different unit) t = refl
+no-join s (Distance a b) t = absurd (miss (0 ∷ 2 ∷ 3 ∷ 4 ∷ 5 ∷ 6 ∷ 7 ∷ 8 ∷ []) 1 tt t)
+no-join s SameSentence t = refl
+no-join s SameParagraph t = refl
+no-join s DifferentSentence t = refl
+no-join s DifferentParagraph t = refl
 no-join s AtStart t = refl
 no-join s AtEnd t = refl
 no-join s EntireContent t = refl

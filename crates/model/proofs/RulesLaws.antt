@@ -190,13 +190,6 @@ pub strings-mildNot : (ls rs : List Match) → strings (mildNotList ls rs) ≤ s
 unfolding mildNotList
 strings-mildNot ls rs = strings-keep (λ l. allOf (reachesBeyond l) rs) ls
 
--- ---- a filter that keeps a match or drops it
-
--- one match or none, with no more strings than the match that it comes from
-pub record AtMostOne (m : Match) (given : List Match) : Type 0 where
-  pub matches : length given ≤ 1
-  pub fewer : strings given ≤ stringsIn m
-
 -- ---- join
 
 -- every string starts at the least start or after it ..
@@ -233,6 +226,11 @@ length-join [] = omega arith
 length-join (s ∷ ss) = omega arith
 
 -- ---- filters other than window
+
+-- one match or none, with no more strings than the match that it comes from
+pub record AtMostOne (m : Match) (given : List Match) : Type 0 where
+  pub matches : length given ≤ 1
+  pub fewer : strings given ≤ stringsIn m
 
 -- the includes are as many, or their join
 pub length-kept : (k : Keeping) (m : Match) → length (keptMatch k m .includes) ≤ length (m .includes)

@@ -6,8 +6,7 @@ ghost use mathlib.Core.Bool.{_&&_};
 ghost use Prim.Native.Nat.{_/_};
 ghost use lib.Dec.{leb};
 ghost use Rattle.model.specs.Limits.{radix};
-ghost use Rattle.model.specs.Lists.{allOf, allPairs};
-ghost use Rattle.model.specs.Rules.{agree};
+ghost use Rattle.model.specs.Rules.{agree, ordered};
 ghost use Rattle.strings.specs.Strings.{strOf, strsAt};
 
 // "start and query position both do not fall .. from one to the other"
@@ -32,7 +31,7 @@ pub fn agree(span: u32, tag: u32, other_span: u32, other_tag: u32) -> bool
 
 // "it agrees with every include"
 pub fn agrees_with_all(span: u32, tag: u32, strs: &[u32]) -> bool
-    ensures { λ r. ⌜ r ≡ allOf (agree (strOf span tag)) (strsAt (now (strs .entry))) ⌝ }
+    ensures { λ r. ⌜ r ≡ ordered .stays (strsAt (now (strs .entry))) (strOf span tag) ⌝ }
 {
     let mut i = 0;
     while i + 1 < strs.len() {
@@ -46,7 +45,7 @@ pub fn agrees_with_all(span: u32, tag: u32, strs: &[u32]) -> bool
 
 // "all pairs of includes agree"
 pub fn all_agree(strs: &[u32]) -> bool
-    ensures { λ r. ⌜ r ≡ allPairs agree (strsAt (now (strs .entry))) ⌝ }
+    ensures { λ r. ⌜ r ≡ ordered .keeps (strsAt (now (strs .entry))) ⌝ }
 {
     let mut i = 0;
     while i + 1 < strs.len() {

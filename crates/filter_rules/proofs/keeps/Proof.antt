@@ -15,26 +15,38 @@ enum-known-keeper c = search needs
 sorted-within-requires : tie.Need-sorted-within-requires
 sorted-within-requires c κs = search needs
 
-enum-known-keeper-2 : tie.Need-enum-known-keeper-2
-enum-known-keeper-2 c = search needs
+enum-told-2 : tie.Need-enum-told-2
+enum-told-2 c = search needs
 
 all-in-same-requires : tie.Need-all-in-same-requires
 all-in-same-requires c κs = search needs
 
-enum-known-keeper-3 : tie.Need-enum-known-keeper-3
-enum-known-keeper-3 c = search needs
+enum-told-3 : tie.Need-enum-told-3
+enum-told-3 c = search needs
+
+all-in-same-requires-2 : tie.Need-all-in-same-requires-2
+all-in-same-requires-2 c κs = search needs
+
+enum-told-4 : tie.Need-enum-told-4
+enum-told-4 c = search needs
 
 all-differ-requires : tie.Need-all-differ-requires
 all-differ-requires c κs = search needs
 
-enum-told-2 : tie.Need-enum-told-2
-enum-told-2 c = search needs
+enum-told-5 : tie.Need-enum-told-5
+enum-told-5 c = search needs
+
+all-differ-requires-2 : tie.Need-all-differ-requires-2
+all-differ-requires-2 c κs = search needs
+
+enum-told-6 : tie.Need-enum-told-6
+enum-told-6 c = search needs
 
 at-position-requires : tie.Need-at-position-requires
 at-position-requires c κs = search needs
 
-enum-told-3 : tie.Need-enum-told-3
-enum-told-3 c = search needs
+enum-told-7 : tie.Need-enum-told-7
+enum-told-7 c = search needs
 
 number-at-requires : tie.Need-number-at-requires
 number-at-requires c κs = search needs
@@ -42,8 +54,8 @@ number-at-requires c κs = search needs
 at-position-requires-2 : tie.Need-at-position-requires-2
 at-position-requires-2 c κs = search needs
 
-enum-told-4 : tie.Need-enum-told-4
-enum-told-4 c = search needs
+enum-told-8 : tie.Need-enum-told-8
+enum-told-8 c = search needs
 
 number-at-requires-2 : tie.Need-number-at-requires-2
 number-at-requires-2 c κs = search needs
@@ -58,19 +70,25 @@ returns-2 : tie.Need-returns-2
 returns-2 c = rw (c .before .before .keeper .given .1) (c .sorted-within .ensures)
 
 returns-3 : tie.Need-returns-3
-returns-3 c = rw (c .before .before .keeper2 .given .1) (c .all-in-same .ensures)
+returns-3 c = rw (c .before .enum-told2 .given .1) (c .all-in-same .ensures)
 
 returns-4 : tie.Need-returns-4
-returns-4 c = rw (c .before .before .keeper3 .given .1) (c .all-differ .ensures)
+returns-4 c = rw (c .before .enum-told3 .given .1) (c .all-in-same2 .ensures)
 
 returns-5 : tie.Need-returns-5
-returns-5 c = rw (c .before .enum-told2 .given .1) (c .at-position .ensures)
+returns-5 c = rw (c .before .enum-told4 .given .1) (c .all-differ .ensures)
 
 returns-6 : tie.Need-returns-6
-returns-6 c = rw (c .before .before .enum-told3 .given .1) (rw (c .before .number-at .ensures) at (c .at-position2 .ensures))
+returns-6 c = rw (c .before .enum-told5 .given .1) (c .all-differ2 .ensures)
 
 returns-7 : tie.Need-returns-7
-returns-7 c = rw (c .before .before .enum-told4 .given .1) (rw (c .before .number-at2 .ensures) at (c .run-covered .ensures))
+returns-7 c = rw (c .before .enum-told6 .given .1) (c .at-position .ensures)
+
+returns-8 : tie.Need-returns-8
+returns-8 c = rw (c .before .before .enum-told7 .given .1) (rw (c .before .number-at .ensures) at (c .at-position2 .ensures))
+
+returns-9 : tie.Need-returns-9
+returns-9 c = rw (c .before .before .enum-told8 .given .1) (rw (c .before .number-at2 .ensures) at (c .run-covered .ensures))
 
 pub keeps-spec : {M : Type 1} → statement M
 keeps-spec =
@@ -80,16 +98,20 @@ keeps-spec =
     all-agree-requires
     enum-known-keeper
     sorted-within-requires
-    enum-known-keeper-2
-    all-in-same-requires
-    enum-known-keeper-3
-    all-differ-requires
     enum-told-2
-    at-position-requires
+    all-in-same-requires
     enum-told-3
+    all-in-same-requires-2
+    enum-told-4
+    all-differ-requires
+    enum-told-5
+    all-differ-requires-2
+    enum-told-6
+    at-position-requires
+    enum-told-7
     number-at-requires
     at-position-requires-2
-    enum-told-4
+    enum-told-8
     number-at-requires-2
     run-covered-requires
     returns
@@ -98,4 +120,6 @@ keeps-spec =
     returns-4
     returns-5
     returns-6
-    returns-7)
+    returns-7
+    returns-8
+    returns-9)
