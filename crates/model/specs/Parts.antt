@@ -1,6 +1,6 @@
 -- What laws and contracts say of codes, trees and parts: a tree's codes and numbering, the waiting rule over many codes, and the part that ends
 -- at a place. None of it is part of the meaning.
-use Prim.Native.Nat.{ℕ, zero, suc, _+_, _-_, _≤_}
+use Prim.Native.Nat.{ℕ, zero, suc, _+_, _-_}
 use mathlib.Core.Bool.{Bool, true, false, not, _&&_, cond}
 use mathlib.Core.List.{List, [], _∷_, _++_, map}
 use mathlib.Core.Path.{_≡_}
