@@ -24,7 +24,8 @@ use Rattle.model.specs.Accepted.{ReportedOrNot, AcceptedSection, maxPhra
 use Rattle.model.proofs.ListsLaws.{any-append, first-range-none, range-first-none}
 use Rattle.model.proofs.SectionLaws.{WellSized, well-sized}
 use Rattle.model.proofs.TestsLaws.{both-true, both-false, xor-false, cond-none}
-use Rattle.model.proofs.SelectionLaws.{codeOf-cases, length-upTo, all-upTo}
+use Rattle.model.proofs.SelectionLaws.{length-upTo, all-upTo}
+use Rattle.model.proofs.KindsLaws.{shape-cases}
 use Rattle.model.proofs.TreesLaws.{phrases-few, ranks-to}
 use Rattle.model.proofs.WaitingLaws.{misfit-none, parsed}
 
@@ -161,7 +162,7 @@ has-not (change k c t) = any-both (parts t) (change k c t ∷ []) (postfix t) (a
 -- a phrase whose operand fits has a word
 has-words : (k o : ℕ) → operandFits k o ≡ true → hasWords (shapeOf (codeOf k o)) ≡ true
 unfolding operandFits
-has-words k o h = codeOf-cases (λ c. hasWords (shapeOf c) ≡ true) k o (λ e. refl) some (λ l q. refl) (λ l. refl) (λ l f. refl)
+has-words k o h = shape-cases (λ x. hasWords x ≡ true) k o (λ e. refl) some (λ l q. refl) (λ l q. refl)
   where
     some : k ≡ 1 → leb 1 o ≡ true
     some e = both-true (leb 1 o) (leb o maxWaiting) (ap (λ (n : ℕ). operandFits n o) (sym e) ∙ h) .0

@@ -20,8 +20,8 @@ use Rattle.model.specs.Parts.{partsEnded, partCount, postfix, phrases, r
 use Rattle.model.specs.Parts.{fitsAll, listsAll, wordsAll, wellFormed, stops, treesNeeded, scanBack, partStart, PartAt}
 use Rattle.model.specs.Walk.{ownCount}
 use Rattle.model.proofs.TestsLaws.{false-true, positive, cond-le}
-use Rattle.model.proofs.KindsLaws.{arity-le}
-use Rattle.model.proofs.SelectionLaws.{codeOf-cases, upTo-map, length-upTo, upTo-split, upTo-front, Ends, ends}
+use Rattle.model.proofs.KindsLaws.{arity-le, shape-cases}
+use Rattle.model.proofs.SelectionLaws.{upTo-map, length-upTo, upTo-split, upTo-front, Ends, ends}
 use Rattle.model.proofs.TreesLaws.{readAll-append, read-part, place-of, length-parts}
 use Rattle.model.proofs.WaitingLaws.{after-part, fitsAll-split, fitsAll-cons, listsAll-append, wordsAll-append, formed, steps, part-alone}
 
@@ -314,7 +314,7 @@ module _ (at : ℕ → Shape) (hi : ℕ) (w : PartAt at hi) where
 
 -- the codes that count are those of kind 1 and up
 partsEnded-code : (k o : ℕ) → partsEnded (shapeOf (codeOf k o)) ≡ cond (leb 1 k) 1 0
-partsEnded-code k o = codeOf-cases (λ c. partsEnded (shapeOf c) ≡ cond (leb 1 k) 1 0) k o (λ e. rw e) (λ e. rw e) (λ h q. some h) some (λ h f. some h)
+partsEnded-code k o = shape-cases (λ x. partsEnded x ≡ cond (leb 1 k) 1 0) k o (λ e. rw e) (λ e. rw e) (λ h q. some h) (λ h q. some h)
   where
     some : 1 ≤ k → _≡_ {A = ℕ} 1 (cond (leb 1 k) 1 0)
     some h = rw (le-leb 1 k h)

@@ -4,26 +4,24 @@ use Prim.Native.Nat.{ℕ, zero, suc, _+_, _-_, _*_, _/_, _%_, _≤_, _<_}
 use native.Mathlib.Nat.{add-zero}
 use native.Mathlib.Omega.{arith}
 use mathlib.Core.Path.{_≡_, refl, sym, ap, ap₂, subst, _∙_}
-use mathlib.Core.Bool.{Bool, true, false, cond}
+use mathlib.Core.Bool.{Bool, true}
 use mathlib.Core.List.{List, [], _∷_, _++_, map, map-append, append-assoc, append-nil}
-use lib.Dec.{eqb, leb}
+use lib.Dec.{eqb}
 use lib.ListN.{length, take, drop, getD, length-append}
 use lib.Seq.{take-at, take-append-seam, drop-cons, append-snoc, getD-at, getD-append-seam}
 use borrow.Author.Tests.{eqb-true}
 use Rattle.model.specs.declared.Code.{Code}
 use Rattle.model.specs.declared.Code.the-variants.{Word, Phrase, Combine, Not, Filter as Filtered}
-use Rattle.model.specs.declared.Filter.{Filter}
 use Rattle.model.specs.declared.Filter.the-variants.{Ordered, Window, Distance, SameSentence, SameParagraph, DifferentSentence, DifferentParagraph, AtStart, AtEnd, EntireContent}
-use Rattle.model.specs.declared.Pair.{Pair}
 use Rattle.model.specs.declared.Pair.the-variants.{Or, And, MildNot}
 use Rattle.model.specs.Limits.{radix}
 use Rattle.model.specs.Lists.{allOf, upFrom}
-use Rattle.model.specs.Selection.{kindOf, operandOf, filterOf, codeOf, upTo}
+use Rattle.model.specs.Selection.{kindOf, operandOf, codeOf, upTo}
 use Rattle.model.specs.Checks.{operandFits, filterOperandFits}
 use Rattle.model.specs.Parts.{mostOf}
 use Rattle.model.proofs.ListsLaws.{all-append}
 use Rattle.model.proofs.ListsLaws.{upFrom-snoc}
-use Rattle.model.proofs.TestsLaws.{and-join, positive}
+use Rattle.model.proofs.TestsLaws.{and-join}
 
 -- ---- kindOf, operandOf, codeOf
 
@@ -84,23 +82,6 @@ code-code (Filtered DifferentParagraph) h = refl
 code-code (Filtered AtStart) h = refl
 code-code (Filtered AtEnd) h = refl
 code-code (Filtered EntireContent) h = refl
-
--- what holds of the code of a kind and an operand, by the sorts of codes
-pub codeOf-cases : (P : Code → Type 0) (k o : ℕ) → (k ≡ 0 → P (Word o)) → (k ≡ 1 → P (Phrase o)) → (1 ≤ k → (q : Pair) → P (Combine q)) → (1 ≤ k → P Not)
-    → (1 ≤ k → (f : Filter) → P (Filtered f)) → P (codeOf k o)
-codeOf-cases P k o w p c n f =
-    cond-cases P (eqb k 0) _ _ (λ e. w (eqb-true k 0 e)) (λ z.
-    let h : 1 ≤ k = positive k z in
-    cond-cases P (eqb k 1) _ _ (λ e. p (eqb-true k 1 e)) (λ _.
-    cond-cases P (leb k 5) _ _ (λ _.
-    cond-cases P (eqb k 2) _ _ (λ _. c h Or) (λ _.
-    cond-cases P (eqb k 3) _ _ (λ _. c h And) (λ _.
-    cond-cases P (eqb k 4) _ _ (λ _. n h) (λ _. c h MildNot)))) (λ _.
-    cond-cases P (leb k 15) _ _ (λ _. f h (filterOf k o)) (λ _. f h EntireContent))))
-  where
-    cond-cases : (P : Code → Type 0) (b : Bool) (x y : Code) → (b ≡ true → P x) → (b ≡ false → P y) → P (cond b x y)
-    cond-cases P true x y t e = t refl
-    cond-cases P false x y t e = e refl
 
 -- ---- upTo
 

@@ -1,6 +1,6 @@
 -- Laws of the waiting rule: it counts what waits while codes are read. So codes that pass it are read into one tree that spells them, and each
 -- tree among them passes it alone.
-use Prim.Native.Nat.{ℕ, _+_, _-_, _≤_, _<_}
+use Prim.Native.Nat.{ℕ, _+_, _≤_, _<_}
 use native.Mathlib.Nat.{zero-add}
 use native.Mathlib.Omega.{arith}
 use mathlib.Core.Path.{_≡_, refl, sym, ap, ap₂, _∙_}

@@ -29,9 +29,9 @@ use Rattle.selection.specs.PartCodes.{partCodes}
 -- ---- one part
 
 -- a mild not over a not is told by its code and its codes
-mild-tree : (k c : ℕ) (t u : Tree) → mildOverNot (pair MildNot c t u) ≡ anyOf isNotCode (postfix (pair MildNot c t u))
+mild-tree : (c : ℕ) (t u : Tree) → mildOverNot (pair MildNot c t u) ≡ anyOf isNotCode (postfix (pair MildNot c t u))
 unfolding parts anyOf
-mild-tree k c t u =
+mild-tree c t u =
     sym (any-append isNot (parts t ++ parts u) (pair MildNot c t u ∷ []) ∙ or-false (anyOf isNot (parts t ++ parts u)) ∙ any-append isNot (parts t) (parts u))
     ∙ has-not (pair MildNot c t u)
 
@@ -43,7 +43,7 @@ module _ (at : ℕ → Shape) (hi : ℕ) (w : PartAt at hi) where
   mild-part (aPair And) e = ap mildOverNot (pair-at at hi w And _ refl e .is)
   mild-part (aPair MildNot) e =
       let is = pair-at at hi w MildNot _ refl e .is in
-      ap mildOverNot is ∙ mild-tree 0 hi _ _ ∙ ap (λ t. anyOf isNotCode (postfix t)) (sym is)
+      ap mildOverNot is ∙ mild-tree hi _ _ ∙ ap (λ t. anyOf isNotCode (postfix t)) (sym is)
   mild-part (aChange k) e = ap mildOverNot (change-at at hi w k e .is)
 
 -- ---- all the parts up to a code

@@ -30,7 +30,7 @@ fn trees_needed(code: Code, trees: usize) -> usize
         return trees;
     }
     let taken = codes::lists_taken(code);
-    // a phrase is a tree found; before another code the last of its lists' trees takes its place
+    // a phrase is one found, and in place of any other code its lists are to find; as one sum it makes the walk's frame larger
     if taken == 0 {
         return trees - 1;
     }

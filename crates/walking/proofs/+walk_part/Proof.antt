@@ -4,7 +4,7 @@ use native.Mathlib.Omega.{arith}
 use mathlib.Core.Bool.{false, not}
 use mathlib.Core.Path.{_≡_, refl, sym, ap, _∙_}
 use lib.ListN.{length}
-use Prim.Native.Nat.{_-_, _≤_}
+use Prim.Native.Nat.{_-_}
 use Rattle.model.specs.declared.Code.{Code}
 use Rattle.model.specs.declared.Pair.{Pair}
 use Rattle.model.specs.Kinds.{aPair, shapeOf, shapeAt}

@@ -1,6 +1,6 @@
 -- By the code at hi: a phrase is looked for, and every other part that the walk does not go into is built.
 use mathlib.Core.Bool.{Bool}
-use mathlib.Core.Path.{sym, ap, _∙_}
+use mathlib.Core.Path.{ap, _∙_}
 use borrow.Author.Needs.{needs}
 use Rattle.model.specs.declared.Code.{Code}
 use Rattle.model.specs.Kinds.{shapeOf}
