@@ -24,11 +24,11 @@ use Rattle.model.specs.Waiting.{fits}
 use Rattle.model.specs.Walk.{firstTooLong}
 use Rattle.store.specs.declared.Built.{Built}
 use Rattle.store.specs.declared.Built.the-variants.{Made}
-use Rattle.store.specs.Fine.{Fine}
+use Rattle.store.specs.ValidStr.{ValidStr}
 use Rattle.model.proofs.TestsLaws.{both-true}
 use Rattle.model.proofs.WaitingLaws.{fit-of}
-use Rattle.store.proofs.FineLaws.{fine-matches}
-use Rattle.store.proofs.Slots.{answer-made, answer-long}
+use Rattle.store.proofs.ValidStrLaws.{valid-matches}
+use Rattle.store.proofs.SlotsLaws.{answer-made, answer-long}
 use Rattle.building.specs.Steps.{NoneTaken, OneTaken, TwoTaken, Added}
 use Rattle.building.specs.State.{Waits, After, AfterCode}
 
@@ -56,9 +56,9 @@ leaf s = phrase (s .place) (s .rank) (s .words)
 module _ {section mem : List ℕ} {place rank lists : ℕ} where
   -- every string of the list of the tree that waits as the last after a code is fine
   fine-last : {shape : Shape} {s : State} (t : Tree) (ts : List Tree) → read shape s .trees ≡ t ∷ ts
-      → Waits section mem shape s place rank lists → AllList Fine (allMatches (sectionOf section) t)
+      → Waits section mem shape s place rank lists → AllList ValidStr (allMatches (sectionOf section) t)
   unfolding Every
-  fine-last t ts e w = fine-matches (sectionOf section) t (w .accepted .few) (subst (Every (RanksUpTo maxPhrases)) e (w .ranks) .0)
+  fine-last t ts e w = valid-matches (sectionOf section) t (w .accepted .few) (subst (Every (RanksUpTo maxPhrases)) e (w .ranks) .0)
 
   -- ---- aPhrase
 
@@ -92,7 +92,7 @@ module _ {section mem : List ℕ} {place rank lists : ℕ} where
           count = w .count ∙ sym (length-map (s .trees) (allMatches (sectionOf section)));
           few = omega (arith, w .count, leaf-fits);
           room = w .room;
-          fine = subst (AllList Fine) (sym leaf-list) (fine-last (leaf s) (s .trees) leaf-last w);
+          fine = subst (AllList ValidStr) (sym leaf-list) (fine-last (leaf s) (s .trees) leaf-last w);
         }
 
     -- what its rule wants, and what that leaves

@@ -16,23 +16,22 @@ use Rattle.model.specs.Rules.{window}
 use Rattle.model.specs.Section.{Section}
 use Rattle.store.specs.declared.Built.{Built}
 use Rattle.store.specs.declared.Built.the-variants.{Made, TooLong}
-use Rattle.store.specs.Fine.{Fine}
+use Rattle.store.specs.ValidStr.{ValidStr}
 use Rattle.store.specs.Layout.{scratch, slotAt, slotNumbers, slotSize}
 use Rattle.store.specs.Outcome.{Outcome}
-use Rattle.store.specs.Places.{Under}
-use Rattle.store.specs.Slot.{SlotHolds, SlotAt}
+use Rattle.store.specs.Places.{SlotBelow}
+use Rattle.store.specs.Slot.{SlotHolds, SlotAt, TwoSlots}
 use Rattle.store.specs.Stack.{Stack}
-use Rattle.store.proofs.Slots.{answer-made, outcome-put, outcome-slot}
+use Rattle.store.proofs.SlotsLaws.{answer-made, outcome-put, outcome-slot}
 use Rattle.store.proofs.StackLaws.{stack-last, stack-rest, stack-push, stack-built}
 use Rattle.filter_rules.specs.declared.Rule.{Rule}
 use Rattle.filter_rules.specs.declared.Rule.the-variants.{Window as ByWindow}
 use Rattle.filter_rules.specs.Keepers.{filterOf}
-use Rattle.or_and.specs.TwoSlots.{TwoSlots}
 use Rattle.building.specs.Steps.{NoneTaken, OneTaken, TwoTaken, Fresh, Added}
 
 -- a list that a rule has put after the rest waits there
 pub added : {mem mem' : List ℕ} {built : Built} (ms : List Match) (rest : List (List Match)) → length rest < maxWaiting → workLength ≤ length mem
-    → AllList Fine ms → Stack mem rest → Outcome ms mem mem' (slotAt (length rest)) built → Added ms rest mem' built
+    → AllList ValidStr ms → Stack mem rest → Outcome ms mem mem' (slotAt (length rest)) built → Added ms rest mem' built
 added ms rest few room f st o =
     record {
       answered = o .answered;
@@ -78,7 +77,7 @@ module _ {rule : List Match → List Match} {mem : List ℕ} {lists : ℕ} (w : 
       let at : slotAt (length (w .rest)) ≡ (lists - 1) * slotSize = omega (arith, w .count) in
       record { list = w .list; slot = subst (λ (i : ℕ). SlotHolds mem i (w .list)) at (stack-last mem (w .list) (w .rest) (w .stack)) }
 
-  pub one-under : Under (length mem) ((lists - 1) * slotSize) scratch
+  pub one-under : SlotBelow (length mem) ((lists - 1) * slotSize) scratch
   one-under = record { below = omega (arith, w .few); room = omega (arith, w .room) }
 
   module _ {mem' : List ℕ} {built : Built} (o : (v : SlotAt mem ((lists - 1) * slotSize)) → Outcome (rule (v .list)) mem mem' scratch built) where
@@ -103,13 +102,6 @@ module _ {rule : List Match → List Match} {mem : List ℕ} {lists : ℕ} (w : 
 
 -- ---- a rule that takes the last two
 
--- each of two lists alone
-abbrev pub left-slot : {mem : List ℕ} {l r : ℕ} → TwoSlots mem l r → SlotAt mem l
-left-slot v = record { list = v .lefts; slot = v .left }
-
-abbrev pub right-slot : {mem : List ℕ} {l r : ℕ} → TwoSlots mem l r → SlotAt mem r
-right-slot v = record { list = v .rights; slot = v .right }
-
 module _ {rule : List Match → List Match → List Match} {mem : List ℕ} {lists : ℕ} (w : TwoTaken rule mem lists) where
   unfoldable pub two-slots : TwoSlots mem ((lists - 2) * slotSize) ((lists - 1) * slotSize)
   two-slots =
@@ -123,7 +115,7 @@ module _ {rule : List Match → List Match → List Match} {mem : List ℕ} {lis
         right = subst (λ (i : ℕ). SlotHolds mem i (w .rights)) r (stack-last mem (w .rights) (w .lefts ∷ w .rest) (w .stack));
       }
 
-  pub two-unders : Under (length mem) ((lists - 2) * slotSize) scratch × Under (length mem) ((lists - 1) * slotSize) scratch
+  pub two-unders : SlotBelow (length mem) ((lists - 2) * slotSize) scratch × SlotBelow (length mem) ((lists - 1) * slotSize) scratch
   two-unders = (record { below = omega (arith, w .few); room = omega (arith, w .room) }, record { below = omega (arith, w .few); room = omega (arith, w .room) })
 
   pub two-apart : (lists - 2) * slotSize + slotSize ≤ (lists - 1) * slotSize
@@ -175,7 +167,7 @@ module _ {k j : Pair} {mem : List ℕ} {lists : ℕ} (e : k ≡ j) (w : TwoTaken
         count = w .count;
         few = w .few;
         room = w .room;
-        fine = subst (λ (i : Pair). AllList Fine (pairList i (w .lefts) (w .rights))) e (w .fine);
+        fine = subst (λ (i : Pair). AllList ValidStr (pairList i (w .lefts) (w .rights))) e (w .fine);
       }
 
   pub pair-added : {mem' : List ℕ} {built : Built} → ((v : TwoTaken (pairList j) mem lists) → Added (pairList j (v .lefts) (v .rights)) (v .rest) mem' built)

@@ -28,7 +28,7 @@ use Rattle.model.proofs.WaitingLaws.{step}
 use Rattle.selection.specs.Phrases.{phraseWords}
 use Rattle.selection.proofs.PhrasesLaws.{the-words}
 use Rattle.store.specs.Layout.{Holds}
-use Rattle.store.proofs.Memory.{holds-both, holds-part}
+use Rattle.store.proofs.MemoryLaws.{holds-both, holds-part}
 use Rattle.window.specs.Inside.{WindowSize}
 
 -- the words before the place c are the operands of the codes just before it

@@ -9,7 +9,7 @@ use Rattle.model.specs.Matches.{Match}
 use Rattle.store.specs.declared.Built.{Built}
 use Rattle.store.specs.declared.Built.the-variants.{Made}
 use Rattle.store.specs.Built.{builtOf}
-use Rattle.store.specs.Fine.{Fine}
+use Rattle.store.specs.ValidStr.{ValidStr}
 use Rattle.store.specs.Layout.{scratch, slotAt}
 use Rattle.store.specs.Outcome.{Outcome}
 use Rattle.store.specs.Stack.{Stack}
@@ -21,7 +21,7 @@ pub record NoneTaken (new : List Match) (mem : List ℕ) (lists : ℕ) : Type 0 
   pub count : lists ≡ length rest
   pub few : lists < maxWaiting
   pub room : workLength ≤ length mem
-  pub fine : AllList Fine new
+  pub fine : AllList ValidStr new
 
 -- so many lists wait, and a rule takes the last
 pub record OneTaken (rule : List Match → List Match) (mem : List ℕ) (lists : ℕ) : Type 0 where
@@ -31,7 +31,7 @@ pub record OneTaken (rule : List Match → List Match) (mem : List ℕ) (lists :
   pub count : lists ≡ 1 + length rest
   pub few : lists ≤ maxWaiting
   pub room : workLength ≤ length mem
-  pub fine : AllList Fine (rule list)
+  pub fine : AllList ValidStr (rule list)
 
 -- so many lists wait, and a rule takes the last two
 pub record TwoTaken (rule : List Match → List Match → List Match) (mem : List ℕ) (lists : ℕ) : Type 0 where
@@ -42,7 +42,7 @@ pub record TwoTaken (rule : List Match → List Match → List Match) (mem : Lis
   pub count : lists ≡ 2 + length rest
   pub few : lists ≤ maxWaiting
   pub room : workLength ≤ length mem
-  pub fine : AllList Fine (rule lefts rights)
+  pub fine : AllList ValidStr (rule lefts rights)
 
 -- a rule has answered for a list that it built in the slot for that; it is to wait at `at`, after the rest
 pub record Fresh (mem : List ℕ) (at : ℕ) (built : Built) : Type 0 where
@@ -54,7 +54,7 @@ pub record Fresh (mem : List ℕ) (at : ℕ) (built : Built) : Type 0 where
   pub place : at ≡ slotAt (length rest)
   pub few : length rest < maxWaiting
   pub room : workLength ≤ length before
-  pub fine : AllList Fine list
+  pub fine : AllList ValidStr list
 
 -- a list is answered for; where it is made, it waits after the rest
 pub record Added (list : List Match) (rest : List (List Match)) (exit : List ℕ) (built : Built) : Type 0 where

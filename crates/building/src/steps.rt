@@ -16,7 +16,7 @@ ghost use Rattle.model.specs.Rules.{andList, mildNotList, notList, orList, phra
 ghost use Rattle.model.specs.Section.{sectionOf};
 ghost use Rattle.store.specs.Layout.{scratch};
 ghost use Rattle.store.specs.Outcome.{Outcome};
-ghost use Rattle.store.specs.Places.{Under};
+ghost use Rattle.store.specs.Places.{SlotBelow};
 ghost use Rattle.store.specs.Slot.{SlotAt};
 ghost use Rattle.window.specs.Inside.{WindowSize};
 ghost use Rattle.building.specs.State.{AfterCode, WaitsAt};
@@ -103,7 +103,7 @@ fn build_not(mem: &mut [u32], lists: usize) -> Built
 fn filtered(section: &[u32], filter: Filter, mem: &mut [u32], src: usize) -> Built
     requires { ⌜ ((n : ℕ) → filter ≡ Window n → WindowSize n) ⌝ }
     requires { ⌜ SlotAt (now mem) src ⌝ }
-    requires { ⌜ Under (length (now mem)) src scratch ⌝ }
+    requires { ⌜ SlotBelow (length (now mem)) src scratch ⌝ }
     ensures { λ r.
         ⌜ ((w : SlotAt (now (mem .entry)) src)
         → Outcome (filterList (sectionOf (now (section .entry))) filter (w .list)) (now (mem .entry)) (now (mem .exit)) scratch r) ⌝ }

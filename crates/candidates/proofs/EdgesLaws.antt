@@ -1,4 +1,4 @@
--- The edges of strings are read from the first and the last pair of their numbers, and fine strings cover them. Ranges that are widened lose nothing, so those
+-- The edges of strings are read from the first and the last pair of their numbers, and valid strings cover them. Ranges that are widened lose nothing, so those
 -- that begin with the edges of a match contain them in the end.
 use Prim.Native.Nat.{ℕ, zero, suc, _+_, _-_, _*_, _/_, _%_, _≤_, _<_}
 use native.Mathlib.Omega.{arith}
@@ -7,7 +7,7 @@ use mathlib.Core.Bool.{Bool, true, false, or-true}
 use mathlib.Core.List.{List, [], _∷_}
 use borrow.Author.Tests.{eqb-true, eqb-false, le-leb, leb-true, ltb-true}
 use lib.Dec.{eqb, leb, ltb}
-use lib.ListN.{length, take, drop, getD}
+use lib.ListN.{length, take, getD}
 use Rattle.model.specs.AllStrings.{AllStrs, Every}
 use Rattle.model.specs.Limits.{radix}
 use Rattle.model.specs.Lists.{anyOf, isEmpty}
@@ -16,11 +16,11 @@ use Rattle.model.specs.declared.Position.{Position}
 use Rattle.model.specs.Rules.{covered, covers}
 use Rattle.model.proofs.TestsLaws.{both-true}
 use Rattle.strings.specs.Strings.{strOf, strsAt}
-use Rattle.store.specs.Fine.{Fine}
+use Rattle.store.specs.ValidStr.{ValidStr}
 use Rattle.store.specs.Layout.{includesIn, matchLength}
-use Rattle.store.specs.Stream.{Left, MatchHolds, StreamAt}
-use Rattle.store.proofs.Back.{includes-held, includes-read}
-use Rattle.store.proofs.Walking.{next, none-left}
+use Rattle.store.specs.Stream.{MatchHolds, Remaining, StreamAt}
+use Rattle.store.proofs.DecodeLaws.{includes-held}
+use Rattle.store.proofs.StreamLaws.{Next, next-counted, none-counted}
 use Rattle.candidates.specs.declared.edges.Edges.{Edges}
 use Rattle.candidates.specs.declared.edges.Range.{Range}
 use Rattle.candidates.specs.declared.edges.Ranges.{Ranges}
@@ -50,18 +50,18 @@ edges-read [] h = absurd (omega arith)
 edges-read (x ∷ []) h = absurd (omega arith)
 edges-read (x ∷ y ∷ l) h = ap (λ k. record { start = position (x / radix); end = position k }) (last-read x y l)
 
--- fine strings cover their edges
-last-covered : (s : Str) (ss : List Str) → AllStrs Fine (s ∷ ss) → covered (s ∷ ss) (lastOf s ss .end) ≡ true
+-- valid strings cover their edges
+last-covered : (s : Str) (ss : List Str) → AllStrs ValidStr (s ∷ ss) → covered (s ∷ ss) (lastOf s ss .end) ≡ true
 unfolding lastOf Every anyOf
 last-covered s [] f = rw (le-leb (s .start) (s .end) (f .0 .in-order), le-leb (s .end) (s .end) (omega arith))
 last-covered s (t ∷ ts) f = rw (last-covered t ts (f .1)) (or-true (covers s (lastOf t ts .end)))
 
-pub start-covered : (ss : List Str) → AllStrs Fine ss → 0 < length ss → covered ss (edgesOf ss .start .0) ≡ true
+pub start-covered : (ss : List Str) → AllStrs ValidStr ss → 0 < length ss → covered ss (edgesOf ss .start .0) ≡ true
 unfolding Every anyOf
 start-covered [] f k = absurd (omega arith)
 start-covered (s ∷ ss) f k = rw (le-leb (s .start) (s .start) (omega arith), le-leb (s .start) (s .end) (f .0 .in-order))
 
-pub end-covered : (ss : List Str) → AllStrs Fine ss → 0 < length ss → covered ss (edgesOf ss .end .0) ≡ true
+pub end-covered : (ss : List Str) → AllStrs ValidStr ss → 0 < length ss → covered ss (edgesOf ss .end .0) ≡ true
 end-covered [] f k = absurd (omega arith)
 end-covered (s ∷ ss) f k = last-covered s ss f
 
@@ -119,11 +119,6 @@ some-in [] h = absurd (omega arith)
 some-in (x ∷ xs) h = refl
 
 module _ {mem : List ℕ} {p : ℕ} {m : Match} (held : MatchHolds mem p m) where
-  -- its edges, as the part with its includes is lent
-  pub edges-held : {edges : Edges} {a e k : ℕ} → edges ≡ edgesOf (strsAt (take (e - a) (drop a mem))) → a ≡ p + 1 → e ≡ a + 2 * k → k ≡ includesIn (getD mem p 0)
-      → edges ≡ edgesOf (m .includes)
-  edges-held {a = a} {e} f g h i = f ∙ ap edgesOf (includes-read held a e g (omega arith))
-
   module _ (ranges : Ranges) {k : ℕ} (f : k ≡ includesIn (getD mem p 0)) where
     pub with-none : k ≡ 0 → ranges ≡ withMatch ranges m
     with-none e = let none = none-in (m .includes) (omega (arith, includes-held held)) in rw none
@@ -143,12 +138,14 @@ take-none (suc k) = refl
 -- before match number i of n, at `at`: the ranges, widened to those that are still to come, are what they are to be
 pub record Widening (list : List Match) (before : Ranges) (mem : List ℕ) (n at i : ℕ) (ranges : Ranges) : Type 0 where
   pub todo : List Match
-  pub left : Left todo mem at i n
+  pub end : ℕ
+  pub left : Remaining todo mem at end
+  pub count : i + length todo ≡ n
   pub few : i ≤ ahead
   pub same : withMatches ranges (take (ahead - i) todo) ≡ withMatches before (take ahead list)
 
 pub widening-start : {mem : List ℕ} {p n : ℕ} (w : StreamAt mem p n) (ranges : Ranges) → Widening (w .list) ranges mem n p 0 ranges
-widening-start w ranges = record { todo = w .list; left = w .stream; few = omega arith; same = refl }
+widening-start w ranges = record { todo = w .list; end = w .end; left = w .stream; count = omega (arith, w .count); few = omega arith; same = refl }
 
 module _ {list : List Match} {before ranges : Ranges} {mem : List ℕ} {n at i : ℕ} (g : Widening list before mem n at i ranges) where
   pub widening-enough : i ≡ ahead → ranges ≡ withMatches before (take ahead list)
@@ -158,24 +155,29 @@ module _ {list : List Match} {before ranges : Ranges} {mem : List ℕ} {n at i :
   pub widening-end : n ≤ i → ranges ≡ withMatches before (take ahead list)
   unfolding withMatches
   widening-end h =
-      let none : take (ahead - i) (g .todo) ≡ [] = ap (take (ahead - i)) (none-left (g .left) h) ∙ take-none (ahead - i) in
+      let none : take (ahead - i) (g .todo) ≡ [] = ap (take (ahead - i)) (none-counted (g .left) (g .count) h) ∙ take-none (ahead - i) in
       ap (withMatches ranges) (sym none) ∙ g .same
 
   module _ (h : i < n) where
+    pub here : Next (g .todo) mem at (g .end)
+    here = next-counted (g .left) (g .count) h
+
     abbrev pub widening-at : MatchAt mem at
-    widening-at = let N = next (g .left) h in record { item = N .first; held = N .held }
+    widening-at = record { item = here .first; held = here .held }
 
     pub widening-next : {ranges' : Ranges} {len : ℕ} → ((i ≡ ahead) → ⊥) → ranges' ≡ withMatch ranges (widening-at .item) → len ≡ matchLength (getD mem at 0)
         → Widening list before mem n (at + len) (i + 1) ranges'
     unfolding withMatches
     widening-next {ranges'} {len} k e f =
-        let N = next (g .left) h in
+        let N = here in
         let less : i < ahead = at-most (eqb i ahead) refl in
         let one : ahead - i ≡ suc (ahead - (i + 1)) = omega arith in
         let split : take (ahead - i) (g .todo) ≡ N .first ∷ take (ahead - (i + 1)) (N .rest) = ap (λ j. take j (g .todo)) one ∙ ap (take (suc (ahead - (i + 1)))) (N .is) in
         record {
           todo = N .rest;
-          left = N .after len f;
+          end = g .end;
+          left = N .after _ (ap (λ k. at + k) f);
+          count = omega (arith, g .count, N .one-less);
           few = omega arith;
           same = ap (λ r. withMatches r (take (ahead - (i + 1)) (N .rest))) e ∙ ap (withMatches ranges) (sym split) ∙ g .same;
         }

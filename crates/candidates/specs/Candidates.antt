@@ -8,15 +8,14 @@ use Rattle.model.specs.Matches.{Match}
 use Rattle.model.specs.Rules.{covered, reachesBeyond}
 use Rattle.store.specs.Layout.{slotSize}
 use Rattle.store.specs.Slot.{SlotHolds}
-use Rattle.store.specs.Stream.{MatchHolds, StreamAt}
+use Rattle.store.specs.Stream.{MatchHolds, Remaining, StreamAt}
 use Rattle.candidates.specs.Edges.{Within}
-use Rattle.candidates.specs.Rest.{Rest}
 use Rattle.candidates.specs.declared.Candidates.{Candidates}
 
 -- for every match that covers a position of each range, the part decides as all of `rights` does; it ends within the slot at r
 pub record CandidatesAre (rights : List Match) (mem : List ℕ) (r : ℕ) (candidates : Candidates) : Type 0 where
   pub part : List Match
-  pub rest : Rest part mem (candidates .from) (candidates .end)
+  pub stream : Remaining part mem (candidates .from) (candidates .end)
   pub within : candidates .end ≤ r + slotSize
   pub same : (p q : ℕ) → Within (candidates .ranges .start) p → Within (candidates .ranges .end) q → (l : Match) → covered (l .includes) p ≡ true → covered (l .includes) q ≡ true
       → allOf (reachesBeyond l) part ≡ allOf (reachesBeyond l) rights

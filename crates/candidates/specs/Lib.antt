@@ -1,5 +1,5 @@
 pub mod Edges
 pub mod Candidates
 pub mod Reaching
-pub mod Rest
-pub mod Touching
+pub mod Passing
+pub mod Overlapping

@@ -1,6 +1,7 @@
 // The edges of a match of L, the start of its first include and the end of its last one, and the ranges of the edges of several. Includes stand in the
 // selection's order, so that the edges need not be the least and the greatest position.
 use model::Position;
+use store::Bounds;
 use strings::end_of;
 use strings::positions::is_between;
 use strings::start_of;
@@ -32,7 +33,7 @@ pub struct Ranges {
 }
 
 // The edges of a match with these includes.
-pub fn edges_of(strs: &[u32]) -> Edges
+fn edges_of(strs: &[u32]) -> Edges
     ensures { λ r. ⌜ r ≡ edgesOf (strsAt (now (strs .entry))) ⌝ }
 {
     if strs.len() < 2 {
@@ -46,6 +47,19 @@ pub fn edges_of(strs: &[u32]) -> Edges
         start: start_of(strs[0]),
         end: end_of(strs[last]),
     }
+}
+
+// The edges of the match at p.
+pub fn edges_at(mem: &[u32], p: usize) -> Edges
+    requires { ⌜ MatchAt (now mem) p ⌝ }
+    ensures { λ r. ⌜ ((w : MatchAt (now (mem .entry)) p) → r ≡ edgesOf (w .item .includes)) ⌝ }
+{
+    let Bounds {
+        includes,
+        excludes,
+        ..
+    } = store::bounds_at(mem, p);
+    edges_of(&mem[includes..excludes])
 }
 
 // Is a position within the range?
@@ -85,13 +99,10 @@ fn with_match(mem: &[u32], p: usize, ranges: Ranges) -> Ranges
     requires { ⌜ MatchAt (now mem) p ⌝ }
     ensures { λ r. ⌜ ((w : MatchAt (now (mem .entry)) p) → r ≡ withMatch ranges (w .item)) ⌝ }
 {
-    let includes = store::includes_in(mem[p]);
-    if includes == 0 {
+    if store::includes_in(mem[p]) == 0 {
         return ranges;
     }
-    let a = p + 1;
-    let e = a + 2 * includes;
-    let edges = edges_of(&mem[a..e]);
+    let edges = edges_at(mem, p);
     Ranges {
         start: widened(ranges.start, edges.start),
         end: widened(ranges.end, edges.end),

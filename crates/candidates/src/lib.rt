@@ -1,17 +1,17 @@
 // Which matches of R can cover all positions of a match of L: only those that cover its edges, the start of its first include and the end of its last one.
 // The edges of matches of L that follow each other mostly lie close together, so one part of R is enough for many of them.
 mod edges; // of the matches of L
-mod touching; // the matches of R that have positions in their ranges
+mod overlapping; // the matches of R that have positions in their ranges
 
 pub use edges::Edges;
 use edges::Range;
 use edges::Ranges;
 use edges::contain;
-pub use edges::edges_of;
+pub use edges::edges_at;
 use edges::ranges_ahead;
 use model::Position;
-use touching::behind_touching;
-use touching::first_touching;
+use overlapping::end_of_overlapping;
+use overlapping::first_overlapping;
 ghost use Rattle.store.specs.Slot.{SlotAt};
 ghost use Rattle.candidates.specs.Edges.{edgesOf, Contains};
 ghost use Rattle.candidates.specs.Candidates.{CandidatesAt, CandidatesAre};
@@ -38,8 +38,8 @@ pub fn all_of(mem: &[u32], r: usize) -> Candidates
             start: none,
             end: none,
         },
-        from: r + 2,
-        end: r + store::slot_length(mem, r),
+        from: r + store::FIRST_MATCH,
+        end: store::slot_end(mem, r),
     }
 }
 
@@ -50,15 +50,13 @@ pub fn candidates_for(mem: &[u32], p: usize, n: usize, r: usize, known: Candidat
         ⌜ ((w : CandidatesAt (now (mem .entry)) p n r known)
         → CandidatesAre (w .rights) (now (mem .entry)) r b × Contains (b .ranges) (edgesOf (w .item .includes))) ⌝ }
 {
-    let a = p + 1;
-    let e = a + 2 * store::includes_in(mem[p]);
-    let edges = edges_of(&mem[a..e]);
+    let edges = edges_at(mem, p);
     if contain(known.ranges, edges) {
         return known;
     }
     let ranges = ranges_ahead(mem, p, n, edges);
-    let stop = r + store::slot_length(mem, r);
-    let from = first_touching(mem, r + 2, stop, ranges);
-    let end = behind_touching(mem, from, stop, ranges);
+    let stop = store::slot_end(mem, r);
+    let from = first_overlapping(mem, r + store::FIRST_MATCH, stop, ranges);
+    let end = end_of_overlapping(mem, from, stop, ranges);
     Candidates { ranges, from, end }
 }

@@ -27,8 +27,8 @@ use Rattle.model.proofs.AnswersLaws.{checked-accepted, checked-refused, complet
 use Rattle.model.proofs.ChecksLaws.{otherwise-none}
 use Rattle.model.proofs.TestsLaws.{both-true, cond-none}
 use Rattle.store.specs.Slot.{SlotAt, SlotHolds}
-use Rattle.store.proofs.Slots.{matches-held, strings-held}
-use Rattle.output.proofs.Listings.{listing-rest}
+use Rattle.store.proofs.SlotsLaws.{matches-held, strings-held}
+use Rattle.output.proofs.ListingLaws.{listing-rest}
 use Rattle.building.specs.State.{Buildable}
 use Rattle.building.specs.PartList.{PartList}
 use Rattle.building.specs.declared.Part.{Part}

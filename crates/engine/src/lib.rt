@@ -20,7 +20,7 @@ fn listed(work: &[u32], buffer: &mut [u32]) -> Listing
     ensures { λ _. ⌜ ((w : SlotAt (now (work .entry)) 0) → now (buffer .exit) ≡ sets (now (buffer .entry)) 0 (listingNumbers (w .list))) ⌝ }
 {
     output::put_listing(work, 0, buffer);
-    let yes = output::is_yes(work, 0);
+    let yes = store::is_yes(work, 0);
     let matches = work[0];
     let strings = work[1];
     Listing::Listed {

@@ -1,5 +1,5 @@
 -- What is written of a match that is kept: its includes or their join, after them the excludes that stay, and the header in front.
-use Prim.Native.Nat.{ℕ, suc, _+_, _-_, _*_, _/_, _≤_, _<_, min}
+use Prim.Native.Nat.{ℕ, suc, _+_, _-_, _*_, _≤_, _<_, min}
 use native.Mathlib.Omega.{arith}
 use mathlib.Core.Path.{_≡_, refl, sym, ap, ap₂, _∙_, subst}
 use mathlib.Core.Bool.{Bool, true, false, cond}
@@ -9,8 +9,9 @@ use lib.ListN.{length, take, drop, getD, set, length-take, length-drop, drop-of-
 use lib.Seq.{sets}
 use Rattle.model.specs.AllStrings.{Every, AllStrs}
 use Rattle.model.specs.Answers.{spanOf, tagOf}
+use Rattle.model.specs.Limits.{radix}
 use Rattle.model.specs.Lists.{keep}
-use Rattle.model.specs.Matches.{Str, Match}
+use Rattle.model.specs.Matches.{Str, Match, stringsIn}
 use Rattle.model.specs.Rules.{Keeping, join, keptMatch, kept}
 use Rattle.model.proofs.ListsLaws.{length-keep}
 use Rattle.model.proofs.RulesLaws.{length-kept, size-kept}
@@ -18,21 +19,22 @@ use Rattle.strings.specs.Strings.{strOf, strsOf, strsAt}
 use Rattle.strings.proofs.StringsLaws.{length-strsAt, strsAt-none}
 use Rattle.joining.specs.Joined.{joined}
 use Rattle.joining.proofs.JoiningLaws.{strsOf-join}
+use Rattle.store.specs.declared.Bounds.{Bounds}
 use Rattle.store.specs.Built.{Small}
 use Rattle.store.specs.Each.{OneAt}
-use Rattle.store.specs.Fine.{Fine}
-use Rattle.store.specs.Layout.{Holds, headerOf, includesIn, excludesIn, matchesNumbers}
-use Rattle.store.specs.Places.{CopyUp, Counts}
+use Rattle.store.specs.ValidStr.{ValidStr}
+use Rattle.store.specs.Layout.{Holds, BoundsOf, headerBetween, matchesNumbers}
+use Rattle.store.specs.Places.{CopyUp, ClosingMatch}
 use Rattle.store.specs.Put.{Put}
 use Rattle.store.specs.Slot.{SlotHolds}
-use Rattle.store.proofs.Back.{includes-held, excludes-held, length-held, includes-hold, excludes-hold, includes-read, str-back}
+use Rattle.store.proofs.DecodeLaws.{includes-held, excludes-held, length-held, includes-hold, excludes-hold, includes-within, includes-length, str-back}
 use Rattle.store.proofs.EachLaws.{flatMap-small}
 use Rattle.store.proofs.LayoutLaws.{length-strsOf, length-match, matches-kept}
-use Rattle.store.proofs.Memory.{part-apart, getD-head, holds-tail}
-use Rattle.store.proofs.PutLaws.{holds-below, length-put, put-none, put-append, put-copy, put-match, put-kept, put-dropped}
-use Rattle.store.proofs.Rows.{Rows, rows-start, rows-room, rows-step, rows-finish, flatMap-keep}
-use Rattle.store.proofs.Slots.{slot-small}
-use Rattle.store.proofs.Walking.{match-below}
+use Rattle.store.proofs.MemoryLaws.{part-apart, getD-head, holds-tail}
+use Rattle.store.proofs.PutLaws.{holds-below, length-put, put-none, put-copy, closing-match, closed-match, put-kept, put-dropped}
+use Rattle.store.proofs.RowsLaws.{Rows, rows-start, rows-room, rows-step, rows-finish, flatMap-keep}
+use Rattle.store.proofs.SlotsLaws.{slot-small}
+use Rattle.store.proofs.StreamLaws.{match-below}
 use Rattle.filters.specs.Writing.{includesNumbers, excludesNumbers, keptNumbers, strsIn, stayNumbers, RoomAt, PutOf, Join, Exclude}
 
 -- ---- the join
@@ -64,40 +66,36 @@ join-numbers (s ∷ ss) = omega arith
 
 -- ---- the includes
 
-module _ (joins : Bool) {mem : List ℕ} {p q : ℕ} (w : RoomAt (includesNumbers joins) mem p q) {n : ℕ} (e : n ≡ includesIn (getD mem p 0)) where
-  count : n ≡ length (w .item .includes)
-  count = e ∙ includes-held (w .held)
-
+module _ (joins : Bool) {mem : List ℕ} {b : Bounds} {q : ℕ} (w : RoomAt (includesNumbers joins) mem b q) where
   -- a filter that gives the join ..
   module _ (j : joins ≡ true) where
     join-kept : includesNumbers joins (w .item) ≡ strsOf 0 (join (w .item .includes))
     join-kept = rw j
 
-    pub join-fits : Join (length mem) (p + 1) (p + 1 + 2 * n) q
+    pub join-fits : Join (length mem) (b .includes) (b .excludes) q
     join-fits =
         let room : q + length (strsOf 0 (join (w .item .includes))) ≤ length mem = subst (λ xs. q + length xs ≤ length mem) join-kept (w .room) in
-        omega (arith, join-numbers (w .item .includes), count, w .held .header)
+        omega (arith, join-numbers (w .item .includes), includes-held (w .held), w .bounds, w .held .header)
 
-    pub put-joined : {mem' : List ℕ} {next : ℕ} → Put mem mem' q (strsOf 0 (join (strsIn mem (p + 1) (p + 1 + 2 * n)))) next
+    pub put-joined : {mem' : List ℕ} {next : ℕ} → Put mem mem' q (strsOf 0 (join (strsIn mem (b .includes) (b .excludes)))) next
         → Put mem mem' q (includesNumbers joins (w .item)) next
     put-joined {mem'} {next} v =
-        let read = includes-read (w .held) (p + 1) (p + 1 + 2 * n) refl (omega arith) in
-        subst (λ xs. Put mem mem' q xs next) (ap (λ ss. strsOf 0 (join ss)) read ∙ sym join-kept) v
+        subst (λ xs. Put mem mem' q xs next) (ap (λ ss. strsOf 0 (join ss)) (includes-within (w .held) (w .bounds)) ∙ sym join-kept) v
 
   -- .. and one that leaves the includes as they are
-  module _ (j : joins ≡ false) where
+  module _ (j : joins ≡ false) {n : ℕ} (e : n ≡ b .excludes - b .includes) where
     plain : includesNumbers joins (w .item) ≡ strsOf 0 (w .item .includes)
     plain = rw j
 
-    pub copy-fits : CopyUp (length mem) (p + 1) (2 * n) q
+    pub copy-fits : CopyUp (length mem) (b .includes) n q
     copy-fits =
         let room : q + length (strsOf 0 (w .item .includes)) ≤ length mem = subst (λ xs. q + length xs ≤ length mem) plain (w .room) in
-        omega (arith, length-strsOf 0 (w .item .includes), count, w .below)
+        omega (arith, includes-length (w .held) (w .bounds), w .bounds, w .below)
 
-    pub put-plain : {mem' : List ℕ} → mem' ≡ sets mem q (take (2 * n) (drop (p + 1) mem)) → Put mem mem' q (includesNumbers joins (w .item)) (q + 2 * n)
-    put-plain {mem'} s =
-        subst (λ xs. Put mem mem' q xs (q + 2 * n)) (sym plain)
-        (put-copy (2 * n) q (omega (arith, length-strsOf 0 (w .item .includes), count)) (includes-hold (w .held) (p + 1) refl) s)
+    pub put-plain : {mem' : List ℕ} → mem' ≡ sets mem q (take n (drop (b .includes) mem)) → Put mem mem' q (includesNumbers joins (w .item)) (q + n)
+    put-plain {mem'} h =
+        subst (λ xs. Put mem mem' q xs (q + n)) (sym plain)
+        (put-copy n q (e ∙ includes-length (w .held) (w .bounds)) (includes-hold (w .held) (b .includes) (w .bounds .includes)) h)
 
 -- ---- the excludes
 
@@ -128,30 +126,29 @@ pub record Staying (f : Keeping) (m : Match) (mem₀ : List ℕ) (e to : ℕ) (m
   pub todo : List Str
   pub rows : Rows (stayed f (m .includes)) (m .excludes) todo mem₀ mem to q
   pub holds : Holds mem₀ k (strsOf 1 todo)
-  pub fine : AllStrs Fine todo
+  pub valid : AllStrs ValidStr todo
   pub end : k + 2 * length todo ≡ e
 
-module _ (f : Keeping) {mem₀ : List ℕ} {p to : ℕ} (w : RoomAt (excludesNumbers f) mem₀ p to)
-    {n m : ℕ} (en : n ≡ includesIn (getD mem₀ p 0)) (em : m ≡ excludesIn (getD mem₀ p 0)) where
-  pub stay-start : Staying f (w .item) mem₀ (p + 1 + 2 * n + 2 * m) to mem₀ (p + 1 + 2 * n) to
+module _ (f : Keeping) {mem₀ : List ℕ} {b : Bounds} {to : ℕ} (w : RoomAt (excludesNumbers f) mem₀ b to) where
+  pub stay-start : Staying f (w .item) mem₀ (b .end) to mem₀ (b .excludes) to
   stay-start =
       record {
         todo = w .item .excludes;
         rows = rows-start;
-        holds = excludes-hold (w .held) (p + 1 + 2 * n) (omega arith);
-        fine = w .held .fine .excludes;
-        end = omega (arith, excludes-held (w .held));
+        holds = excludes-hold (w .held) (b .excludes) (omega (arith, w .bounds));
+        valid = w .held .valid .excludes;
+        end = omega (arith, w .bounds, excludes-held (w .held));
       }
 
-  module _ {mem : List ℕ} {k q : ℕ} (g : Staying f (w .item) mem₀ (p + 1 + 2 * n + 2 * m) to mem k q) where
+  module _ {mem : List ℕ} {k q : ℕ} (g : Staying f (w .item) mem₀ (b .end) to mem k q) where
     -- the includes are read as they were
-    includes-still : strsIn mem (p + 1) (p + 1 + 2 * n) ≡ w .item .includes
+    includes-still : strsIn mem (b .includes) (b .excludes) ≡ w .item .includes
     includes-still =
-        ap (λ l. strsIn l (p + 1) (p + 1 + 2 * n)) (g .rows .put .wrote)
-        ∙ ap strsAt (part-apart mem₀ to (g .rows .done) (p + 1) (p + 1 + 2 * n - (p + 1)) (inl (omega (arith, w .below))))
-        ∙ includes-read (w .held) (p + 1) (p + 1 + 2 * n) refl (omega arith)
+        ap (λ l. strsIn l (b .includes) (b .excludes)) (g .rows .put .wrote)
+        ∙ ap strsAt (part-apart mem₀ to (g .rows .done) (b .includes) (b .excludes - b .includes) (inl (omega (arith, w .bounds, w .below))))
+        ∙ includes-within (w .held) (w .bounds)
 
-    module _ (h : k < p + 1 + 2 * n + 2 * m) where
+    module _ (h : k < b .end) where
       here : Next (g .todo)
       here = next (g .todo) (omega (arith, g .end))
 
@@ -159,106 +156,95 @@ module _ (f : Keeping) {mem₀ : List ℕ} {p to : ℕ} (w : RoomAt (excludesNum
       unfolding strsOf
       left = subst (λ ss. Holds mem₀ k (strsOf 1 ss)) (here .is) (g .holds)
 
-      fine-left : Fine (here .first) × AllStrs Fine (here .rest)
+      valid-left : ValidStr (here .first) × AllStrs ValidStr (here .rest)
       unfolding Every
-      fine-left = subst (AllStrs Fine) (here .is) (g .fine)
+      valid-left = subst (AllStrs ValidStr) (here .is) (g .valid)
 
       length-left : length (g .todo) ≡ suc (length (here .rest))
       length-left = ap length (here .is)
 
       -- the exclude in hand, by its two numbers
-      numbers : stayNumbers f mem (p + 1) (p + 1 + 2 * n) k ≡ stayed f (w .item .includes) (here .first)
+      numbers : stayNumbers f mem (b .includes) (b .excludes) k ≡ stayed f (w .item .includes) (here .first)
       numbers =
           let x : Str = here .first in
-          let still = holds-below (g .rows .put) (omega (arith, g .end, length-left, length-strsOf 1 (here .rest), w .below)) left in
+          let still = holds-below (g .rows .put) (omega (arith, g .end, length-left, length-strsOf 1 (here .rest), w .bounds, w .below)) left in
           let span : getD mem k 0 ≡ spanOf x = getD-head _ still in
           let tag : getD mem (k + 1) 0 ≡ tagOf 1 x = getD-head _ (holds-tail _ still) in
           ap (λ is. cond (f .stays is (strOf (getD mem k 0) (getD mem (k + 1) 0))) (getD mem k 0 ∷ getD mem (k + 1) 0 ∷ []) []) includes-still
           ∙ ap₂ (λ a b. cond (f .stays (w .item .includes) (strOf a b)) (a ∷ b ∷ []) []) span tag
-          ∙ ap (λ y. cond (f .stays (w .item .includes) y) (spanOf x ∷ tagOf 1 x ∷ []) []) (str-back 1 x (omega arith) (fine-left .0))
+          ∙ ap (λ y. cond (f .stays (w .item .includes) y) (spanOf x ∷ tagOf 1 x ∷ []) []) (str-back 1 x (omega arith) (valid-left .0))
 
       -- it may be tested and put ..
-      pub exclude-fits : Exclude (length mem) (p + 1) (p + 1 + 2 * n) k q (length (stayNumbers f mem (p + 1) (p + 1 + 2 * n) k))
+      pub exclude-fits : Exclude (length mem) (b .includes) (b .excludes) k q (length (stayNumbers f mem (b .includes) (b .excludes) k))
       exclude-fits =
           let rows-fit : to + length (flatMap (stayed f (w .item .includes)) (w .item .excludes)) ≤ length mem₀ =
           subst (λ xs. to + length xs ≤ length mem₀) (excludes-rows f (w .item)) (w .room) in
           let room = subst (λ xs. q + length xs ≤ length mem) (sym numbers) (rows-room (g .rows) (here .is) rows-fit) in
-          omega (arith, length-put (g .rows .put), w .held .header)
+          omega (arith, length-put (g .rows .put), g .end, length-left, w .bounds, w .held .header)
 
       -- .. and then the next is in hand
-      pub stay-step : {mem' : List ℕ} {q' : ℕ} → Put mem mem' q (stayNumbers f mem (p + 1) (p + 1 + 2 * n) k) q'
-          → Staying f (w .item) mem₀ (p + 1 + 2 * n + 2 * m) to mem' (k + 2) q'
+      pub stay-step : {mem' : List ℕ} {q' : ℕ} → Put mem mem' q (stayNumbers f mem (b .includes) (b .excludes) k) q'
+          → Staying f (w .item) mem₀ (b .end) to mem' (k + 2) q'
       stay-step {mem'} {q'} v =
-          let on : k + 2 + 2 * length (here .rest) ≡ p + 1 + 2 * n + 2 * m = omega (arith, g .end, length-left) in
+          let on : k + 2 + 2 * length (here .rest) ≡ b .end = omega (arith, g .end, length-left) in
           record {
             todo = here .rest;
             rows = rows-step (g .rows) (here .is) (subst (λ xs. Put mem mem' q xs q') numbers v);
             holds = subst (λ i. Holds mem₀ i (strsOf 1 (here .rest))) (omega arith) (holds-tail _ (holds-tail _ left));
-            fine = fine-left .1;
+            valid = valid-left .1;
             end = on;
           }
 
-    pub stay-finish : p + 1 + 2 * n + 2 * m ≤ k → Put mem₀ mem to (excludesNumbers f (w .item)) q
+    pub stay-finish : b .end ≤ k → Put mem₀ mem to (excludesNumbers f (w .item)) q
     stay-finish h =
         let none-left : g .todo ≡ [] = drop-of-length-le (g .todo) {i = 0} (omega (arith, g .end)) in
         subst (λ xs. Put mem₀ mem to xs q) (sym (excludes-rows f (w .item))) (rows-finish (g .rows) none-left)
 
 -- ---- a match that is kept
 
--- its includes end before middle, and its excludes before end: counts that a header at q can hold
-pub record MatchEnds (size q middle end : ℕ) : Type 0 where
-  pub within : q < size
-  pub includes : q + 1 ≤ middle
-  pub excludes : middle ≤ end
-  pub counts : Counts ((middle - (q + 1)) / 2) ((end - middle) / 2)
-
-module _ (f : Keeping) {mem : List ℕ} {p q : ℕ} (w : RoomAt (keptNumbers f) mem p q) where
+module _ (f : Keeping) {mem : List ℕ} {b : Bounds} {q : ℕ} (w : RoomAt (keptNumbers f) mem b q) where
   room : q + 1 + length (includesNumbers (f .joins) (w .item)) + length (excludesNumbers f (w .item)) ≤ length mem
   room =
       omega (arith, w .room, length-match (keptMatch f (w .item)), length-strsOf 0 (keptMatch f (w .item) .includes), length-strsOf 1 (keptMatch f (w .item) .excludes))
 
-  -- its includes go behind the header's place ..
-  pub includes-at : {joins : Bool} → joins ≡ f .joins → RoomAt (includesNumbers joins) mem p (q + 1)
-  includes-at j = record { item = w .item; held = w .held; below = omega (arith, w .below); room = rw j (omega (arith, room)) }
+  -- its includes go after the header ..
+  pub includes-at : {joins : Bool} → joins ≡ f .joins → RoomAt (includesNumbers joins) mem b (q + 1)
+  includes-at j =
+      record { item = w .item; at = w .at; held = w .held; bounds = w .bounds; below = omega (arith, w .below); room = rw j (omega (arith, room)) }
 
-  module _ {joins : Bool} (j : joins ≡ f .joins) {mem₁ : List ℕ} {middle : ℕ} (ls : PutOf (includesNumbers joins) mem mem₁ p (q + 1) middle) where
-    includes-put : Put mem mem₁ (q + 1) (includesNumbers (f .joins) (w .item)) middle
+  module _ {joins : Bool} (j : joins ≡ f .joins) {mem₁ : List ℕ} {excludes : ℕ} (ls : PutOf (includesNumbers joins) mem mem₁ b (q + 1) excludes) where
+    includes-put : Put mem mem₁ (q + 1) (includesNumbers (f .joins) (w .item)) excludes
     unfolding includes-at
-    includes-put = subst (λ b. Put mem mem₁ (q + 1) (includesNumbers b (w .item)) middle) j (ls (includes-at j))
+    includes-put = subst (λ b. Put mem mem₁ (q + 1) (includesNumbers b (w .item)) excludes) j (ls (includes-at j))
 
-    -- .. its excludes behind them ..
-    pub excludes-at : RoomAt (excludesNumbers f) mem₁ p middle
+    -- .. its excludes after them ..
+    pub excludes-at : RoomAt (excludesNumbers f) mem₁ b excludes
     excludes-at =
         let v = includes-put in
-        let held = match-below v (omega (arith, w .below)) (w .held) in
+        let held = match-below v (omega (arith, w .below, w .bounds)) (w .held) in
         record {
           item = w .item;
+          at = w .at;
           held = held;
-          below = omega (arith, w .below, length-held held, length-held (w .held), v .next-is);
+          bounds = omega (arith, w .bounds, includes-held held, includes-held (w .held), excludes-held held, excludes-held (w .held));
+          below = omega (arith, w .below, v .next-is);
           room = omega (arith, room, length-put v, v .next-is);
         }
 
-    module _ {mem₂ : List ℕ} {end : ℕ} (rs : PutOf (excludesNumbers f) mem₁ mem₂ p middle end) where
-      excludes-put : Put mem₁ mem₂ middle (excludesNumbers f (w .item)) end
+    module _ {mem₂ : List ℕ} {end : ℕ} (rs : PutOf (excludesNumbers f) mem₁ mem₂ b excludes end) where
+      excludes-put : Put mem₁ mem₂ excludes (excludesNumbers f (w .item)) end
       unfolding excludes-at
       excludes-put = rs excludes-at
 
-      includes-many : (middle - (q + 1)) / 2 ≡ length (keptMatch f (w .item) .includes)
-      includes-many = omega (arith, includes-put .next-is, length-strsOf 0 (keptMatch f (w .item) .includes))
-
-      excludes-many : (end - middle) / 2 ≡ length (keptMatch f (w .item) .excludes)
-      excludes-many = omega (arith, excludes-put .next-is, length-strsOf 1 (keptMatch f (w .item) .excludes))
-
-      pub ends-found : MatchEnds (length mem₂) q middle end
-      ends-found =
-          let counts : Counts ((middle - (q + 1)) / 2) ((end - middle) / 2) =
-          omega (arith, includes-many, excludes-many, w .held .few, length-kept f (w .item), length-keep (f .stays (w .item .includes)) (w .item .excludes)) in
-          omega (arith, includes-put .next-is, excludes-put .next-is, length-put includes-put, length-put excludes-put, room)
+      pub kept-ends : ClosingMatch (length mem₂) q excludes end
+      kept-ends =
+          let few : stringsIn (keptMatch f (w .item)) < radix =
+          omega (arith, w .held .few, length-kept f (w .item), length-keep (f .stays (w .item .includes)) (w .item .excludes)) in
+          closing-match q (keptMatch f (w .item)) includes-put excludes-put few (omega (arith, room))
 
       -- .. and the header in front
-      pub put-whole : {header : ℕ} → header ≡ headerOf ((middle - (q + 1)) / 2) ((end - middle) / 2)
-          → Put mem (set mem₂ q header) q (keptNumbers f (w .item)) end
-      put-whole h = put-match (keptMatch f (w .item)) (put-append includes-put excludes-put) (h ∙ ap₂ headerOf includes-many excludes-many)
+      pub put-whole : {exit : List ℕ} → exit ≡ set mem₂ q (headerBetween q excludes end) → Put mem exit q (keptNumbers f (w .item)) end
+      put-whole h = closed-match q (keptMatch f (w .item)) includes-put excludes-put h
 
 -- ---- a match
 
@@ -266,11 +252,11 @@ module _ (f : Keeping) {mem : List ℕ} {p q : ℕ} (w : RoomAt (keptNumbers f) 
 pub small-kept : (f : Keeping) {mem : List ℕ} {src : ℕ} {list : List Match} → SlotHolds mem src list → Small (flatMap (kept f) list)
 small-kept f {list = list} h = flatMap-small (kept f) (size-kept f) list (slot-small h)
 
-module _ (f : Keeping) {mem : List ℕ} {p q : ℕ} (w : OneAt (kept f) mem p q) {n : ℕ} {test : Bool}
-    (e : n ≡ includesIn (getD mem p 0)) (t : test ≡ f .keeps (strsIn mem (p + 1) (p + 1 + 2 * n))) where
+module _ (f : Keeping) {mem : List ℕ} {p q : ℕ} (w : OneAt (kept f) mem p q) {b : Bounds} {test : Bool}
+    (s : BoundsOf (getD mem p 0) p b) (t : test ≡ f .keeps (strsIn mem (b .includes) (b .excludes))) where
   -- the test on the includes, as they are read
   tested : f .keeps (w .item .includes) ≡ test
-  tested = sym (t ∙ ap (f .keeps) (includes-read (w .one .held) (p + 1) (p + 1 + 2 * n) refl (omega arith)))
+  tested = sym (t ∙ ap (f .keeps) (includes-within (w .one .held) s))
 
   -- a match that is dropped, and one that is kept
   pub put-nothing : test ≡ false → Put mem mem q (matchesNumbers (kept f (w .item))) q
@@ -278,16 +264,18 @@ module _ (f : Keeping) {mem : List ℕ} {p q : ℕ} (w : OneAt (kept f) mem p q)
   put-nothing h = put-dropped (keptMatch f (w .item)) mem q (tested ∙ h)
 
   module _ (h : test ≡ true) where
-    pub kept-at : RoomAt (keptNumbers f) mem p q
+    pub kept-at : RoomAt (keptNumbers f) mem b q
     unfolding kept
     kept-at =
         record {
           item = w .item;
+          at = p;
           held = w .one .held;
-          below = w .one .below;
+          bounds = s;
+          below = omega (arith, w .one .below, s);
           room = subst (λ xs. q + length xs ≤ length mem) (matches-kept (keptMatch f (w .item)) (tested ∙ h)) (w .one .room);
         }
 
-    pub put-one : {mem' : List ℕ} {next : ℕ} → PutOf (keptNumbers f) mem mem' p q next → Put mem mem' q (matchesNumbers (kept f (w .item))) next
+    pub put-one : {mem' : List ℕ} {next : ℕ} → PutOf (keptNumbers f) mem mem' b q next → Put mem mem' q (matchesNumbers (kept f (w .item))) next
     unfolding kept kept-at
     put-one v = put-kept (keptMatch f (w .item)) (tested ∙ h) (v kept-at)

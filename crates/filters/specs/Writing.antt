@@ -1,12 +1,13 @@
--- What is written of a match that is kept, part by part, and what the functions that write it require.
+-- What is written of a match that is kept, piece by piece, and what the functions that write it require.
 use Prim.Native.Nat.{ℕ, _+_, _-_, _≤_, min}
 use mathlib.Core.Bool.{Bool, cond}
 use mathlib.Core.List.{List, [], _∷_}
 use lib.ListN.{length, take, drop, getD}
 use Rattle.model.specs.Matches.{Str, Match}
 use Rattle.model.specs.Rules.{Keeping, join, keptMatch}
+use Rattle.store.specs.declared.Bounds.{Bounds}
 use Rattle.store.specs.Each.{OneAt}
-use Rattle.store.specs.Layout.{matchLength, matchNumbers, matchesNumbers}
+use Rattle.store.specs.Layout.{BoundsOf, matchNumbers, matchesNumbers}
 use Rattle.store.specs.Put.{Put}
 use Rattle.store.specs.Stream.{MatchHolds}
 use Rattle.strings.specs.Strings.{strOf, strsOf, strsAt}
@@ -20,7 +21,7 @@ excludesNumbers f m = strsOf 1 (keptMatch f m .excludes)
 abbrev pub keptNumbers : Keeping → Match → List ℕ
 keptNumbers f m = matchNumbers (keptMatch f m)
 
--- the strings of the part `&mem[a..e]`
+-- the strings of the slice `&mem[a..e]`
 abbrev pub strsIn : List ℕ → ℕ → ℕ → List Str
 strsIn mem a e = strsAt (take (e - a) (drop a mem))
 
@@ -28,28 +29,30 @@ strsIn mem a e = strsAt (take (e - a) (drop a mem))
 abbrev pub stayNumbers : Keeping → List ℕ → ℕ → ℕ → ℕ → List ℕ
 stayNumbers f mem a b k = let span = getD mem k 0 in let tag = getD mem (k + 1) 0 in cond (f .stays (strsIn mem a b) (strOf span tag)) (span ∷ tag ∷ []) []
 
--- a match at p, below q, and room there for the numbers that N makes of it
-pub record RoomAt (N : Match → List ℕ) (mem : List ℕ) (p q : ℕ) : Type 0 where
+-- a match within the bounds, below q, and room there for the numbers that N makes of it
+pub record RoomAt (N : Match → List ℕ) (mem : List ℕ) (b : Bounds) (q : ℕ) : Type 0 where
   pub item : Match
-  pub held : MatchHolds mem p item
-  pub below : p + matchLength (getD mem p 0) ≤ q
+  pub at : ℕ
+  pub held : MatchHolds mem at item
+  pub bounds : BoundsOf (getD mem at 0) at b
+  pub below : b .end ≤ q
   pub room : q + length (N item) ≤ length mem
 
 -- the numbers that N makes of it put at q
-abbrev pub PutOf : (Match → List ℕ) → List ℕ → List ℕ → ℕ → ℕ → ℕ → Type 0
-PutOf N entry exit p q next = (w : RoomAt N entry p q) → Put entry exit q (N (w .item)) next
+abbrev pub PutOf : (Match → List ℕ) → List ℕ → List ℕ → Bounds → ℕ → ℕ → Type 0
+PutOf N entry exit b q next = (w : RoomAt N entry b q) → Put entry exit q (N (w .item)) next
 
 -- the matches that F makes of the match at p put at q
 abbrev pub PutOne : (Match → List Match) → List ℕ → List ℕ → ℕ → ℕ → ℕ → Type 0
 PutOne F entry exit p q next = (w : OneAt F entry p q) → Put entry exit q (matchesNumbers (F (w .item))) next
 
--- a part, and room at q for the join of its strings
+-- a slice, and room at q for the join of its strings
 pub record Join (size a e q : ℕ) : Type 0 where
   pub in-order : a ≤ e
   pub within : e ≤ size
   pub room : q + min (e - a) 2 ≤ size
 
--- the part of the includes, an exclude at k, and room at q for so many numbers
+-- the slice of the includes, an exclude at k, and room at q for so many numbers
 pub record Exclude (size a b k q n : ℕ) : Type 0 where
   pub in-order : a ≤ b
   pub within : b ≤ size

@@ -9,18 +9,18 @@ ghost use Rattle.model.specs.Section.{sectionOf};
 ghost use Rattle.filter_rules.specs.declared.Rule.the-variants.{Keep};
 ghost use Rattle.filter_rules.specs.Keepers.{filterOf};
 ghost use Rattle.store.specs.Outcome.{Outcome};
-ghost use Rattle.store.specs.Places.{Under};
+ghost use Rattle.store.specs.Places.{SlotBelow};
 ghost use Rattle.store.specs.Slot.{SlotAt};
 
 // Builds the list that a filter gives of the list in the slot at src.
 pub fn filter_list(section: &[u32], keeper: Keeper, mem: &mut [u32], src: usize, at: usize) -> Built
     requires { ⌜ SlotAt (now mem) src ⌝ }
-    requires { ⌜ Under (length (now mem)) src at ⌝ }
+    requires { ⌜ SlotBelow (length (now mem)) src at ⌝ }
     ensures { λ r. ⌜ ((w : SlotAt (now (mem .entry)) src) → Outcome (filterList (sectionOf (now (section .entry))) (filterOf (Keep keeper)) (w .list)) (now (mem .entry)) (now (mem .exit)) at r) ⌝ }
 {
     let n = mem[src] as usize;
-    let mut p = src + 2;
-    let mut q = at + 2;
+    let mut p = src + store::FIRST_MATCH;
+    let mut q = at + store::FIRST_MATCH;
     let mut matches = 0;
     let mut i = 0;
     while i < n {

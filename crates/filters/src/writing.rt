@@ -1,7 +1,8 @@
-// What a filter makes of one match, written behind what is written.
+// What a filter makes of one match, written after what is written.
 use filter_rules::Keeper;
 use joining::join_span;
 use joining::join_tag;
+use store::Bounds;
 ghost use lib.ListN.{length};
 ghost use Rattle.model.specs.Rules.{join, kept};
 ghost use Rattle.model.specs.Section.{sectionOf};
@@ -11,7 +12,7 @@ ghost use Rattle.store.specs.Each.{OneAt};
 ghost use Rattle.store.specs.Put.{Put};
 ghost use Rattle.filters.specs.Writing.{Exclude, Join, PutOf, PutOne, RoomAt, excludesNumbers, includesNumbers, keptNumbers, stayNumbers, strsIn};
 
-// Writes the join of a part's strings.
+// Writes the join of the strings from a to e.
 fn put_join(mem: &mut [u32], a: usize, e: usize, q: usize) -> usize
     requires { ⌜ Join (length (now mem)) a e q ⌝ }
     ensures { λ r. ⌜ Put (now (mem .entry)) (now (mem .exit)) q (strsOf 0 (join (strsIn (now (mem .entry)) a e))) r ⌝ }
@@ -25,16 +26,15 @@ fn put_join(mem: &mut [u32], a: usize, e: usize, q: usize) -> usize
 }
 
 // Writes the includes of a match that is kept: as they are, or their join.
-fn put_includes(joins: bool, mem: &mut [u32], p: usize, q: usize) -> usize
-    requires { ⌜ RoomAt (includesNumbers joins) (now mem) p q ⌝ }
-    ensures { λ r. ⌜ PutOf (includesNumbers joins) (now (mem .entry)) (now (mem .exit)) p q r ⌝ }
+fn put_includes(joins: bool, mem: &mut [u32], bounds: Bounds, q: usize) -> usize
+    requires { ⌜ RoomAt (includesNumbers joins) (now mem) bounds q ⌝ }
+    ensures { λ r. ⌜ PutOf (includesNumbers joins) (now (mem .entry)) (now (mem .exit)) bounds q r ⌝ }
 {
-    let a = p + 1;
-    let n = 2 * store::includes_in(mem[p]);
     if joins {
-        return put_join(mem, a, a + n, q);
+        return put_join(mem, bounds.includes, bounds.excludes, q);
     }
-    store::copy_up(mem, a, n, q);
+    let n = bounds.excludes - bounds.includes;
+    store::copy_up(mem, bounds.includes, n, q);
     q + n
 }
 
@@ -60,32 +60,39 @@ fn put_exclude(
 }
 
 // Writes the excludes that stay of a match that is kept.
-fn put_excludes(section: &[u32], keeper: Keeper, mem: &mut [u32], p: usize, to: usize) -> usize
-    requires { ⌜ RoomAt (excludesNumbers (keepingOf (sectionOf (now section)) keeper)) (now mem) p to ⌝ }
-    ensures { λ r. ⌜ PutOf (excludesNumbers (keepingOf (sectionOf (now (section .entry))) keeper)) (now (mem .entry)) (now (mem .exit)) p to r ⌝ }
+fn put_excludes(
+    section: &[u32],
+    keeper: Keeper,
+    mem: &mut [u32],
+    bounds: Bounds,
+    to: usize,
+) -> usize
+    requires { ⌜ RoomAt (excludesNumbers (keepingOf (sectionOf (now section)) keeper)) (now mem) bounds to ⌝ }
+    ensures { λ r. ⌜ PutOf (excludesNumbers (keepingOf (sectionOf (now (section .entry))) keeper)) (now (mem .entry)) (now (mem .exit)) bounds to r ⌝ }
 {
-    let header = mem[p];
-    let a = p + 1;
-    let b = a + 2 * store::includes_in(header);
-    let e = b + 2 * store::excludes_in(header);
-    let mut k = b;
+    let Bounds {
+        includes,
+        excludes,
+        end,
+    } = bounds;
+    let mut k = excludes;
     let mut q = to;
-    while k < e {
-        q = put_exclude(section, keeper, mem, a, b, k, q);
+    while k < end {
+        q = put_exclude(section, keeper, mem, includes, excludes, k, q);
         k += 2;
     }
     q
 }
 
 // Writes a match that is kept.
-fn put_kept(section: &[u32], keeper: Keeper, mem: &mut [u32], p: usize, q: usize) -> usize
-    requires { ⌜ RoomAt (keptNumbers (keepingOf (sectionOf (now section)) keeper)) (now mem) p q ⌝ }
-    ensures { λ r. ⌜ PutOf (keptNumbers (keepingOf (sectionOf (now (section .entry))) keeper)) (now (mem .entry)) (now (mem .exit)) p q r ⌝ }
+fn put_kept(section: &[u32], keeper: Keeper, mem: &mut [u32], bounds: Bounds, q: usize) -> usize
+    requires { ⌜ RoomAt (keptNumbers (keepingOf (sectionOf (now section)) keeper)) (now mem) bounds q ⌝ }
+    ensures { λ r. ⌜ PutOf (keptNumbers (keepingOf (sectionOf (now (section .entry))) keeper)) (now (mem .entry)) (now (mem .exit)) bounds q r ⌝ }
 {
-    let start = q + 1;
-    let middle = put_includes(filter_rules::joins(keeper), mem, p, start);
-    let end = put_excludes(section, keeper, mem, p, middle);
-    mem[q] = store::header((middle - start) / 2, (end - middle) / 2);
+    let joins = filter_rules::joins(keeper);
+    let excludes = put_includes(joins, mem, bounds, q + store::FIRST_STRING);
+    let end = put_excludes(section, keeper, mem, bounds, excludes);
+    store::close_match(mem, q, excludes, end);
     end
 }
 
@@ -94,10 +101,11 @@ pub fn put_filtered(section: &[u32], keeper: Keeper, mem: &mut [u32], p: usize, 
     requires { ⌜ OneAt (kept (keepingOf (sectionOf (now section)) keeper)) (now mem) p q ⌝ }
     ensures { λ r. ⌜ PutOne (kept (keepingOf (sectionOf (now (section .entry))) keeper)) (now (mem .entry)) (now (mem .exit)) p q r ⌝ }
 {
-    let a = p + 1;
-    let e = a + 2 * store::includes_in(mem[p]);
-    if !filter_rules::keeps(section, keeper, &mem[a..e]) {
+    let bounds = store::bounds_at(mem, p);
+    let includes = bounds.includes;
+    let excludes = bounds.excludes;
+    if !filter_rules::keeps(section, keeper, &mem[includes..excludes]) {
         return q;
     }
-    put_kept(section, keeper, mem, p, q)
+    put_kept(section, keeper, mem, bounds, q)
 }

@@ -15,36 +15,32 @@ ghost use Rattle.model.specs.Lists.{allOf};
 ghost use Rattle.joining.specs.Joined.{joined};
 ghost use Rattle.strings.specs.Strings.{strsAt};
 
-// "least start"
-pub fn least_start(strs: &[u32]) -> Position
-    ensures { λ r. ⌜ r .0 ≡ joined (strsAt (now (strs .entry))) .start ⌝ }
-{
-    if strs.len() < 2 {
-        return Position(0);
-    }
-    let mut least = start_of(strs[0]);
-    let mut i = 2;
-    while i + 1 < strs.len() {
-        least = earlier(least, start_of(strs[i]));
-        i += 2;
-    }
-    least
+// Where strings begin and where they end.
+pub struct Extent {
+    pub start: Position,
+    pub end: Position,
 }
 
-// "greatest end"
-pub fn greatest_end(strs: &[u32]) -> Position
-    ensures { λ r. ⌜ r .0 ≡ joined (strsAt (now (strs .entry))) .end ⌝ }
+// "from least start to greatest end"
+pub fn extent_of(strs: &[u32]) -> Extent
+    ensures { λ r. ⌜ r .start .0 ≡ joined (strsAt (now (strs .entry))) .start ⌝ }
+    ensures { λ r. ⌜ r .end .0 ≡ joined (strsAt (now (strs .entry))) .end ⌝ }
 {
     if strs.len() < 2 {
-        return Position(0);
+        return Extent {
+            start: Position(0),
+            end: Position(0),
+        };
     }
-    let mut greatest = end_of(strs[0]);
+    let mut start = start_of(strs[0]);
+    let mut end = end_of(strs[0]);
     let mut i = 2;
     while i + 1 < strs.len() {
-        greatest = later(greatest, end_of(strs[i]));
+        start = earlier(start, start_of(strs[i]));
+        end = later(end, end_of(strs[i]));
         i += 2;
     }
-    greatest
+    Extent { start, end }
 }
 
 // "all were contiguous"
@@ -65,7 +61,8 @@ pub fn all_contiguous(strs: &[u32]) -> bool
 pub fn join_span(strs: &[u32]) -> u32
     ensures { λ r. ⌜ r ≡ spanOf (joined (strsAt (now (strs .entry)))) ⌝ }
 {
-    span_of(least_start(strs), greatest_end(strs))
+    let extent = extent_of(strs);
+    span_of(extent.start, extent.end)
 }
 
 // "contiguous if every position in it is covered and all were contiguous"
@@ -75,7 +72,8 @@ fn joins_contiguous(strs: &[u32]) -> bool
     if !all_contiguous(strs) {
         return false;
     }
-    run_covered(strs, least_start(strs), greatest_end(strs), false)
+    let extent = extent_of(strs);
+    run_covered(strs, extent.start, extent.end, false)
 }
 
 // The tag of the join, an include's: "with the first include's query position".

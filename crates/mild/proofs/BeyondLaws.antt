@@ -1,5 +1,5 @@
 -- A match of L reaches beyond one of R where some position is covered by its includes and not by the other's; mild not keeps it where it reaches beyond each.
-use Prim.Native.Nat.{ℕ, _+_, _-_, _≤_, _<_}
+use Prim.Native.Nat.{ℕ, _+_, _≤_, _<_}
 use native.Mathlib.Omega.{arith}
 use mathlib.Core.Path.{_≡_, refl, sym, ap, ap₂, _∙_}
 use mathlib.Core.Bool.{Bool, true, false, not, _&&_, _||_, or-true}
@@ -18,8 +18,8 @@ use Rattle.strings.proofs.StringsLaws as Strs
 use Rattle.store.specs.Built.{Small}
 use Rattle.store.specs.Slot.{SlotHolds}
 use Rattle.store.proofs.EachLaws.{flatMap-small}
-use Rattle.store.proofs.Rows.{keep-flatMap}
-use Rattle.store.proofs.Slots.{slot-small}
+use Rattle.store.proofs.RowsLaws.{keep-flatMap}
+use Rattle.store.proofs.SlotsLaws.{slot-small}
 use Rattle.mild.specs.declared.beyond.Found.the-variants.{At, Nothing}
 use Rattle.candidates.specs.Reaching.{beyond}
 use Rattle.mild.specs.Beyond.{mildNot, FoundBeyond}

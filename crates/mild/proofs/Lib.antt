@@ -1,2 +1,2 @@
 pub mod BeyondLaws
-pub mod Seeking
+pub mod AgainstLaws

@@ -7,9 +7,8 @@ use Rattle.model.specs.Lists.{allOf}
 use Rattle.model.specs.Matches.{Match}
 use Rattle.model.specs.Rules.{reachesBeyond}
 use Rattle.candidates.specs.Candidates.{CandidatesAre}
-use Rattle.candidates.specs.Rest.{Rest}
 use Rattle.store.specs.Layout.{includesIn}
-use Rattle.store.specs.Stream.{MatchHolds}
+use Rattle.store.specs.Stream.{MatchHolds, Remaining}
 use Rattle.mild.specs.declared.against.Reached.{Reached}
 
 -- a match with includes at p, and matches of R from `from` up to `end`
@@ -17,8 +16,8 @@ pub record SearchAt (mem : List ℕ) (p from end : ℕ) : Type 0 where
   pub item : Match
   pub held : MatchHolds mem p item
   pub some : 0 < includesIn (getD mem p 0)
-  pub todo : List Match
-  pub rest : Rest todo mem from end
+  pub rights : List Match
+  pub stream : Remaining rights mem from end
 
 -- what is said of a match l and of R
 pub record ReachedIs (l : Match) (rights : List Match) (mem : List ℕ) (r : ℕ) (reached : Reached) : Type 0 where

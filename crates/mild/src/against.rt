@@ -4,7 +4,8 @@ use super::beyond::find_beyond;
 use super::beyond::next_covering;
 use candidates::Candidates;
 use candidates::candidates_for;
-use candidates::edges_of;
+use candidates::edges_at;
+use store::Bounds;
 ghost use mathlib.Core.Path.{_≡_};
 ghost use Rattle.model.specs.Lists.{allOf};
 ghost use Rattle.model.specs.Rules.{reachesBeyond};
@@ -23,18 +24,24 @@ pub struct Reached {
 // its edges, then each position found and the one before it, beginning with the start; only where both are covered is another looked for.
 fn search(mem: &[u32], p: usize, from: usize, end: usize) -> bool
     requires { ⌜ SearchAt (now mem) p from end ⌝ }
-    ensures { λ b. ⌜ ((w : SearchAt (now (mem .entry)) p from end) → b ≡ allOf (reachesBeyond (w .item)) (w .todo)) ⌝ }
+    ensures { λ b. ⌜ ((w : SearchAt (now (mem .entry)) p from end) → b ≡ allOf (reachesBeyond (w .item)) (w .rights)) ⌝ }
 {
-    let a = p + 1;
-    let e = a + 2 * store::includes_in(mem[p]);
-    let edges = edges_of(&mem[a..e]);
+    let Bounds {
+        includes,
+        excludes,
+        ..
+    } = store::bounds_at(mem, p);
+    let edges = edges_at(mem, p);
     let mut last = edges.start;
     let mut at = next_covering(mem, from, end, edges.end, last);
     while at < end {
         let header = mem[at];
-        let b = at + 1;
-        let to = b + 2 * store::includes_in(header);
-        let found = find_beyond(&mem[a..e], &mem[b..to]);
+        let Bounds {
+            includes: a,
+            excludes: e,
+            ..
+        } = store::bounds_by(header, at);
+        let found = find_beyond(&mem[includes..excludes], &mem[a..e]);
         let Found::At(q) = found else {
             return false;
         };

@@ -1,5 +1,6 @@
 // Positions that includes of L cover and those of R don't: one is looked for, and two that are found are held against the matches of R.
 use model::Position;
+use store::Bounds;
 use strings::covering::run_end;
 use strings::end_of;
 use strings::start_of;
@@ -8,10 +9,11 @@ ghost use Prim.Native.Nat.{_≤_, _/_, _%_};
 ghost use Rattle.model.specs.AllStrings.{AllStrs};
 ghost use Rattle.model.specs.Limits.{radix};
 ghost use Rattle.model.specs.Rules.{covered, covers};
-ghost use Rattle.store.specs.Fine.{Fine};
+ghost use Rattle.store.specs.Stream.{Remaining, RemainingAt, SearchInvariant};
+ghost use Rattle.store.specs.ValidStr.{ValidStr};
 ghost use Rattle.strings.specs.Strings.{strOf, strsAt};
 ghost use Rattle.mild.specs.Beyond.{coverBoth, FoundBeyond};
-ghost use Rattle.candidates.specs.Rest.{fromFirst, Passing, Rest, RestAt};
+ghost use Rattle.candidates.specs.Passing.{fromFirst};
 
 // A position that includes of a left match cover, and those of a right match don't.
 pub enum Found {
@@ -49,7 +51,7 @@ fn covers(span: u32, p: Position) -> bool
 
 // Do the strings cover a position?
 fn is_covered(strs: &[u32], p: Position) -> bool
-    requires { ⌜ AllStrs Fine (strsAt (now strs)) ⌝ }
+    requires { ⌜ AllStrs ValidStr (strsAt (now strs)) ⌝ }
     ensures { λ r. ⌜ r ≡ covered (strsAt (now (strs .entry))) (p .0) ⌝ }
 {
     let mut i = 0;
@@ -64,7 +66,7 @@ fn is_covered(strs: &[u32], p: Position) -> bool
 
 // Do the strings cover both positions?
 fn cover_both(strs: &[u32], p: Position, q: Position) -> bool
-    requires { ⌜ AllStrs Fine (strsAt (now strs)) ⌝ }
+    requires { ⌜ AllStrs ValidStr (strsAt (now strs)) ⌝ }
     ensures { λ r. ⌜ r ≡ coverBoth (p .0) (q .0) (strsAt (now (strs .entry))) ⌝ }
 {
     if !is_covered(strs, p) {
@@ -75,11 +77,21 @@ fn cover_both(strs: &[u32], p: Position, q: Position) -> bool
 
 // Skips the matches of R from the one at `from` on that have this header and whose includes don't cover both positions; gives the place of the first other
 // match, or the end. Equal headers mean equal lengths, so the place of the next match is known before its header is read.
-fn skip_alike(mem: &[u32], from: usize, end: usize, header: u32, p: Position, q: Position) -> usize
-    requires { ⌜ RestAt (now mem) from end ⌝ }
+fn skip_same_header(
+    mem: &[u32],
+    from: usize,
+    end: usize,
+    header: u32,
+    p: Position,
+    q: Position,
+) -> usize
+    requires { ⌜ RemainingAt (now mem) from end ⌝ }
     ensures { λ r. ⌜ from ≤ r ⌝ }
-    ensures { λ r. ⌜ ((w : RestAt (now (mem .entry)) from end) → Passing (coverBoth (p .0) (q .0)) (w .todo) (now (mem .entry)) r end) ⌝ }
+    ensures { λ r.
+        ⌜ ((w : RemainingAt (now (mem .entry)) from end)
+        → SearchInvariant (fromFirst (coverBoth (p .0) (q .0)) (w .list)) (fromFirst (coverBoth (p .0) (q .0))) (now (mem .entry)) r end) ⌝ }
 {
+    // not by `bounds_by` in each turn: that made the search up to a tenth dearer
     let size = 2 * store::includes_in(header);
     let length = store::match_length(header);
     let mut at = from;
@@ -87,9 +99,9 @@ fn skip_alike(mem: &[u32], from: usize, end: usize, header: u32, p: Position, q:
         if mem[at] != header {
             return at;
         }
-        let a = at + 1;
-        let e = a + size;
-        if cover_both(&mem[a..e], p, q) {
+        let includes = at + store::FIRST_STRING;
+        let excludes = includes + size;
+        if cover_both(&mem[includes..excludes], p, q) {
             return at;
         }
         at += length;
@@ -99,20 +111,24 @@ fn skip_alike(mem: &[u32], from: usize, end: usize, header: u32, p: Position, q:
 
 // The first match of R, from the one at `from` on, whose includes cover both positions: where it lies, or the end.
 pub fn next_covering(mem: &[u32], from: usize, end: usize, p: Position, q: Position) -> usize
-    requires { ⌜ RestAt (now mem) from end ⌝ }
+    requires { ⌜ RemainingAt (now mem) from end ⌝ }
     ensures { λ r. ⌜ from ≤ r ⌝ }
-    ensures { λ r. ⌜ ((w : RestAt (now (mem .entry)) from end) → Rest (fromFirst (coverBoth (p .0) (q .0)) (w .todo)) (now (mem .entry)) r end) ⌝ }
+    ensures { λ r. ⌜ ((w : RemainingAt (now (mem .entry)) from end) → Remaining (fromFirst (coverBoth (p .0) (q .0)) (w .list)) (now (mem .entry)) r end) ⌝ }
 {
     let mut at = from;
     while at < end {
         let header = mem[at];
-        let a = at + 1;
-        let e = a + 2 * store::includes_in(header);
-        if cover_both(&mem[a..e], p, q) {
+        let Bounds {
+            includes,
+            excludes,
+            ..
+        } = store::bounds_by(header, at);
+        if cover_both(&mem[includes..excludes], p, q) {
             return at;
         }
+        // not sooner: a match that covers both has no need of it
         let next = at + store::match_length(header);
-        at = skip_alike(mem, next, end, header, p, q);
+        at = skip_same_header(mem, next, end, header, p, q);
     }
     at
 }

@@ -10,9 +10,9 @@ ghost use Rattle.model.specs.Rules.{keptIf, mildNotList};
 ghost use Rattle.store.specs.Each.{OneAt};
 ghost use Rattle.store.specs.Layout.{matchesNumbers};
 ghost use Rattle.store.specs.Outcome.{Outcome};
-ghost use Rattle.store.specs.Places.{Under};
+ghost use Rattle.store.specs.Places.{SlotBelow};
 ghost use Rattle.store.specs.Put.{Put};
-ghost use Rattle.store.specs.Slot.{SlotAt};
+ghost use Rattle.store.specs.Slot.{TwoSlots};
 
 // Puts the match at p to q if it is kept; gives the place behind it.
 fn put_kept(mem: &mut [u32], p: usize, q: usize, kept: bool) -> usize
@@ -31,17 +31,14 @@ fn put_kept(mem: &mut [u32], p: usize, q: usize, kept: bool) -> usize
 
 // The mild not of the lists in two slots, in a slot above them.
 pub fn mild_not_list(mem: &mut [u32], l: usize, r: usize, at: usize) -> Built
-    requires { ⌜ SlotAt (now mem) l ⌝ }
-    requires { ⌜ SlotAt (now mem) r ⌝ }
-    requires { ⌜ Under (length (now mem)) l at ⌝ }
-    requires { ⌜ Under (length (now mem)) r at ⌝ }
-    ensures { λ b.
-        ⌜ ((u : SlotAt (now (mem .entry)) l) (w : SlotAt (now (mem .entry)) r)
-        → Outcome (mildNotList (u .list) (w .list)) (now (mem .entry)) (now (mem .exit)) at b) ⌝ }
+    requires { ⌜ TwoSlots (now mem) l r ⌝ }
+    requires { ⌜ SlotBelow (length (now mem)) l at ⌝ }
+    requires { ⌜ SlotBelow (length (now mem)) r at ⌝ }
+    ensures { λ b. ⌜ ((w : TwoSlots (now (mem .entry)) l r) → Outcome (mildNotList (w .lefts) (w .rights)) (now (mem .entry)) (now (mem .exit)) at b) ⌝ }
 {
     let n = mem[l] as usize;
-    let mut p = l + 2;
-    let mut q = at + 2;
+    let mut p = l + store::FIRST_MATCH;
+    let mut q = at + store::FIRST_MATCH;
     let mut matches = 0;
     let mut candidates = all_of(mem, r);
     let mut i = 0;

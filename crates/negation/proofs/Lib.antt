@@ -1,4 +1,4 @@
-pub mod Counting
-pub mod Turning
-pub mod Sides
-pub mod Choosing
+pub mod SizesLaws
+pub mod TurnedLaws
+pub mod SideLaws
+pub mod ChoicesLaws

@@ -1,6 +1,5 @@
 // The choices from the list in the slot at src, of which there are `total`, written above it. A choice is written by two walks over the list, its includes
 // and then its excludes; each match's string is the next digit of the choice's number.
-use store::strings_in;
 ghost use Prim.Native.Nat.{_+_};
 ghost use lib.ListN.{getD};
 ghost use Rattle.model.specs.Choices.{choice};
@@ -16,12 +15,11 @@ fn put_turned(mem: &mut [u32], a: usize, sort: u32, q: usize) -> usize
     ensures { λ r. ⌜ Put (now (mem .entry)) (now (mem .exit)) q (turnedNumbers sort (getD (now (mem .entry)) a 0) (getD (now (mem .entry)) (a + 1) 0)) r ⌝ }
 {
     let tag = mem[a + 1];
-    if tag % 2 == sort {
+    if strings::sort_of(tag) == sort {
         return q;
     }
-    mem[q] = mem[a];
-    mem[q + 1] = tag / 2 * 2 + sort;
-    q + 2
+    let span = mem[a];
+    store::put_string(mem, q, span, strings::with_sort(tag, sort))
 }
 
 // Writes the strings of a sort of choice number c.
@@ -31,18 +29,18 @@ fn put_side(mem: &mut [u32], src: usize, total: usize, c: usize, sort: u32, at: 
         Put (now (mem .entry)) (now (mem .exit)) at (sideNumbers sort (choice (w .list) c)) r) ⌝ }
 {
     let n = mem[src];
-    let mut p = src + 2;
+    let mut p = src + store::FIRST_MATCH;
     let mut q = at;
     let mut rest = c;
     let mut weight = total;
     let mut i = 0;
     while i < n {
-        let strings = strings_in(mem[p]);
+        let bounds = store::bounds_at(mem, p);
         // how many choices there are from the matches behind this one
-        weight /= strings;
-        q = put_turned(mem, p + 1 + 2 * (rest / weight), sort, q);
+        weight /= store::strings_in(mem[p]);
+        q = put_turned(mem, bounds.includes + 2 * (rest / weight), sort, q);
         rest %= weight;
-        p += 1 + 2 * strings;
+        p = bounds.end;
         i += 1;
     }
     q
@@ -53,11 +51,10 @@ fn put_choice(mem: &mut [u32], src: usize, total: usize, c: usize, at: usize) ->
     requires { ⌜ ChoiceAt (now mem) src total c at ⌝ }
     ensures { λ r. ⌜ ((w : ChoiceAt (now (mem .entry)) src total c at) → Put (now (mem .entry)) (now (mem .exit)) at (matchNumbers (choice (w .list) c)) r) ⌝ }
 {
-    let includes = at + 1;
-    let excludes = put_side(mem, src, total, c, 0, includes);
-    let next = put_side(mem, src, total, c, 1, excludes);
-    mem[at] = store::header((excludes - includes) / 2, (next - excludes) / 2);
-    next
+    let excludes = put_side(mem, src, total, c, 0, at + store::FIRST_STRING);
+    let end = put_side(mem, src, total, c, 1, excludes);
+    store::close_match(mem, at, excludes, end);
+    end
 }
 
 // Writes all choices.

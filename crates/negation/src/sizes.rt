@@ -1,9 +1,7 @@
 // How many matches a not has: the product of the numbers of strings of its operand's matches. The product may be far above any u32, so it is counted with
 // a ceiling; a match without strings makes it 0 all the same, wherever it stands.
 use model::MAX_MATCHES;
-use model::MAX_STRINGS;
 use store::Built;
-use store::strings_in;
 ghost use mathlib.Core.Path.{_≡_};
 ghost use Prim.Native.Nat.{_+_, _*_, _≤_};
 ghost use Rattle.model.specs.Choices.{choices};
@@ -31,13 +29,13 @@ fn count_choices(mem: &[u32], src: usize) -> u32
     ensures { λ r. ⌜ ((w : SlotAt (now (mem .entry)) src) → r ≡ capped (choices (w .list))) ⌝ }
 {
     let n = mem[src];
-    let mut p = src + 2;
+    let mut p = src + store::FIRST_MATCH;
     let mut total = 1;
     let mut i = 0;
     while i < n {
-        let strings = strings_in(mem[p]);
-        total = product(total, strings as u32);
-        p += 1 + 2 * strings;
+        let header = mem[p];
+        total = product(total, store::strings_in(header) as u32);
+        p += store::match_length(header);
         i += 1;
     }
     total
@@ -49,12 +47,5 @@ pub fn not_size(mem: &[u32], src: usize) -> Built
     ensures { λ r. ⌜ ((w : SlotAt (now (mem .entry)) src) → r ≡ builtOf (notList (w .list))) ⌝ }
 {
     let matches = count_choices(mem, src);
-    if MAX_MATCHES < matches {
-        return Built::TooLong;
-    }
-    let strings = matches * mem[src];
-    if MAX_STRINGS < strings {
-        return Built::TooLong;
-    }
-    Built::Made { matches, strings }
+    store::sized(matches, matches * mem[src])
 }

@@ -1,6 +1,6 @@
 -- And, step by step: two copies are one; the includes of two matches and then their excludes, after the sum of their headers, are the joined match; a left
 -- match joined with each right one is a row, and the rows of the left matches are the product.
-use Prim.Native.Nat.{ℕ, _+_, _*_, _≤_, _<_}
+use Prim.Native.Nat.{ℕ, _+_, _-_, _*_, _≤_, _<_}
 use native.Mathlib.Omega.{arith}
 use mathlib.Core.Path.{_≡_, refl, sym, ap, ap₂, _∙_, subst}
 use mathlib.Core.List.{List, [], _∷_, _++_, map}
@@ -10,22 +10,23 @@ use Rattle.model.specs.Matches.{Match}
 use Rattle.model.specs.Rules.{joined, andList}
 use Rattle.model.proofs.RulesLaws.{strings-joined, length-and, strings-and}
 use Rattle.strings.specs.Strings.{strsOf}
+use Rattle.store.specs.declared.Bounds.{Bounds}
 use Rattle.store.specs.declared.Built.the-variants.{Made}
 use Rattle.store.specs.Built.{builtOf, sizedAs}
-use Rattle.store.specs.Places.{Under}
-use Rattle.store.specs.Layout.{Holds, headerOf, includesIn, excludesIn, matchLength, matchNumbers, matchesNumbers}
+use Rattle.store.specs.Places.{SlotBelow}
+use Rattle.store.specs.Layout.{BoundsOf, Holds, headerOf, matchLength, matchNumbers, matchesNumbers, slotLength, slotSize}
 use Rattle.store.specs.Put.{Put}
 use Rattle.store.specs.Stream.{MatchHolds}
-use Rattle.store.proofs.Memory.{holds-part}
-use Rattle.store.proofs.LayoutLaws.{strsOf-append, length-strsOf, length-match, length-matches, matches-one}
-use Rattle.store.proofs.PutLaws.{put-copy, put-append, put-match, holds-below}
-use Rattle.store.proofs.Back.{includes-held, excludes-held, length-held, includes-hold, excludes-hold}
-use Rattle.store.proofs.Walking.{match-below, left-below}
-use Rattle.store.proofs.Slots.{matches-held, strings-held, slot-stream, answer-made}
-use Rattle.store.proofs.Rows.{map-flatMap}
+use Rattle.store.proofs.MemoryLaws.{holds-part}
+use Rattle.store.proofs.LayoutLaws.{strsOf-append, length-strsOf, length-match, matches-one}
+use Rattle.store.proofs.PutLaws.{put-copy, put-append, holds-below, length-put}
+use Rattle.store.proofs.DecodeLaws.{includes-held, excludes-held, length-held, includes-hold, excludes-hold, includes-length, excludes-length}
+use Rattle.store.proofs.StreamLaws.{match-below, remaining-below}
+use Rattle.store.proofs.SlotsLaws.{matches-held, strings-held, slot-stream, answer-made}
+use Rattle.store.proofs.RowsLaws.{map-flatMap}
 use Rattle.store.proofs.EachLaws.{Going, slot-each, start, item, step, finish}
 use Rattle.or_and.specs.Joining.{CopyBoth, JoinableAt, Row, RowAt}
-use Rattle.or_and.specs.TwoSlots.{TwoSlots}
+use Rattle.store.specs.Slot.{TwoSlots}
 
 -- ---- two copies
 
@@ -37,33 +38,19 @@ holds-here : (l : List ℕ) (a n : ℕ) → a + n ≤ length l → Holds l a (ta
 holds-here l a n h = let e = length-here l a n h in record { within = omega arith; part = ap (λ k. take k (drop a l)) e }
 
 -- the second copy is of what lay there before the first
-pub copied-both : (E : List ℕ) {E₁ E₂ : List ℕ} {a n b k to : ℕ} → CopyBoth (length E) a n b k to → E₁ ≡ sets E to (take n (drop a E))
-    → E₂ ≡ sets E₁ (to + n) (take k (drop b E₁)) → E₂ ≡ sets E to (take n (drop a E) ++ take k (drop b E))
-copied-both E {a = a} {n} {b} {k} {to} h e f =
-    let n-is : n ≡ length (take n (drop a E)) = sym (length-here E a n (omega arith)) in
-    let k-is : k ≡ length (take k (drop b E)) = sym (length-here E b k (omega arith)) in
-    let v = put-copy n to n-is (holds-here E a n (omega arith)) e in
-    put-append v (put-copy k (to + n) k-is (holds-below v (omega arith) (holds-here E b k (omega arith))) f) .wrote
-
--- copies of two runs of numbers that memory holds
-put-both : {E E' : List ℕ} {a b : ℕ} {xs ys : List ℕ} (n k to : ℕ) → n ≡ length xs → k ≡ length ys → Holds E a xs → Holds E b ys
-    → E' ≡ sets E to (take n (drop a E) ++ take k (drop b E)) → Put E E' to (xs ++ ys) (to + n + k)
-put-both {E} {xs = xs} {ys} n k to e f A B g =
-    record { wrote = g ∙ ap₂ (λ us vs. sets E to (us ++ vs)) (holds-part n e A) (holds-part k f B); next-is = omega (arith, length-append xs ys) }
+pub copied-both : (E : List ℕ) {E₁ E₂ : List ℕ} {a e b f to : ℕ} → CopyBoth (length E) a e b f to → E₁ ≡ sets E to (take (e - a) (drop a E))
+    → E₂ ≡ sets E₁ (to + (e - a)) (take (f - b) (drop b E₁)) → Put E E₂ to (take (e - a) (drop a E) ++ take (f - b) (drop b E)) (to + (e - a) + (f - b))
+copied-both E {a = a} {e} {b} {f} {to} h g i =
+    let n-is : e - a ≡ length (take (e - a) (drop a E)) = sym (length-here E a (e - a) (omega arith)) in
+    let k-is : f - b ≡ length (take (f - b) (drop b E)) = sym (length-here E b (f - b) (omega arith)) in
+    let v = put-copy (e - a) to n-is (holds-here E a (e - a) (omega arith)) g in
+    put-append v (put-copy (f - b) (to + (e - a)) k-is (holds-below v (omega arith) (holds-here E b (f - b) (omega arith))) i)
 
 -- ---- joined
 
--- how many numbers the strings of a match take, by its header
-module _ {mem : List ℕ} {p : ℕ} {m : Match} (h : MatchHolds mem p m) where
-  includes-length : {n : ℕ} → n ≡ includesIn (getD mem p 0) → 2 * n ≡ length (strsOf 0 (m .includes))
-  includes-length e = omega (arith, includes-held h, length-strsOf 0 (m .includes))
-
-  excludes-length : {n : ℕ} → n ≡ excludesIn (getD mem p 0) → 2 * n ≡ length (strsOf 1 (m .excludes))
-  excludes-length e = omega (arith, excludes-held h, length-strsOf 1 (m .excludes))
-
 module _ {mem : List ℕ} {pl pr q : ℕ} (w : JoinableAt mem pl pr q) where
   -- the sum of two headers does not carry
-  pub header-sum : getD mem pl 0 + getD mem pr 0 ≡ headerOf (length (w .left .includes ++ w .right .includes)) (length (w .left .excludes ++ w .right .excludes))
+  header-sum : getD mem pl 0 + getD mem pr 0 ≡ headerOf (length (w .left .includes ++ w .right .includes)) (length (w .left .excludes ++ w .right .excludes))
   header-sum =
       let l = w .pair .held-left in
       let r = w .pair .held-right in
@@ -75,26 +62,62 @@ module _ {mem : List ℕ} {pl pr q : ℕ} (w : JoinableAt mem pl pr q) where
   pub header-fits : getD mem pl 0 + getD mem pr 0 < 4294967296
   header-fits = omega (arith, w .pair .held-left .header .few, w .pair .held-right .header .few)
 
-  -- the includes of both copied, then the excludes of both, then the header in front
-  pub put-joined : {E₁ E₂ : List ℕ} {il ir el er : ℕ} → il ≡ includesIn (getD mem pl 0) → ir ≡ includesIn (getD mem pr 0)
-      → el ≡ excludesIn (getD mem pl 0) → er ≡ excludesIn (getD mem pr 0)
-      → E₁ ≡ sets mem (q + 1) (take (2 * il) (drop (pl + 1) mem) ++ take (2 * ir) (drop (pr + 1) mem))
-      → E₂ ≡ sets E₁ (q + 1 + 2 * il + 2 * ir) (take (2 * el) (drop (pl + 1 + 2 * il) E₁) ++ take (2 * er) (drop (pr + 1 + 2 * ir) E₁))
-      → Put mem (set E₂ q (getD mem pl 0 + getD mem pr 0)) q (matchNumbers (joined (w .left) (w .right))) (q + 1 + 2 * il + 2 * ir + 2 * el + 2 * er)
-  put-joined {E₁} {E₂} {il} {ir} {el} {er} a b c d e f =
-      let L = w .left in
-      let R = w .right in
-      let l = w .pair .held-left in
-      let r = w .pair .held-right in
-      let el-is = excludes-length l c in
-      let er-is = excludes-length r d in
-      let v = put-both (2 * il) (2 * ir) (q + 1) (includes-length l a) (includes-length r b) (includes-hold l (pl + 1) refl) (includes-hold r (pr + 1) refl) e in
-      let X = holds-below v (omega (arith, w .pair .below-left)) (excludes-hold l (pl + 1 + 2 * il) (omega arith)) in
-      let Y = holds-below v (omega (arith, w .pair .below-right)) (excludes-hold r (pr + 1 + 2 * ir) (omega arith)) in
-      let u = put-both (2 * el) (2 * er) (q + 1 + 2 * il + 2 * ir) el-is er-is X Y f in
-      put-match (joined L R)
-      (subst (λ xs. Put mem E₂ (q + 1) xs (q + 1 + 2 * il + 2 * ir + 2 * el + 2 * er))
-      (ap₂ _++_ (sym (strsOf-append 0 (L .includes) (R .includes))) (sym (strsOf-append 1 (L .excludes) (R .excludes)))) (put-append v u)) header-sum
+  -- the header put, then the includes of both copied behind it, then the excludes of both
+  abbrev headed : List ℕ
+  headed = set mem q (getD mem pl 0 + getD mem pr 0)
+
+  header-put : Put mem headed q ((getD mem pl 0 + getD mem pr 0) ∷ []) (q + 1)
+  header-put = record { wrote = refl; next-is = refl }
+
+  module _ {L R : Bounds} (l : BoundsOf (getD mem pl 0) pl L) (r : BoundsOf (getD mem pr 0) pr R) where
+    -- both lie below, with room there for the includes
+    pub includes-fit : CopyBoth (length headed) (L .includes) (L .excludes) (R .includes) (R .excludes) (q + 1)
+    includes-fit = omega (arith, l, r, w .pair .below-left, w .pair .below-right, w .pair .room, length-put header-put)
+
+    module _ {E₁ : List ℕ} {x : ℕ}
+        (v : Put headed E₁ (q + 1) (take (L .excludes - L .includes) (drop (L .includes) headed) ++ take (R .excludes - R .includes) (drop (R .includes) headed)) x) where
+      includes-put : Put headed E₁ (q + 1) (strsOf 0 (w .left .includes ++ w .right .includes)) x
+      includes-put =
+          let hl = w .pair .held-left in
+          let hr = w .pair .held-right in
+          let a = holds-part _ (includes-length hl l) (holds-below header-put (omega (arith, l, w .pair .below-left, includes-length hl l)) (includes-hold hl (L .includes) (l .includes))) in
+          let b = holds-part _ (includes-length hr r) (holds-below header-put (omega (arith, r, w .pair .below-right, includes-length hr r)) (includes-hold hr (R .includes) (r .includes))) in
+          subst (λ xs. Put headed E₁ (q + 1) xs x) (ap₂ _++_ a b ∙ sym (strsOf-append 0 (w .left .includes) (w .right .includes))) v
+
+      -- the excludes lie below what is written
+      pub excludes-fit : CopyBoth (length E₁) (L .excludes) (L .end) (R .excludes) (R .end) x
+      excludes-fit =
+          omega (
+            arith,
+            l,
+            r,
+            w .pair .below-left,
+            w .pair .below-right,
+            w .pair .room,
+            includes-length (w .pair .held-left) l,
+            includes-length (w .pair .held-right) r,
+            includes-put .next-is,
+            length-put v,
+            length-put header-put,
+            length-strsOf 0 (w .left .includes ++ w .right .includes),
+            length-append (w .left .includes) (w .right .includes),
+            length-strsOf 0 (w .left .includes),
+            length-strsOf 0 (w .right .includes),
+          )
+
+      pub put-joined : {E₂ : List ℕ} {e : ℕ} → Put E₁ E₂ x (take (L .end - L .excludes) (drop (L .excludes) E₁) ++ take (R .end - R .excludes) (drop (R .excludes) E₁)) e
+          → Put mem E₂ q (matchNumbers (joined (w .left) (w .right))) e
+      unfolding matchNumbers
+      put-joined {E₂} {e} u =
+          let hl = w .pair .held-left in
+          let hr = w .pair .held-right in
+          let low-left = holds-below header-put (omega (arith, l, w .pair .below-left, excludes-length hl l)) (excludes-hold hl (L .excludes) (omega (arith, l))) in
+          let low-right = holds-below header-put (omega (arith, r, w .pair .below-right, excludes-length hr r)) (excludes-hold hr (R .excludes) (omega (arith, r))) in
+          let a = holds-part _ (excludes-length hl l) (holds-below v (omega (arith, l, w .pair .below-left, excludes-length hl l)) low-left) in
+          let b = holds-part _ (excludes-length hr r) (holds-below v (omega (arith, r, w .pair .below-right, excludes-length hr r)) low-right) in
+          let excludes-put = subst (λ xs. Put E₁ E₂ x xs e) (ap₂ _++_ a b ∙ sym (strsOf-append 1 (w .left .excludes) (w .right .excludes))) u in
+          let strs = strsOf 0 (w .left .includes ++ w .right .includes) ++ strsOf 1 (w .left .excludes ++ w .right .excludes) in
+          subst (λ h. Put mem E₂ q (h ∷ strs) e) header-sum (put-append header-put (put-append includes-put excludes-put))
 
 -- ---- a row
 
@@ -105,7 +128,7 @@ joinedOne l r = joined l r ∷ []
 pub row-start : {left : Match} {rights : List Match} {mem : List ℕ} {pl pr n q : ℕ} → Row left rights mem pl pr n q → Going (joinedOne left) rights mem n q mem pr q 0
 row-start {left} {rights} {mem} {q = q} w =
     let room = subst (λ ms. q + length (matchesNumbers ms) ≤ length mem) (map-flatMap (joined left) rights) (w .room) in
-    start (record { stream = w .stream; below = w .below-right; room = room })
+    start (record { end = w .end; stream = w .stream; count = w .count; below = w .below-right; room = room })
 
 module _ {left : Match} {rights : List Match} {mem₀ mem : List ℕ} {pl pr n at p q j : ℕ}
     (w : Row left rights mem₀ pl pr n at) (g : Going (joinedOne left) rights mem₀ n at mem p q j) where
@@ -144,7 +167,7 @@ abbrev pub rowOf : List Match → Match → List Match
 rowOf rights l = map (joined l) rights
 
 module _ {mem₀ : List ℕ} {l r : ℕ} (w : TwoSlots mem₀ l r) where
-  -- its sizes by the heads of the two slots
+  -- its sizes by the headers of the two slots
   pub and-sizes : sizedAs (getD mem₀ l 0 * getD mem₀ r 0) (getD mem₀ r 0 * getD mem₀ (l + 1) 0 + getD mem₀ l 0 * getD mem₀ (r + 1) 0)
       ≡ builtOf (andList (w .lefts) (w .rights))
   and-sizes =
@@ -153,17 +176,13 @@ module _ {mem₀ : List ℕ} {l r : ℕ} (w : TwoSlots mem₀ l r) where
       ap₂ (λ m s. sizedAs m s) (ap₂ _*_ ml mr ∙ sym (length-and (w .lefts) (w .rights)))
       (ap₂ _+_ (ap₂ _*_ mr (strings-held (w .left))) (ap₂ _*_ ml (strings-held (w .right))) ∙ sym (strings-and (w .lefts) (w .rights)))
 
-  pub and-start : {m s at k : ℕ} → Made m s ≡ builtOf (andList (w .lefts) (w .rights)) → Under (length mem₀) l at → k ≡ getD mem₀ l 0
+  pub and-start : {m s at k : ℕ} → Made m s ≡ builtOf (andList (w .lefts) (w .rights)) → SlotBelow (length mem₀) l at → k ≡ getD mem₀ l 0
       → Going (rowOf (w .rights)) (w .lefts) mem₀ k (at + 2) mem₀ (l + 2) (at + 2) 0
   unfolding andList
   and-start {k = k} e u f = start (slot-each (w .left) u (answer-made (andList (w .lefts) (w .rights)) e .small) k f)
 
-  -- the right list lies below the product
-  pub rights-below : {at : ℕ} → Under (length mem₀) r at → r + 2 + length (matchesNumbers (w .rights)) ≤ at + 2
-  rights-below u = omega (arith, length-matches (w .rights), w .right .few, w .right .strs, u .below)
-
   module _ {mem : List ℕ} {m at p q i : ℕ} (g : Going (rowOf (w .rights)) (w .lefts) mem₀ m at mem p q i) where
-    module _ {n : ℕ} (below : r + 2 + length (matchesNumbers (w .rights)) ≤ at) (e : n ≡ getD mem₀ r 0) (h : i < m) where
+    module _ {n : ℕ} (below : r + slotSize ≤ at) (e : n ≡ getD mem₀ r 0) (h : i < m) where
       -- the left match in hand, and the right list
       pub and-item : RowAt mem p (r + 2) n q
       and-item =
@@ -172,10 +191,12 @@ module _ {mem₀ : List ℕ} {l r : ℕ} (w : TwoSlots mem₀ l r) where
             left = o .item;
             rights = w .rights;
             row = record {
+              end = r + slotLength mem₀ r;
               held = o .one .held;
-              stream = left-below (g .rows .put) below (slot-stream (w .right) (r + 2) n refl e);
+              stream = remaining-below (g .rows .put) (omega (arith, w .right .header)) (slot-stream (w .right) (r + 2) _ refl refl);
+              count = omega (arith, matches-held (w .right));
               below-left = o .one .below;
-              below-right = omega (arith, g .rows .put .next-is);
+              below-right = omega (arith, w .right .header, g .rows .put .next-is);
               room = o .one .room;
             };
           }

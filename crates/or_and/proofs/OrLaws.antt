@@ -1,4 +1,4 @@
--- Or: the right list's matches copied after the left list's are both lists' matches, and the sums of the heads are their sizes.
+-- Or: the right list's matches copied after the left list's are both lists' matches, and the sums of the headers are their sizes.
 use Prim.Native.Nat.{ℕ, _+_, _-_, _≤_}
 use native.Mathlib.Omega.{arith}
 use mathlib.Core.Path.{_≡_, refl, sym, ap₂, _∙_, subst}
@@ -15,18 +15,18 @@ use Rattle.store.specs.Places.{CopyDown}
 use Rattle.store.specs.Put.{Put}
 use Rattle.store.proofs.LayoutLaws.{length-matches, matches-append}
 use Rattle.store.proofs.PutLaws.{put-copy, put-held}
-use Rattle.store.proofs.Slots.{matches-held, strings-held, slot-stream, answer-made, filled}
-use Rattle.or_and.specs.TwoSlots.{TwoSlots}
+use Rattle.store.proofs.SlotsLaws.{matches-held, strings-held, slot-stream, answer-made, filled}
+use Rattle.store.specs.Slot.{TwoSlots}
 
 module _ {mem : List ℕ} {l r : ℕ} (w : TwoSlots mem l r) where
-  -- its sizes by the heads of the two slots
+  -- its sizes by the headers of the two slots
   pub or-sizes : sizedAs (getD mem l 0 + getD mem r 0) (getD mem (l + 1) 0 + getD mem (r + 1) 0) ≡ builtOf (orList (w .lefts) (w .rights))
   or-sizes =
       ap₂ (λ m s. sizedAs m s) (ap₂ _+_ (matches-held (w .left)) (matches-held (w .right)) ∙ sym (length-or (w .lefts) (w .rights)))
       (ap₂ _+_ (strings-held (w .left)) (strings-held (w .right)) ∙ sym (strings-or (w .lefts) (w .rights)))
 
   -- where the sums are within the limits, the right list's matches move down
-  pub or-copy : {to n m s : ℕ} → Made m s ≡ builtOf (orList (w .lefts) (w .rights)) → l + slotSize ≤ r → to ≡ l + slotLength mem l → n ≡ slotLength mem r - 2
+  pub or-copy : {to n m s : ℕ} → Made m s ≡ builtOf (orList (w .lefts) (w .rights)) → l + slotSize ≤ r → to ≡ l + slotLength mem l → n ≡ r + slotLength mem r - (r + 2)
       → CopyDown (length mem) (r + 2) n to
   or-copy b h e f =
       let z = answer-made (orList (w .lefts) (w .rights)) b in
@@ -34,10 +34,10 @@ module _ {mem : List ℕ} {l r : ℕ} (w : TwoSlots mem l r) where
       let mr = matches-held (w .right) in
       let sl = strings-held (w .left) in
       let sr = strings-held (w .right) in
-      omega (arith, z .small .few, z .small .strs, length-or (w .lefts) (w .rights), strings-or (w .lefts) (w .rights), w .right .heads .within)
+      omega (arith, z .small .few, z .small .strs, length-or (w .lefts) (w .rights), strings-or (w .lefts) (w .rights), w .right .header .within)
 
-  -- the matches copied, and then the heads put
-  pub or-filled : {E exit : List ℕ} {to n m s : ℕ} → Made m s ≡ builtOf (orList (w .lefts) (w .rights)) → to ≡ l + slotLength mem l → n ≡ slotLength mem r - 2
+  -- the matches copied, and then the header put
+  pub or-filled : {E exit : List ℕ} {to n m s : ℕ} → Made m s ≡ builtOf (orList (w .lefts) (w .rights)) → to ≡ l + slotLength mem l → n ≡ r + slotLength mem r - (r + 2)
       → E ≡ sets mem to (take n (drop (r + 2) mem)) → exit ≡ sets E l (m ∷ s ∷ []) → Outcome (orList (w .lefts) (w .rights)) mem exit l (Made m s)
   or-filled {E} {to = to} {n} b e f g h =
       let A = slot-stream (w .left) (l + 2) _ refl refl .holds in

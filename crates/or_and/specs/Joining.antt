@@ -1,17 +1,20 @@
 -- What the steps of `and` require: a record of facts about matches, and a record that holds the matches too.
-use Prim.Native.Nat.{ℕ, _+_, _≤_}
+use Prim.Native.Nat.{ℕ, _+_, _-_, _≤_}
+use mathlib.Core.Path.{_≡_}
 use mathlib.Core.List.{List, map}
 use lib.ListN.{length, getD}
 use Rattle.model.specs.Matches.{Match}
 use Rattle.model.specs.Rules.{joined}
 use Rattle.store.specs.Layout.{matchLength, matchesNumbers}
-use Rattle.store.specs.Stream.{MatchHolds, Left}
+use Rattle.store.specs.Stream.{MatchHolds, Remaining}
 
--- in a memory of so many numbers, n numbers at a and k numbers at b lie below `to`, and there is room there for all of them
-pub record CopyBoth (size a n b k to : ℕ) : Type 0 where
-  pub below-first : a + n ≤ to
-  pub below-second : b + k ≤ to
-  pub room : to + n + k ≤ size
+-- in a memory of so many numbers, the numbers from a up to e and those from b up to f lie below `to`, and there is room there for all of them
+pub record CopyBoth (size a e b f to : ℕ) : Type 0 where
+  pub first : a ≤ e
+  pub second : b ≤ f
+  pub below-first : e ≤ to
+  pub below-second : f ≤ to
+  pub room : to + (e - a) + (f - b) ≤ size
 
 -- the matches at pl and pr lie below q, and there is room there for both as one: their numbers, with one header for two
 pub record Joinable (left right : Match) (mem : List ℕ) (pl pr q : ℕ) : Type 0 where
@@ -28,10 +31,12 @@ pub record JoinableAt (mem : List ℕ) (pl pr q : ℕ) : Type 0 where
 
 -- the match at pl and the n matches from pr on lie below q, and there is room there for the one joined with each of the others
 pub record Row (left : Match) (rights : List Match) (mem : List ℕ) (pl pr n q : ℕ) : Type 0 where
+  pub end : ℕ
   pub held : MatchHolds mem pl left
-  pub stream : Left rights mem pr 0 n
+  pub stream : Remaining rights mem pr end
+  pub count : length rights ≡ n
   pub below-left : pl + matchLength (getD mem pl 0) ≤ q
-  pub below-right : pr + length (matchesNumbers rights) ≤ q
+  pub below-right : end ≤ q
   pub room : q + length (matchesNumbers (map (joined left) rights)) ≤ length mem
 
 pub record RowAt (mem : List ℕ) (pl pr n q : ℕ) : Type 0 where

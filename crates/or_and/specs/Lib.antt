@@ -1,2 +1,1 @@
-pub mod TwoSlots
 pub mod Joining

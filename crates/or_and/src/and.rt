@@ -1,25 +1,29 @@
 // And: "for each of L, for each of R, includes joined left then right, excludes likewise."
 use store::Built;
+use store::FIRST_MATCH;
 ghost use mathlib.Core.List.{_++_, map};
 ghost use mathlib.Core.Path.{_≡_};
+ghost use Prim.Native.Nat.{_-_};
 ghost use lib.ListN.{drop, length, take};
-ghost use lib.Seq.{sets};
 ghost use Rattle.model.specs.Rules.{andList, joined};
 ghost use Rattle.store.specs.Built.{builtOf};
 ghost use Rattle.store.specs.Layout.{matchNumbers, matchesNumbers};
 ghost use Rattle.store.specs.Outcome.{Outcome};
-ghost use Rattle.store.specs.Places.{Under};
+ghost use Rattle.store.specs.Places.{SlotBelow};
 ghost use Rattle.store.specs.Put.{Put};
+ghost use Rattle.store.specs.Slot.{TwoSlots};
 ghost use Rattle.or_and.specs.Joining.{CopyBoth, JoinableAt, RowAt};
-ghost use Rattle.or_and.specs.TwoSlots.{TwoSlots};
 
-// Copies n numbers at a, and after them k numbers at b, to a place above both.
-fn copy_both(mem: &mut [u32], a: usize, n: usize, b: usize, k: usize, to: usize)
-    requires { ⌜ CopyBoth (length (now mem)) a n b k to ⌝ }
-    ensures { λ _. ⌜ now (mem .exit) ≡ sets (now (mem .entry)) to (take n (drop a (now (mem .entry))) ++ take k (drop b (now (mem .entry)))) ⌝ }
+// Copies the numbers from a up to e, and after them those from b up to f, to a place above both; like the functions below it gives the place after.
+fn copy_both(mem: &mut [u32], a: usize, e: usize, b: usize, f: usize, to: usize) -> usize
+    requires { ⌜ CopyBoth (length (now mem)) a e b f to ⌝ }
+    ensures { λ r.
+        ⌜ Put (now (mem .entry)) (now (mem .exit)) to (take (e - a) (drop a (now (mem .entry))) ++ take (f - b) (drop b (now (mem .entry)))) r ⌝ }
 {
-    store::copy_up(mem, a, n, to);
-    store::copy_up(mem, b, k, to + n);
+    let middle = to + (e - a);
+    store::copy_up(mem, a, e - a, to);
+    store::copy_up(mem, b, f - b, middle);
+    middle + (f - b)
 }
 
 // "includes joined left then right, excludes likewise": puts the matches at pl and pr as one at q. Its header is the sum of theirs.
@@ -29,15 +33,19 @@ fn put_joined(mem: &mut [u32], pl: usize, pr: usize, q: usize) -> usize
 {
     let left = mem[pl];
     let right = mem[pr];
-    let il = 2 * store::includes_in(left);
-    let ir = 2 * store::includes_in(right);
-    let el = 2 * store::excludes_in(left);
-    let er = 2 * store::excludes_in(right);
-    copy_both(mem, pl + 1, il, pr + 1, ir, q + 1);
-    let mid = q + 1 + il + ir;
-    copy_both(mem, pl + 1 + il, el, pr + 1 + ir, er, mid);
+    let l = store::bounds_by(left, pl);
+    let r = store::bounds_by(right, pr);
     mem[q] = left + right;
-    mid + el + er
+    let includes = q + store::FIRST_STRING;
+    let excludes = copy_both(
+        mem,
+        l.includes,
+        l.excludes,
+        r.includes,
+        r.excludes,
+        includes,
+    );
+    copy_both(mem, l.excludes, l.end, r.excludes, r.end, excludes)
 }
 
 // "for each of R": puts the match at pl joined with each of the n matches from pr on.
@@ -70,8 +78,8 @@ fn and_size(mem: &[u32], l: usize, r: usize) -> Built
 // "for each of L": the product of the lists in the slots at l and r, in the slot at `at` above them.
 pub fn and_list(mem: &mut [u32], l: usize, r: usize, at: usize) -> Built
     requires { ⌜ TwoSlots (now mem) l r ⌝ }
-    requires { ⌜ Under (length (now mem)) l at ⌝ }
-    requires { ⌜ Under (length (now mem)) r at ⌝ }
+    requires { ⌜ SlotBelow (length (now mem)) l at ⌝ }
+    requires { ⌜ SlotBelow (length (now mem)) r at ⌝ }
     ensures { λ b. ⌜ ((w : TwoSlots (now (mem .entry)) l r) → Outcome (andList (w .lefts) (w .rights)) (now (mem .entry)) (now (mem .exit)) at b) ⌝ }
 {
     let size = and_size(mem, l, r);
@@ -80,15 +88,15 @@ pub fn and_list(mem: &mut [u32], l: usize, r: usize, at: usize) -> Built
     };
     let m = mem[l] as usize;
     let n = mem[r] as usize;
-    let mut p = l + 2;
-    let mut q = at + 2;
+    let mut p = l + FIRST_MATCH;
+    let mut q = at + FIRST_MATCH;
     let mut i = 0;
     while i < m {
         let length = store::match_length(mem[p]);
-        q = put_row(mem, p, r + 2, n, q);
+        q = put_row(mem, p, r + FIRST_MATCH, n, q);
         p += length;
         i += 1;
     }
-    store::put_heads(mem, at, matches, strings);
+    store::put_slot_header(mem, at, matches, strings);
     size
 }

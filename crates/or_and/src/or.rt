@@ -4,7 +4,7 @@ ghost use Prim.Native.Nat.{_+_, _≤_};
 ghost use Rattle.model.specs.Rules.{orList};
 ghost use Rattle.store.specs.Layout.{slotSize};
 ghost use Rattle.store.specs.Outcome.{Outcome};
-ghost use Rattle.or_and.specs.TwoSlots.{TwoSlots};
+ghost use Rattle.store.specs.Slot.{TwoSlots};
 
 // Puts the matches of the list in the slot at r after those of the list in the slot at l below it.
 pub fn or_list(mem: &mut [u32], l: usize, r: usize) -> Built
@@ -16,9 +16,10 @@ pub fn or_list(mem: &mut [u32], l: usize, r: usize) -> Built
     let Built::Made { matches, strings } = size else {
         return size;
     };
-    let to = l + store::slot_length(mem, l);
-    let n = store::slot_length(mem, r) - 2;
-    store::copy_down(mem, r + 2, n, to);
-    store::put_heads(mem, l, matches, strings);
+    let to = store::slot_end(mem, l);
+    let from = r + store::FIRST_MATCH;
+    let n = store::slot_end(mem, r) - from;
+    store::copy_down(mem, from, n, to);
+    store::put_slot_header(mem, l, matches, strings);
     size
 }

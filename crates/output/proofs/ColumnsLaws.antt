@@ -9,9 +9,11 @@ use lib.Seq.{sets}
 use Rattle.model.specs.Answers.{spanOf, tagOf, spansIn, tagsIn}
 use Rattle.model.specs.Matches.{Str, Match, stringsIn, strings}
 use Rattle.strings.specs.Strings.{strsOf}
-use Rattle.store.specs.Layout.{Holds, headerOf, matchNumbers}
-use Rattle.store.proofs.LayoutLaws.{length-match}
-use Rattle.store.proofs.Memory.{sets-append, getD-held}
+use Rattle.store.specs.Layout.{Holds}
+use Rattle.store.specs.Stream.{MatchHolds}
+use Rattle.store.proofs.DecodeLaws.{strings-hold}
+use Rattle.store.proofs.LayoutLaws.{length-strsOf}
+use Rattle.store.proofs.MemoryLaws.{sets-append, getD-held}
 use Rattle.output.specs.Columns.{everySecond, columnIn}
 
 -- ---- everySecond
@@ -52,15 +54,18 @@ every-held {mem} {p} xs h (suc n) k l =
 -- ---- columnIn
 
 -- the column of a match in memory
-pub column-held : {mem : List ℕ} {p : ℕ} (m : Match) → Holds mem p (matchNumbers m) → (column n : ℕ) → column ≤ 2 → n ≡ stringsIn m
-    → everySecond mem (p + column) n ≡ columnIn column m
+pub column-held : {mem : List ℕ} {p : ℕ} {m : Match} → MatchHolds mem p m → (a column n : ℕ) → a ≡ p + 1 → column ≤ 1 → n ≡ stringsIn m
+    → everySecond mem (a + column) n ≡ columnIn column m
 unfolding columnIn
-column-held {mem} {p} m h column n l e =
-    ap (everySecond mem (p + column)) e ∙ every-held (matchNumbers m) h (stringsIn m) column (omega (arith, length-match m))
+column-held {mem} {m = m} h a column n e l f =
+    let strs = strsOf 0 (m .includes) ++ strsOf 1 (m .excludes) in
+    let long : length strs ≡ 2 * stringsIn m =
+    omega (arith, length-append (strsOf 0 (m .includes)) (strsOf 1 (m .excludes)), length-strsOf 0 (m .includes), length-strsOf 1 (m .excludes)) in
+    ap (everySecond mem (a + column)) f ∙ every-held strs (strings-hold h a e) (stringsIn m) column (omega arith)
 
 pub length-column : (column : ℕ) (m : Match) → length (columnIn column m) ≡ stringsIn m
 unfolding columnIn
-length-column column m = length-every (matchNumbers m) column (stringsIn m)
+length-column column m = length-every (strsOf 0 (m .includes) ++ strsOf 1 (m .excludes)) column (stringsIn m)
 
 pub length-columns : (column : ℕ) (ms : List Match) → length (flatMap (columnIn column) ms) ≡ strings ms
 unfolding flatMap strings
@@ -88,16 +93,13 @@ module _ (k sort : ℕ) (f : Str → ℕ) (is : (s : Str) (l : List ℕ) → get
 
 -- the column k of a match, where f and g are the number at k of each include and of each exclude
 column-is : (k : ℕ) (f g : Str → ℕ) → ((s : Str) (l : List ℕ) → getD (spanOf s ∷ tagOf 0 s ∷ l) k 0 ≡ f s)
-    → ((s : Str) (l : List ℕ) → getD (spanOf s ∷ tagOf 1 s ∷ l) k 0 ≡ g s) → (m : Match) → columnIn (suc k) m ≡ map f (m .includes) ++ map g (m .excludes)
-unfolding columnIn matchNumbers
+    → ((s : Str) (l : List ℕ) → getD (spanOf s ∷ tagOf 1 s ∷ l) k 0 ≡ g s) → (m : Match) → columnIn k m ≡ map f (m .includes) ++ map g (m .excludes)
+unfolding columnIn
 column-is k f g e h m =
-    let strs = strsOf 0 (m .includes) ++ strsOf 1 (m .excludes) in
-    every-cons (headerOf (length (m .includes)) (length (m .excludes))) strs k (stringsIn m)
-    ∙ every-strs k 0 f e (m .includes) (strsOf 1 (m .excludes)) (length (m .excludes))
-    ∙ ap (λ l. map f (m .includes) ++ l) (every-all k 1 g h (m .excludes))
+    every-strs k 0 f e (m .includes) (strsOf 1 (m .excludes)) (length (m .excludes)) ∙ ap (λ l. map f (m .includes) ++ l) (every-all k 1 g h (m .excludes))
 
-pub column-spans : (m : Match) → columnIn 1 m ≡ spansIn m
+pub column-spans : (m : Match) → columnIn 0 m ≡ spansIn m
 column-spans m = column-is 0 spanOf spanOf (λ s l. refl) (λ s l. refl) m
 
-pub column-tags : (m : Match) → columnIn 2 m ≡ tagsIn m
+pub column-tags : (m : Match) → columnIn 1 m ≡ tagsIn m
 column-tags m = column-is 1 (tagOf 0) (tagOf 1) (λ s l. refl) (λ s l. refl) m

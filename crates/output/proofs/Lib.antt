@@ -1,4 +1,3 @@
 pub mod ColumnsLaws
-pub mod Walks
-pub mod Listings
-pub mod Yeses
+pub mod ColumnLoopLaws
+pub mod ListingLaws

@@ -1,4 +1,4 @@
-// The listing of a list in a slot, written to the listing buffer; and whether the list says yes.
+// The listing of a list in a slot, written to the listing buffer.
 ghost use mathlib.Core.List.{flatMap, map};
 ghost use mathlib.Core.Path.{_≡_};
 ghost use Prim.Native.Nat.{_+_, _*_, _≤_};
@@ -6,7 +6,7 @@ ghost use lib.ListN.{length};
 ghost use lib.Seq.{sets};
 ghost use Rattle.model.specs.Answers.{listingNumbers};
 ghost use Rattle.model.specs.Limits.{bufferLength};
-ghost use Rattle.model.specs.Matches.{isYes, stringsIn};
+ghost use Rattle.model.specs.Matches.{stringsIn};
 ghost use Rattle.store.specs.Slot.{SlotAt};
 ghost use Rattle.store.specs.Stream.{StreamAt};
 ghost use Rattle.output.specs.Columns.{ColumnAt, columnIn, everySecond};
@@ -32,17 +32,17 @@ fn put_counts(mem: &[u32], first: usize, n: usize, buffer: &mut [u32], q: usize)
     let mut p = first;
     let mut i = 0;
     while i < n {
-        let strings = store::strings_in(mem[p]);
-        buffer[q + i] = strings as u32;
-        p += 1 + 2 * strings;
+        let header = mem[p];
+        buffer[q + i] = store::strings_in(header) as u32;
+        p += store::match_length(header);
         i += 1;
     }
 }
 
-// One of the "two parallel arrays", of the n matches from `first` on, to the buffer from `at` on: the spans where `column` is 1, the tags where it is 2.
+// One of the "two parallel arrays", of the n matches from `first` on, to the buffer from `at` on: the spans where `column` is 0, the tags where it is 1.
 fn put_column(mem: &[u32], first: usize, n: usize, column: usize, buffer: &mut [u32], at: usize)
     requires { ⌜ ColumnAt (now mem) first n (length (now buffer)) at ⌝ }
-    requires { ⌜ column ≤ 2 ⌝ }
+    requires { ⌜ column ≤ 1 ⌝ }
     ensures { λ _. ⌜ ((w : ColumnAt (now (mem .entry)) first n (length (now (buffer .entry))) at)
         → now (buffer .exit) ≡ sets (now (buffer .entry)) at (flatMap (columnIn column) (w .list))) ⌝ }
 {
@@ -50,10 +50,11 @@ fn put_column(mem: &[u32], first: usize, n: usize, column: usize, buffer: &mut [
     let mut q = at;
     let mut i = 0;
     while i < n {
+        let bounds = store::bounds_at(mem, p);
         let strings = store::strings_in(mem[p]);
-        copy_every_second(mem, p + column, strings, buffer, q);
+        copy_every_second(mem, bounds.includes + column, strings, buffer, q);
         q += strings;
-        p += 1 + 2 * strings;
+        p = bounds.end;
         i += 1;
     }
 }
@@ -66,32 +67,13 @@ pub fn put_listing(mem: &[u32], src: usize, buffer: &mut [u32])
 {
     let matches = mem[src];
     let strings = mem[src + 1];
-    let first = src + 2;
+    let first = src + store::FIRST_MATCH;
     let n = matches as usize;
     let spans = 2 + n;
     let tags = spans + strings as usize;
     buffer[0] = matches;
     buffer[1] = strings;
     put_counts(mem, first, n, buffer, 2);
-    put_column(mem, first, n, 1, buffer, spans);
-    put_column(mem, first, n, 2, buffer, tags);
-}
-
-// "a match without excludes": is there one?
-pub fn is_yes(mem: &[u32], src: usize) -> bool
-    requires { ⌜ SlotAt (now mem) src ⌝ }
-    ensures { λ r. ⌜ ((w : SlotAt (now (mem .entry)) src) → r ≡ isYes (w .list)) ⌝ }
-{
-    let n = mem[src] as usize;
-    let mut p = src + 2;
-    let mut i = 0;
-    while i < n {
-        let header = mem[p];
-        if store::excludes_in(header) == 0 {
-            return true;
-        }
-        p += store::match_length(header);
-        i += 1;
-    }
-    false
+    put_column(mem, first, n, 0, buffer, spans);
+    put_column(mem, first, n, 1, buffer, tags);
 }

@@ -1,7 +1,7 @@
 -- The finds put one after the other are the phrase's list.
-use Prim.Native.Nat.{ℕ, suc, _+_, _-_, _*_, _≤_, _<_}
+use Prim.Native.Nat.{ℕ, _+_, _-_, _*_, _≤_, _<_}
 use native.Mathlib.Omega.{arith}
-use mathlib.Core.Path.{_≡_, refl, sym, ap, _∙_, subst}
+use mathlib.Core.Path.{_≡_, refl, sym, ap, ap₂, _∙_, subst}
 use mathlib.Core.Bool.{true}
 use mathlib.Core.List.{List, [], _∷_, flatMap}
 use mathlib.Core.Logic.{inl}
@@ -18,22 +18,19 @@ use Rattle.store.specs.Layout.{headerOf, matchNumbers, matchesNumbers}
 use Rattle.store.specs.Outcome.{Outcome}
 use Rattle.store.specs.Put.{Put}
 use Rattle.store.proofs.LayoutLaws.{length-match, matches-map}
-use Rattle.store.proofs.Rows.{Rows, rows-start, rows-step, rows-finish}
-use Rattle.store.proofs.Slots.{built-made, built-long, refused, filled}
+use Rattle.store.proofs.PutLaws.{put-match}
+use Rattle.store.proofs.RowsLaws.{Rows, rows-start, rows-step, rows-finish}
+use Rattle.store.proofs.SlotsLaws.{built-made, built-long, refused, filled}
 use Rattle.phrase.specs.Starts.{startsFrom, FirstStart}
 use Rattle.phrase.proofs.StartsLaws.{starts-none, starts-here}
 
 -- ---- a find in memory
 
--- its header, its span and its tag
-pub put-found : (mem : List ℕ) (q p k rank : ℕ) {header : ℕ} → header ≡ headerOf 1 0
-    → Put mem (set (set (set mem q header) (q + 1) (p * radix + (p + k - 1))) (q + 2) (rank * 4 + 2)) q (matchNumbers (found rank k p)) (q + 3)
-unfolding matchNumbers strsOf
-put-found mem q p k rank e =
-    let one : q + 1 ≡ suc q = omega arith in
-    let two : q + 2 ≡ suc (suc q) = omega arith in
-    let tag : rank * 4 + 2 + 0 ≡ rank * 4 + 2 = omega arith in
-    record { wrote = rw (e, one, two, tag); next-is = refl }
+-- its string, and its header in front
+pub put-found : (q p k rank : ℕ) {mem b : List ℕ} {header span tag next : ℕ} → span ≡ p * radix + (p + k - 1) → tag ≡ rank * 4 + 2 + 0
+    → Put mem b (q + 1) (span ∷ tag ∷ []) next → header ≡ headerOf 1 0 → Put mem (set b q header) q (matchNumbers (found rank k p)) next
+unfolding strsOf
+put-found q p k rank {mem} {b} {next = next} e f v h = put-match (found rank k p) (subst (λ xs. Put mem b (q + 1) xs next) (ap₂ (λ s t. s ∷ t ∷ []) e f) v) h
 
 -- ---- the list
 
@@ -51,7 +48,7 @@ module _ (s : Section) (rank : ℕ) (words : List ℕ) where
   unfolding phraseList startsFrom
   list-numbers = matches-map (found rank (length words)) (startsFrom s words 1)
 
--- before the find at p: memory was mem₀, and the finds before it, so many, are written after the heads of the slot at `at`, up to q
+-- before the find at p: memory was mem₀, and the finds before it, so many, are written after the header of the slot at `at`, up to q
 pub record Finding (s : Section) (words : List ℕ) (rank : ℕ) (mem₀ mem : List ℕ) (at q p matches : ℕ) : Type 0 where
   pub rows : Rows (foundNumbers rank (length words)) (startsFrom s words 1) (startsFrom s words p) mem₀ mem (at + 2) q
   pub count : matches + length (startsFrom s words p) ≡ length (startsFrom s words 1)

@@ -3,8 +3,10 @@ mod blocks; // blocks of sixteen positions, skipped as a whole
 mod rows; // words in a row, position by position
 
 use model::MAX_MATCHES;
-use model::RADIX;
+use model::Position;
 use store::Built;
+use strings::span_of;
+use strings::tag_of;
 ghost use mathlib.Core.Bool.{not};
 ghost use mathlib.Core.Path.{_≡_};
 ghost use Prim.Native.Nat.{ℕ, _+_, _≤_};
@@ -81,10 +83,11 @@ fn put_found(mem: &mut [u32], q: usize, p: usize, k: usize, rank: u32) -> usize
     ensures { λ r. ⌜ Put (now (mem .entry)) (now (mem .exit)) q (matchNumbers (found rank k p)) r ⌝ }
 {
     let end = p + k - 1;
+    let span = span_of(Position(p as u32), Position(end as u32));
+    let tag = tag_of(rank, true, 0);
+    let next = store::put_string(mem, q + store::FIRST_STRING, span, tag);
     mem[q] = store::header(1, 0);
-    mem[q + 1] = p as u32 * RADIX + end as u32;
-    mem[q + 2] = rank * 4 + 2;
-    q + 3
+    next
 }
 
 // The list of a phrase, in the slot at `at`; given up at the 257th find.
@@ -96,7 +99,7 @@ pub fn phrase_list(section: &[u32], words: &[u32], rank: u32, mem: &mut [u32], a
     ensures { λ b. ⌜ Outcome (phraseList (sectionOf (now (section .entry))) rank (now (words .entry))) (now (mem .entry)) (now (mem .exit)) at b ⌝ }
 {
     let n = section[0] as usize;
-    let mut q = at + 2;
+    let mut q = at + store::FIRST_MATCH;
     let mut matches = 0;
     let mut p = next_start(section, words, 1);
     while p <= n {
@@ -107,7 +110,7 @@ pub fn phrase_list(section: &[u32], words: &[u32], rank: u32, mem: &mut [u32], a
         matches += 1;
         p = next_start(section, words, p + 1);
     }
-    store::put_heads(mem, at, matches, matches);
+    store::put_slot_header(mem, at, matches, matches);
     Built::Made {
         matches,
         strings: matches,

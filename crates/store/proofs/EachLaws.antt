@@ -11,50 +11,49 @@ use borrow.Author.Tests.{lt-ltb, le-ltb}
 use Rattle.model.specs.Matches.{Match, strings}
 use Rattle.model.proofs.RulesLaws.{AtMostOne, strings-append}
 use Rattle.store.specs.Built.{Small}
-use Rattle.store.specs.Places.{Under}
+use Rattle.store.specs.Places.{SlotBelow}
 use Rattle.store.specs.Each.{OneAt, Each}
-use Rattle.store.specs.Layout.{matchLength, matchNumbers, matchesNumbers}
+use Rattle.store.specs.Layout.{matchLength, matchesNumbers}
 use Rattle.store.specs.Put.{Put, PutMatches}
 use Rattle.store.specs.Slot.{SlotHolds}
-use Rattle.store.specs.Stream.{Left}
-use Rattle.store.proofs.LayoutLaws.{matches-cons, matches-flatMap, length-matches}
-use Rattle.store.proofs.Back.{length-held}
-use Rattle.store.proofs.Slots.{slot-stream}
-use Rattle.store.proofs.Walking.{Next, next, none-left, left-below}
-use Rattle.store.proofs.Rows.{Rows, rows-start, rows-room, rows-step, rows-finish}
+use Rattle.store.specs.Stream.{Remaining}
+use Rattle.store.proofs.LayoutLaws.{matches-flatMap, length-matches}
+use Rattle.store.proofs.SlotsLaws.{matches-held, slot-stream}
+use Rattle.store.proofs.StreamLaws.{Next, next-counted, none-counted, remaining-below}
+use Rattle.store.proofs.RowsLaws.{Rows, rows-start, rows-room, rows-step, rows-finish}
 
 -- ---- the loop
 
 -- a rule begins with a list in a slot below its own, where what it makes of the list is within the limits
-pub slot-each : {F : Match → List Match} {mem : List ℕ} {src at : ℕ} {list : List Match} → SlotHolds mem src list → Under (length mem) src at
+pub slot-each : {F : Match → List Match} {mem : List ℕ} {src at : ℕ} {list : List Match} → SlotHolds mem src list → SlotBelow (length mem) src at
     → Small (flatMap F list) → (n : ℕ) → n ≡ getD mem src 0 → Each F list mem (src + 2) n (at + 2)
 slot-each {F} {src = src} {list = list} s u h n e =
     record {
-      stream = slot-stream s (src + 2) n refl e;
-      below = omega (arith, length-matches list, s .few, s .strs, u .below);
+      end = _;
+      stream = slot-stream s (src + 2) _ refl refl;
+      count = omega (arith, matches-held s);
+      below = omega (arith, s .header, u .below);
       room = omega (arith, length-matches (flatMap F list), u .room);
     }
 
 -- before match number i of n, at p: memory was mem₀, and what F gives of the matches before it is written from at to q
 pub record Going (F : Match → List Match) (list : List Match) (mem₀ : List ℕ) (n at : ℕ) (mem : List ℕ) (p q i : ℕ) : Type 0 where
   pub todo : List Match
-  pub left : Left todo mem p i n
+  pub end : ℕ
+  pub left : Remaining todo mem p end
+  pub count : i + length todo ≡ n
   pub rows : Rows (λ m. matchesNumbers (F m)) list todo mem₀ mem at q
-  pub below : p + length (matchesNumbers todo) ≤ at
+  pub below : end ≤ at
   pub room : at + length (matchesNumbers (flatMap F list)) ≤ length mem₀
 
 pub start : {F : Match → List Match} {list : List Match} {mem₀ : List ℕ} {p n at : ℕ} → Each F list mem₀ p n at → Going F list mem₀ n at mem₀ p at 0
-start {list = list} e = record { todo = list; left = e .stream; rows = rows-start; below = e .below; room = e .room }
+start {list = list} e =
+    record { todo = list; end = e .end; left = e .stream; count = omega (arith, e .count); rows = rows-start; below = e .below; room = e .room }
 
 module _ {F : Match → List Match} {list : List Match} {mem₀ : List ℕ} {n at : ℕ} {mem : List ℕ} {p q i : ℕ} (g : Going F list mem₀ n at mem p q i) where
   module _ (h : i < n) where
-    here : Next (g .todo) mem p i n
-    here = next (g .left) h
-
-    lengths : length (matchesNumbers (g .todo)) ≡ length (matchNumbers (here .first)) + length (matchesNumbers (here .rest))
-    lengths =
-        ap (λ ms. length (matchesNumbers ms)) (here .is) ∙ ap length (matches-cons (here .first) (here .rest))
-        ∙ length-append (matchNumbers (here .first)) (matchesNumbers (here .rest))
+    here : Next (g .todo) mem p (g .end)
+    here = next-counted (g .left) (g .count) h
 
     -- the match in hand, as the loop's body wants it
     pub item : OneAt F mem p q
@@ -63,7 +62,7 @@ module _ {F : Match → List Match} {list : List Match} {mem₀ : List ℕ} {n a
           item = here .first;
           one = record {
             held = here .held;
-            below = omega (arith, lengths, length-held (here .held), g .below, g .rows .put .next-is);
+            below = omega (arith, here .within, g .below, g .rows .put .next-is);
             room = rows-room (g .rows) (here .is) (subst (λ xs. at + length xs ≤ length mem₀) (matches-flatMap F list) (g .room));
           };
         }
@@ -72,17 +71,18 @@ module _ {F : Match → List Match} {list : List Match} {mem₀ : List ℕ} {n a
         → Going F list mem₀ n at mem' (p + len) q' (i + 1)
     unfolding item
     step {len = len} v e =
-        let under : p + len + length (matchesNumbers (here .rest)) ≤ at = omega (arith, lengths, g .below, length-held (here .held)) in
         record {
           todo = here .rest;
-          left = left-below v (omega (arith, g .rows .put .next-is)) (here .after len e);
+          end = g .end;
+          left = remaining-below v (omega (arith, g .below, g .rows .put .next-is)) (here .after (p + len) (ap (λ k. p + k) e));
+          count = omega (arith, g .count, here .one-less);
           rows = rows-step (g .rows) (here .is) v;
-          below = under;
+          below = g .below;
           room = g .room;
         }
 
   pub finish : n ≤ i → Put mem₀ mem at (matchesNumbers (flatMap F list)) q
-  finish h = subst (λ xs. Put mem₀ mem at xs q) (sym (matches-flatMap F list)) (rows-finish (g .rows) (none-left (g .left) h))
+  finish h = subst (λ xs. Put mem₀ mem at xs q) (sym (matches-flatMap F list)) (rows-finish (g .rows) (none-counted (g .left) (g .count) h))
 
 -- ---- the loop, with the number of matches written
 
@@ -125,7 +125,7 @@ module _ {F : Match → List Match} {list : List Match} {mem₀ : List ℕ} {n a
   unfolding flatMap
   count-finish h =
       let v = finish (c .going) h in
-      let m : length (flatMap F list) ≡ matches = sym (c .count) ∙ ap (λ ms. matches + length (flatMap F ms)) (none-left (c .going .left) h) ∙ omega arith in
+      let m : length (flatMap F list) ≡ matches = sym (c .count) ∙ ap (λ ms. matches + length (flatMap F ms)) (none-counted (c .going .left) (c .going .count) h) ∙ omega arith in
       record { put = v; count-is = m }
 
 -- ---- what a rule makes of a list that isn't too long

@@ -1,18 +1,17 @@
 -- How many numbers each part of the layout takes, and that lists behind each other are laid out behind each other; in the order of specs/Layout.antt.
-use Prim.Native.Nat.{ℕ, _+_, _*_, _≤_, _<_}
+use Prim.Native.Nat.{ℕ, _+_, _*_, _≤_}
 use native.Mathlib.Omega.{arith}
 use mathlib.Core.Path.{_≡_, refl, ap, _∙_}
 use mathlib.Core.Bool.{Bool, true, false}
 use mathlib.Core.List.{List, [], _∷_, _++_, map, flatMap, append-nil}
 use lib.ListN.{length, length-append}
 use Rattle.model.specs.Answers.{spanOf, tagOf}
-use Rattle.model.specs.Limits.{radix}
 use Rattle.model.specs.Matches.{Str, Match, stringsIn, strings}
 use Rattle.model.specs.Rules.{keptIf}
 use Rattle.model.proofs.ListsLaws.{flatMap-append}
 use Rattle.strings.specs.Strings.{strsOf}
 use Rattle.store.specs.Built.{Small}
-use Rattle.store.specs.Layout.{headerOf, includesIn, excludesIn, matchNumbers, matchesNumbers, slotNumbers, slotSize}
+use Rattle.store.specs.Layout.{matchNumbers, matchesNumbers, slotNumbers, slotSize}
 
 -- ---- strsOf
 
@@ -25,14 +24,6 @@ pub length-strsOf : (sort : ℕ) (ss : List Str) → length (strsOf sort ss) ≡
 unfolding strsOf
 length-strsOf sort [] = refl
 length-strsOf sort (s ∷ ss) = omega (arith, length-strsOf sort ss)
-
--- ---- headerOf
-
-pub includes-header : (includes excludes : ℕ) → excludes < radix → includesIn (headerOf includes excludes) ≡ includes
-includes-header includes excludes h = omega arith
-
-pub excludes-header : (includes excludes : ℕ) → excludes < radix → excludesIn (headerOf includes excludes) ≡ excludes
-excludes-header includes excludes h = omega arith
 
 -- ---- matchNumbers
 

@@ -1,10 +1,11 @@
-pub mod Memory
+pub mod MemoryLaws
 pub mod PutLaws
 pub mod LayoutLaws
-pub mod FineLaws
-pub mod Back
-pub mod Walking
-pub mod Slots
+pub mod ValidStrLaws
+pub mod DecodeLaws
+pub mod StreamLaws
+pub mod SlotsLaws
 pub mod StackLaws
-pub mod Rows
+pub mod RowsLaws
 pub mod EachLaws
+pub mod IsYesLaws

@@ -1,5 +1,5 @@
 -- Laws of Put: numbers put one behind the other are put as one list, and whatever lies below them is held still.
-use Prim.Native.Nat.{ℕ, _+_, _≤_}
+use Prim.Native.Nat.{ℕ, _+_, _-_, _/_, _≤_, _<_}
 use native.Mathlib.Omega.{arith}
 use mathlib.Core.Bool.{Bool, true, false}
 use mathlib.Core.Path.{_≡_, refl, sym, ap, ap₂, _∙_, subst}
@@ -7,15 +7,17 @@ use mathlib.Core.List.{List, [], _∷_, _++_}
 use mathlib.Core.Logic.{inl}
 use lib.ListN.{length, take, drop, getD, set, length-append}
 use lib.Seq.{sets, length-sets}
-use Rattle.model.specs.Matches.{Match}
+use Rattle.model.specs.Limits.{radix}
+use Rattle.model.specs.Matches.{Match, stringsIn}
 use Rattle.model.specs.Rules.{keptIf}
 use Rattle.strings.specs.Strings.{strsOf}
-use Rattle.store.specs.Layout.{Holds, headerOf, matchLength, matchNumbers, matchesNumbers}
+use Rattle.store.specs.Layout.{Holds, headerBetween, headerOf, matchLength, matchNumbers, matchesNumbers}
+use Rattle.store.specs.Places.{ClosingMatch, Counts}
 use Rattle.store.specs.Put.{Put}
 use Rattle.store.specs.Stream.{MatchHolds}
-use Rattle.store.proofs.Memory.{sets-append, sets-front, sets-held, holds-written, holds-other, holds-part}
-use Rattle.store.proofs.LayoutLaws.{matches-kept, matches-dropped}
-use Rattle.store.proofs.Back.{length-held}
+use Rattle.store.proofs.MemoryLaws.{sets-append, sets-front, sets-held, holds-written, holds-other, holds-part}
+use Rattle.store.proofs.LayoutLaws.{length-strsOf, matches-kept, matches-dropped}
+use Rattle.store.proofs.DecodeLaws.{length-held}
 
 pub put-none : (mem : List ℕ) (q : ℕ) → Put mem mem q [] q
 put-none mem q = record { wrote = refl; next-is = omega arith }
@@ -67,6 +69,22 @@ unfolding matchNumbers
 put-match {b = b} {q} {header = header} m v e =
     let front : Put b (set b q header) q (headerOf (length (m .includes)) (length (m .excludes)) ∷ []) (q + 1) = record { wrote = ap (set b q) e; next-is = refl } in
     put-front v front
+
+-- its includes put, its excludes behind them, and then its header by where both end
+module _ {a b c : List ℕ} (q : ℕ) {excludes end : ℕ} (m : Match) (v : Put a b (q + 1) (strsOf 0 (m .includes)) excludes) (w : Put b c excludes (strsOf 1 (m .excludes)) end) where
+  includes-are : (excludes - (q + 1)) / 2 ≡ length (m .includes)
+  includes-are = omega (arith, v .next-is, length-strsOf 0 (m .includes))
+
+  excludes-are : (end - excludes) / 2 ≡ length (m .excludes)
+  excludes-are = omega (arith, w .next-is, length-strsOf 1 (m .excludes))
+
+  pub closing-match : stringsIn m < radix → q < length a → ClosingMatch (length c) q excludes end
+  closing-match few h =
+      let counts : Counts ((excludes - (q + 1)) / 2) ((end - excludes) / 2) = omega (arith, includes-are, excludes-are) in
+      omega (arith, v .next-is, w .next-is, length-put v, length-put w)
+
+  pub closed-match : {d : List ℕ} → d ≡ set c q (headerBetween q excludes end) → Put a d q (matchNumbers m) end
+  closed-match {d} e = subst (λ l. Put a l q (matchNumbers m) end) (sym e) (put-match m (put-append v w) (ap₂ headerOf includes-are excludes-are))
 
 -- a match copied
 pub put-copied : {a b : List ℕ} {p : ℕ} {m : Match} (n q : ℕ) → MatchHolds a p m → n ≡ matchLength (getD a p 0)

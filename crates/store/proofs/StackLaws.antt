@@ -12,7 +12,7 @@ use Rattle.model.specs.Matches.{Match}
 use Rattle.store.specs.declared.Built.{Built}
 use Rattle.store.specs.declared.Built.the-variants.{Made}
 use Rattle.store.specs.Built.{Small}
-use Rattle.store.specs.Fine.{Fine}
+use Rattle.store.specs.ValidStr.{ValidStr}
 use Rattle.store.specs.Layout.{slotNumbers, slotSize, slotAt, scratch}
 use Rattle.store.specs.Outcome.{Outcome}
 use Rattle.store.specs.Put.{Put}
@@ -20,7 +20,7 @@ use Rattle.store.specs.Slot.{SlotHolds}
 use Rattle.store.specs.Stack.{Stack}
 use Rattle.store.proofs.PutLaws.{holds-put, length-put}
 use Rattle.store.proofs.LayoutLaws.{slot-fits}
-use Rattle.store.proofs.Slots.{slot-holds, slot-below, answer-made, outcome-put}
+use Rattle.store.proofs.SlotsLaws.{slot-holds, slot-below, answer-made, outcome-put}
 
 -- the last list that waits, and those before it
 module _ (mem : List ℕ) (ms : List Match) (lists : List (List Match)) (s : Stack mem (ms ∷ lists)) where
@@ -40,7 +40,7 @@ stack-below v [] h s = tt
 stack-below v (ms ∷ lists) h s = (slot-below v (omega arith) (s .0), stack-below v lists (omega arith) (s .1))
 
 -- a list written to the slot behind them waits as the last
-pub stack-push : {mem mem' : List ℕ} {next : ℕ} (ms : List Match) (lists : List (List Match)) → Small ms → AllList Fine ms
+pub stack-push : {mem mem' : List ℕ} {next : ℕ} (ms : List Match) (lists : List (List Match)) → Small ms → AllList ValidStr ms
     → slotAt (length lists) + slotSize ≤ length mem → Put mem mem' (slotAt (length lists)) (slotNumbers ms) next → Stack mem lists → Stack mem' (ms ∷ lists)
 unfolding Stack
 stack-push ms lists h f room v s =
@@ -49,7 +49,7 @@ stack-push ms lists h f room v s =
 
 -- so does a list that a rule has built in the slot for that, once it is copied down
 pub stack-built : {mem mem' mem'' : List ℕ} {m s : ℕ} {built : Built} (ms : List Match) (lists : List (List Match)) → length lists < maxWaiting → workLength ≤ length mem
-    → AllList Fine ms → Outcome ms mem mem' scratch built → built ≡ Made m s → mem'' ≡ sets mem' (slotAt (length lists)) (slotNumbers ms)
+    → AllList ValidStr ms → Outcome ms mem mem' scratch built → built ≡ Made m s → mem'' ≡ sets mem' (slotAt (length lists)) (slotNumbers ms)
     → Stack mem lists → Stack mem'' (ms ∷ lists)
 stack-built ms lists few room f o e copied st =
     let z = answer-made ms (sym e ∙ o .answered) in

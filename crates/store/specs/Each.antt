@@ -1,10 +1,11 @@
 -- A rule that goes over a list match by match and writes what it makes of each, F, from a place above the list on.
 use Prim.Native.Nat.{ℕ, _+_, _≤_}
 use mathlib.Core.List.{List, flatMap}
+use mathlib.Core.Path.{_≡_}
 use lib.ListN.{length, getD}
 use Rattle.model.specs.Matches.{Match}
 use Rattle.store.specs.Layout.{matchLength, matchesNumbers}
-use Rattle.store.specs.Stream.{MatchHolds, Left}
+use Rattle.store.specs.Stream.{MatchHolds, Remaining}
 
 module _ (F : Match → List Match) where
   -- the match m at p, below q, and room there for what the rule makes of it
@@ -19,6 +20,8 @@ module _ (F : Match → List Match) where
 
   -- the n matches of a list from p on, below at, and room there for what the rule makes of them
   pub record Each (list : List Match) (mem : List ℕ) (p n at : ℕ) : Type 0 where
-    pub stream : Left list mem p 0 n
-    pub below : p + length (matchesNumbers list) ≤ at
+    pub end : ℕ
+    pub stream : Remaining list mem p end
+    pub count : length list ≡ n
+    pub below : end ≤ at
     pub room : at + length (matchesNumbers (flatMap F list)) ≤ length mem

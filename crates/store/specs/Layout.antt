@@ -7,6 +7,7 @@ use lib.ListN.{length, take, drop, getD}
 use Rattle.model.specs.Limits.{radix}
 use Rattle.model.specs.Matches.{Match, strings}
 use Rattle.strings.specs.Strings.{strsOf}
+use Rattle.store.specs.declared.Bounds.{Bounds}
 
 -- a header, and its two counts back
 abbrev pub headerOf : ℕ → ℕ → ℕ
@@ -18,9 +19,19 @@ includesIn header = header / radix
 abbrev pub excludesIn : ℕ → ℕ
 excludesIn header = header % radix
 
+-- the header of the match at `at`, whose includes end before `excludes` and whose excludes before `end`
+abbrev pub headerBetween : ℕ → ℕ → ℕ → ℕ
+headerBetween at excludes end = headerOf ((excludes - (at + 1)) / 2) ((end - excludes) / 2)
+
 -- how many numbers a match takes, by its header
 abbrev pub matchLength : ℕ → ℕ
 matchLength header = 1 + 2 * (includesIn header + excludesIn header)
+
+-- the bounds of a match at p with this header: its includes lie behind the header, and its excludes behind them
+pub record BoundsOf (header p : ℕ) (b : Bounds) : Type 0 where
+  pub includes : b .includes ≡ p + 1
+  pub excludes : b .excludes ≡ b .includes + 2 * includesIn header
+  pub end : b .end ≡ p + matchLength header
 
 unfoldable pub matchNumbers : Match → List ℕ
 matchNumbers m = headerOf (length (m .includes)) (length (m .excludes)) ∷ (strsOf 0 (m .includes) ++ strsOf 1 (m .excludes))
@@ -31,7 +42,7 @@ matchesNumbers ms = flatMap matchNumbers ms
 unfoldable pub slotNumbers : List Match → List ℕ
 slotNumbers ms = length ms ∷ strings ms ∷ matchesNumbers ms
 
--- how many numbers the list in the slot at `at` takes, by its two heads
+-- how many numbers the list in the slot at `at` takes, by its two counts
 abbrev pub slotLength : List ℕ → ℕ → ℕ
 slotLength mem at = 2 + getD mem at 0 + 2 * getD mem (at + 1) 0
 

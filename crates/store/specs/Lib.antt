@@ -1,6 +1,6 @@
 -- What memory holds ..
 pub mod Layout
-pub mod Fine
+pub mod ValidStr
 pub mod Stream
 pub mod Slot
 pub mod Stack

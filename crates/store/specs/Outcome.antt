@@ -14,7 +14,7 @@ pub record Outcome (list : List Match) (entry exit : List ℕ) (at : ℕ) (built
   pub answered : built ≡ builtOf list
   pub written : tooLong list ≡ false → exit ≡ sets entry at (slotNumbers list)
 
--- a slot's heads put, where its matches, so many, end before next
+-- a slot's header put, where its matches, so many, end before next
 pub record Closed (entry exit : List ℕ) (at next matches : ℕ) (built : Built) : Type 0 where
   pub answered : built ≡ Made matches (stringsBefore next at matches)
-  pub heads : exit ≡ sets entry at (matches ∷ stringsBefore next at matches ∷ [])
+  pub header : exit ≡ sets entry at (matches ∷ stringsBefore next at matches ∷ [])

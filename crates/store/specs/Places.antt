@@ -1,5 +1,5 @@
 -- What the functions require of places in memory, as plain numbers.
-use Prim.Native.Nat.{ℕ, _+_, _≤_, _<_}
+use Prim.Native.Nat.{ℕ, _+_, _-_, _/_, _≤_, _<_}
 use mathlib.Core.Logic.{_⊎_}
 use Rattle.model.specs.Limits.{radix}
 use Rattle.store.specs.Layout.{slotSize}
@@ -26,7 +26,7 @@ pub record Counts (includes excludes : ℕ) : Type 0 where
   pub few-excludes : excludes < radix
 
 -- the slot at src lies below the slot at `at`, and that within memory
-pub record Under (size src at : ℕ) : Type 0 where
+pub record SlotBelow (size src at : ℕ) : Type 0 where
   pub below : src + slotSize ≤ at
   pub room : at + slotSize ≤ size
 
@@ -35,3 +35,10 @@ pub record Closing (size at next matches : ℕ) : Type 0 where
   pub headers : at + 2 + matches ≤ next
   pub within : next ≤ at + slotSize
   pub room : at + slotSize ≤ size
+
+-- the includes of the match at `at` end before `excludes`, and its excludes before `end`
+pub record ClosingMatch (size at excludes end : ℕ) : Type 0 where
+  pub within : at < size
+  pub includes-end : at + 1 ≤ excludes
+  pub excludes-end : excludes ≤ end
+  pub counts : Counts ((excludes - (at + 1)) / 2) ((end - excludes) / 2)

@@ -7,7 +7,7 @@ use lib.ListN.{length, getD}
 use Rattle.model.specs.AllStrings.{AllMatch, AllList}
 use Rattle.model.specs.Limits.{maxStrings}
 use Rattle.model.specs.Matches.{Match, stringsIn, strings}
-use Rattle.store.specs.Fine.{Fine}
+use Rattle.store.specs.ValidStr.{ValidStr}
 use Rattle.store.specs.Layout.{Holds, includesIn, excludesIn, matchLength, matchNumbers, matchesNumbers}
 
 -- what the header at p says: a match that lies within memory, with strings within the limits
@@ -19,17 +19,29 @@ pub record Header (mem : List ℕ) (p : ℕ) : Type 0 where
 pub record MatchHolds (mem : List ℕ) (p : ℕ) (m : Match) : Type 0 where
   pub holds : Holds mem p (matchNumbers m)
   pub few : stringsIn m ≤ maxStrings
-  pub fine : AllMatch Fine m
+  pub valid : AllMatch ValidStr m
   pub header : Header mem p
 
--- from match number i on, of n, the matches todo are left, at p
-pub record Left (todo : List Match) (mem : List ℕ) (p i n : ℕ) : Type 0 where
+-- of a list the matches todo are left to a loop: they lie from p up to end
+pub record Remaining (todo : List Match) (mem : List ℕ) (p end : ℕ) : Type 0 where
   pub holds : Holds mem p (matchesNumbers todo)
-  pub count : i + length todo ≡ n
+  pub up-to : p + length (matchesNumbers todo) ≡ end
   pub few : strings todo ≤ maxStrings
-  pub fine : AllList Fine todo
+  pub valid : AllList ValidStr todo
+
+pub record RemainingAt (mem : List ℕ) (p end : ℕ) : Type 0 where
+  pub list : List Match
+  pub stream : Remaining list mem p end
 
 -- n matches lie from p on
 pub record StreamAt (mem : List ℕ) (p n : ℕ) : Type 0 where
   pub list : List Match
-  pub stream : Left list mem p 0 n
+  pub end : ℕ
+  pub stream : Remaining list mem p end
+  pub count : length list ≡ n
+
+-- a loop that looks for a result: f gives it of the matches that are left
+pub record SearchInvariant {A : Type 0} (result : A) (f : List Match → A) (mem : List ℕ) (p end : ℕ) : Type 0 where
+  pub todo : List Match
+  pub left : Remaining todo mem p end
+  pub same : f todo ≡ result

@@ -6,20 +6,26 @@ use model::RADIX;
 ghost use mathlib.Core.Bool.{cond};
 ghost use mathlib.Core.List.{[], _∷_};
 ghost use mathlib.Core.Path.{_≡_};
-ghost use Prim.Native.Nat.{_+_, _*_, _≤_};
+ghost use Prim.Native.Nat.{_+_, _*_, _^_, _≤_, _<_};
 ghost use lib.Dec.{ltb};
-ghost use lib.ListN.{drop, length, take};
+ghost use lib.ListN.{drop, getD, length, set, take};
 ghost use lib.Seq.{sets};
 ghost use Rattle.model.specs.Limits.{maxMatches};
+ghost use Rattle.model.specs.Matches.{isYes};
 ghost use Rattle.store.specs.Built.{sizedAs};
-ghost use Rattle.store.specs.Places.{Closing, Copy, CopyDown, CopyUp, Counts};
-ghost use Rattle.store.specs.Layout.{excludesIn, headerOf, includesIn, matchLength, slotLength, slotNumbers, slotSize};
+ghost use Rattle.store.specs.Places.{Closing, ClosingMatch, Copy, CopyDown, CopyUp, Counts};
+ghost use Rattle.store.specs.Layout.{BoundsOf, excludesIn, headerBetween, headerOf, includesIn, matchLength, slotLength, slotNumbers, slotSize};
 ghost use Rattle.store.specs.Outcome.{Closed};
 ghost use Rattle.store.specs.Put.{Put};
-ghost use Rattle.store.specs.Slot.{Heads, SlotAt};
+ghost use Rattle.store.specs.Slot.{SlotHeader, SlotAt};
+ghost use Rattle.store.specs.Stream.{Header};
 
 // How many numbers a slot takes at most: 2 + 256 + 2 × 512.
 pub const SLOT: usize = 1282;
+// Where the first match lies in its slot: behind the two counts.
+pub const FIRST_MATCH: usize = 2;
+// Where the first string lies in its match: behind the header.
+pub const FIRST_STRING: usize = 1;
 // Where the slot to build in lies: behind eight others.
 pub const SCRATCH: usize = 10256;
 
@@ -108,14 +114,44 @@ pub fn match_length(header: u32) -> usize
     1 + 2 * strings_in(header)
 }
 
-// How many numbers the list in a slot takes, by its two heads.
-pub fn slot_length(mem: &[u32], at: usize) -> usize
-    requires { ⌜ Heads (now mem) at ⌝ }
-    ensures { λ r. ⌜ r ≡ slotLength (now (mem .entry)) at ⌝ }
+// Where a match lies: its includes, then its excludes, then what is behind it.
+pub struct Bounds {
+    pub includes: usize,
+    pub excludes: usize,
+    pub end: usize,
+}
+
+// The bounds of a match at p with this header.
+pub fn bounds_by(header: u32, p: usize) -> Bounds
+    requires { ⌜ p + matchLength header < 2 ^ 64 ⌝ }
+    ensures { λ b. ⌜ BoundsOf header p b ⌝ }
 {
-    let matches = mem[at];
-    let strings = mem[at + 1];
-    (2 + matches + 2 * strings) as usize
+    let includes = p + FIRST_STRING;
+    let excludes = includes + 2 * includes_in(header);
+    let end = excludes + 2 * excludes_in(header);
+    Bounds {
+        includes,
+        excludes,
+        end,
+    }
+}
+
+// The bounds of the match at p.
+pub fn bounds_at(mem: &[u32], p: usize) -> Bounds
+    requires { ⌜ Header (now mem) p ⌝ }
+    ensures { λ b. ⌜ BoundsOf (getD (now (mem .entry)) p 0) p b ⌝ }
+{
+    bounds_by(mem[p], p)
+}
+
+// The place behind the list in a slot, by its two counts.
+pub fn slot_end(mem: &[u32], at: usize) -> usize
+    requires { ⌜ SlotHeader (now mem) at ⌝ }
+    ensures { λ r. ⌜ r ≡ at + slotLength (now (mem .entry)) at ⌝ }
+{
+    let matches = mem[at] as usize;
+    let strings = mem[at + 1] as usize;
+    at + FIRST_MATCH + matches + 2 * strings
 }
 
 // Copies the list in a slot to a slot below it.
@@ -124,12 +160,31 @@ pub fn copy_slot_down(mem: &mut [u32], from: usize, to: usize)
     requires { ⌜ to + slotSize ≤ from ⌝ }
     ensures { λ _. ⌜ ((w : SlotAt (now (mem .entry)) from) → now (mem .exit) ≡ sets (now (mem .entry)) to (slotNumbers (w .list))) ⌝ }
 {
-    let n = slot_length(mem, from);
-    copy_down(mem, from, n, to);
+    let end = slot_end(mem, from);
+    copy_down(mem, from, end - from, to);
 }
 
-// Puts the two numbers at the head of a slot.
-pub fn put_heads(mem: &mut [u32], at: usize, matches: u32, strings: u32)
+// Puts a string; gives the place behind it.
+pub fn put_string(mem: &mut [u32], q: usize, span: u32, tag: u32) -> usize
+    requires { ⌜ q + 2 ≤ length (now mem) ⌝ }
+    ensures { λ r. ⌜ Put (now (mem .entry)) (now (mem .exit)) q (span ∷ tag ∷ []) r ⌝ }
+{
+    mem[q] = span;
+    mem[q + 1] = tag;
+    q + 2
+}
+
+// Puts the header of a match whose strings are written: its includes up to `excludes`, and its excludes up to `end`.
+pub fn close_match(mem: &mut [u32], at: usize, excludes: usize, end: usize)
+    requires { ⌜ ClosingMatch (length (now mem)) at excludes end ⌝ }
+    ensures { λ _. ⌜ now (mem .exit) ≡ set (now (mem .entry)) at (headerBetween at excludes end) ⌝ }
+{
+    let includes = at + FIRST_STRING;
+    mem[at] = header((excludes - includes) / 2, (end - excludes) / 2);
+}
+
+// Puts the two numbers of a slot's header.
+pub fn put_slot_header(mem: &mut [u32], at: usize, matches: u32, strings: u32)
     requires { ⌜ at + 2 ≤ length (now mem) ⌝ }
     ensures { λ _. ⌜ now (mem .exit) ≡ sets (now (mem .entry)) at (matches ∷ strings ∷ []) ⌝ }
 {
@@ -148,22 +203,29 @@ pub fn count_one(matches: u32, q: usize, next: usize) -> u32
     matches
 }
 
-// Puts the heads of a slot whose matches are written, so many, up to next; the strings are the pairs of numbers that are left beside the headers.
+// Puts the header of a slot whose matches are written, so many, up to next; the strings are the pairs of numbers that are left beside the headers.
 pub fn close_slot(mem: &mut [u32], at: usize, next: usize, matches: u32) -> Built
     requires { ⌜ Closing (length (now mem)) at next matches ⌝ }
     ensures { λ r. ⌜ Closed (now (mem .entry)) (now (mem .exit)) at next matches r ⌝ }
 {
-    let strings = ((next - (at + 2) - matches as usize) / 2) as u32;
-    put_heads(mem, at, matches, strings);
+    let strings = ((next - (at + FIRST_MATCH) - matches as usize) / 2) as u32;
+    put_slot_header(mem, at, matches, strings);
     Built::Made { matches, strings }
 }
 
-// Writes a string.
-pub fn put_string(mem: &mut [u32], q: usize, span: u32, tag: u32) -> usize
-    requires { ⌜ q + 2 ≤ length (now mem) ⌝ }
-    ensures { λ r. ⌜ Put (now (mem .entry)) (now (mem .exit)) q (span ∷ tag ∷ []) r ⌝ }
+// "a match without excludes": does the list in a slot have one?
+pub fn is_yes(mem: &[u32], src: usize) -> bool
+    requires { ⌜ SlotAt (now mem) src ⌝ }
+    ensures { λ r. ⌜ ((w : SlotAt (now (mem .entry)) src) → r ≡ isYes (w .list)) ⌝ }
 {
-    mem[q] = span;
-    mem[q + 1] = tag;
-    q + 2
+    let end = slot_end(mem, src);
+    let mut p = src + FIRST_MATCH;
+    while p < end {
+        let header = mem[p];
+        if excludes_in(header) == 0 {
+            return true;
+        }
+        p += match_length(header);
+    }
+    false
 }

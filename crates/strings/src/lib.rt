@@ -8,6 +8,8 @@ pub mod spans;
 pub use spans::end_of;
 pub use spans::is_contiguous;
 pub use spans::query_of;
+pub use spans::sort_of;
 pub use spans::span_of;
 pub use spans::start_of;
 pub use spans::tag_of;
+pub use spans::with_sort;

@@ -43,7 +43,22 @@ pub fn is_contiguous(tag: u32) -> bool
     tag / 2 % 2 == 1
 }
 
-// The tag of a query position, a contiguous mark and a sort: 0 for an include, 1 for an exclude.
+// The sort of a tag: 0 for an include, 1 for an exclude.
+pub fn sort_of(tag: u32) -> u32
+    ensures { λ r. ⌜ r ≡ tag % 2 ⌝ }
+{
+    tag % 2
+}
+
+// The tag with another sort.
+pub fn with_sort(tag: u32, sort: u32) -> u32
+    requires { ⌜ sort ≤ 1 ⌝ }
+    ensures { λ r. ⌜ r ≡ tag / 2 * 2 + sort ⌝ }
+{
+    tag / 2 * 2 + sort
+}
+
+// The tag of a query position, a contiguous mark and a sort.
 pub fn tag_of(query: u32, contiguous: bool, sort: u32) -> u32
     requires { ⌜ (query < 2 ^ 30) × (sort ≤ 1) ⌝ }
     ensures { λ r. ⌜ r ≡ query * 4 + cond contiguous 2 0 + sort ⌝ }

@@ -8,10 +8,10 @@ use lib.ListN.{length, getD, length-append, length-map}
 use Rattle.model.specs.AllStrings.{Every, AllStrs, AllMatch, AllList}
 use Rattle.model.specs.Answers.{spanOf, tagOf, spansIn, tagsIn, listingNumbers}
 use Rattle.model.specs.Matches.{Str, Match, stringsIn, strings}
-use Rattle.store.specs.Fine.{Fine}
+use Rattle.store.specs.ValidStr.{ValidStr}
 use Rattle.store.specs.Layout.{Holds}
-use Rattle.store.proofs.Back.{str-back}
-use Rattle.store.proofs.Memory.{holds-left, holds-right, holds-tail, getD-head}
+use Rattle.store.proofs.DecodeLaws.{str-back}
+use Rattle.store.proofs.MemoryLaws.{holds-left, holds-right, holds-tail, getD-head}
 use Rattle.text.specs.Printed.{stringText, lineOf, stringTexts, matchText}
 use Rattle.text.specs.Decoded.{textOf, textsAt, matchesAt, totalAt}
 
@@ -37,11 +37,11 @@ tag-sort : (q sort : ℕ) (c : Bool) → sort ≤ 1 → (q * 4 + cond c 2 0 + so
 tag-sort q sort true h = omega arith
 tag-sort q sort false h = omega arith
 
-textOf-string : (sort : ℕ) (s : Str) → sort ≤ 1 → Fine s → textOf (spanOf s) (tagOf sort s) ≡ stringText sort s
+textOf-string : (sort : ℕ) (s : Str) → sort ≤ 1 → ValidStr s → textOf (spanOf s) (tagOf sort s) ≡ stringText sort s
 textOf-string sort s h f = ap₂ stringText (tag-sort (s .query) sort (s .contiguous) h) (str-back sort s h f)
 
 -- strings of one sort
-texts-strings : {buffer : List ℕ} {s t : ℕ} (sort : ℕ) (ss : List Str) → sort ≤ 1 → AllStrs Fine ss → Holds buffer s (map spanOf ss) → Holds buffer t (map (tagOf sort) ss)
+texts-strings : {buffer : List ℕ} {s t : ℕ} (sort : ℕ) (ss : List Str) → sort ≤ 1 → AllStrs ValidStr ss → Holds buffer s (map spanOf ss) → Holds buffer t (map (tagOf sort) ss)
     → textsAt buffer s t (length ss) ≡ map (stringText sort) ss
 unfolding textsAt Every
 texts-strings sort [] h f a b = refl
@@ -51,7 +51,7 @@ texts-strings {buffer} {s} {t} sort (x ∷ ss) h f a b =
     (texts-strings sort ss h (f .1) (holds-tail (map spanOf ss) a) (holds-tail (map (tagOf sort) ss) b))
 
 -- the strings of a match
-texts-match : {buffer : List ℕ} {s t : ℕ} (m : Match) → AllMatch Fine m → Holds buffer s (spansIn m) → Holds buffer t (tagsIn m) → textsAt buffer s t (stringsIn m) ≡ stringTexts m
+texts-match : {buffer : List ℕ} {s t : ℕ} (m : Match) → AllMatch ValidStr m → Holds buffer s (spansIn m) → Holds buffer t (tagsIn m) → textsAt buffer s t (stringsIn m) ≡ stringTexts m
 texts-match {buffer} {s} {t} m f a b =
     let ins = m .includes in
     let exs = m .excludes in
@@ -68,7 +68,7 @@ texts-match {buffer} {s} {t} m f a b =
 length-columns : (f g : Str → ℕ) (m : Match) → length (map f (m .includes) ++ map g (m .excludes)) ≡ stringsIn m
 length-columns f g m = length-append (map f (m .includes)) (map g (m .excludes)) ∙ ap₂ _+_ (length-map (m .includes) f) (length-map (m .excludes) g)
 
-matches-texts : {buffer : List ℕ} {c s t : ℕ} (ms : List Match) → AllList Fine ms → Holds buffer c (map stringsIn ms) → Holds buffer s (flatMap spansIn ms)
+matches-texts : {buffer : List ℕ} {c s t : ℕ} (ms : List Match) → AllList ValidStr ms → Holds buffer c (map stringsIn ms) → Holds buffer s (flatMap spansIn ms)
     → Holds buffer t (flatMap tagsIn ms) → matchesAt buffer c s t (length ms) ≡ map stringTexts ms
 unfolding matchesAt Every flatMap
 matches-texts [] f a b d = refl
@@ -122,5 +122,5 @@ module _ {buffer : List ℕ} (ms : List Match) (h : Holds buffer 0 (listingNumbe
   pub listing-strings : totalAt buffer 2 (length ms) ≡ strings ms
   listing-strings = matches-strings ms counts-hold
 
-  pub listing-lines : AllList Fine ms → flatMap lineOf (matchesAt buffer 2 (2 + length ms) (2 + length ms + strings ms) (length ms)) ≡ flatMap matchText ms
+  pub listing-lines : AllList ValidStr ms → flatMap lineOf (matchesAt buffer 2 (2 + length ms) (2 + length ms + strings ms) (length ms)) ≡ flatMap matchText ms
   listing-lines f = ap (flatMap lineOf) (matches-texts ms f counts-hold spans-hold tags-hold) ∙ lines-texts ms

@@ -6,7 +6,7 @@ use mathlib.Core.List.{List, [], _∷_, _++_, flatMap}
 use lib.ListN.{length, getD, length-append}
 use Rattle.store.specs.Put.{Put}
 use Rattle.store.proofs.PutLaws.{put-append}
-use Rattle.store.proofs.Rows.{Rows, rows-start, rows-room, rows-step, rows-finish}
+use Rattle.store.proofs.RowsLaws.{Rows, rows-start, rows-room, rows-step, rows-finish}
 use Rattle.text.specs.Printed.{bytes, behindBlank, lineOf}
 use Rattle.text.specs.Decoded.{textOf, textsAt, matchesAt, totalAt, StringsAt, LinesAt}
 

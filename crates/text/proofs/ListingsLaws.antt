@@ -30,13 +30,13 @@ module _ {matches strs : ℕ} {ms : List Match} {buffer : List ℕ} (g : Listing
   pub listing-decoded : (said : Bool) → listedText said matches strs buffer ≡ answerText said matches strs ++ flatMap matchText ms
   unfolding listedText
   listing-decoded said =
-      let e = ap₂ (λ m k. flatMap lineOf (matchesAt buffer 2 (2 + m) (2 + m + k) m)) (g .matches-are) (g .strings-are) ∙ listing-lines ms (g .holds) (g .fine) in
+      let e = ap₂ (λ m k. flatMap lineOf (matchesAt buffer 2 (2 + m) (2 + m + k) m)) (g .matches-are) (g .strings-are) ∙ listing-lines ms (g .holds) (g .valid) in
       ap (λ l. answerText said matches strs ++ l) e
 
   pub listing-room : (said : Bool) → length (listedText said matches strs buffer) ≤ textLength
   listing-room said =
       let e = ap₂ (λ m k. answerText said m k ++ flatMap matchText ms) (g .matches-are) (g .strings-are) in
-      omega (arith, ap length (listing-decoded said ∙ e), listing-short said ms (g .few) (g .short) (g .fine))
+      omega (arith, ap length (listing-decoded said ∙ e), listing-short said ms (g .few) (g .short) (g .valid))
 
 -- what its first line leaves to its others
 pub length-listed : (said : Bool) (matches strs : ℕ) (buffer : List ℕ)

@@ -19,7 +19,7 @@ use Rattle.model.specs.declared.Listing.the-variants.{Refused}
 use Rattle.model.specs.declared.Refusal.{Refusal}
 use Rattle.model.proofs.AnswersLaws.{listingRefusal-none, complete-fits}
 use Rattle.model.proofs.ChecksLaws.{otherwise-none, accepted-section, accepted-selection}
-use Rattle.store.proofs.FineLaws.{fine-matches}
+use Rattle.store.proofs.ValidStrLaws.{valid-matches}
 use Rattle.text.specs.Input.{maxInput, numbersOf, sectionPart, selectionPart, listingOf, programText}
 use Rattle.text.specs.Printable.{ListingIn, PrintableAs, Printable}
 use Rattle.text.specs.Printed.{listingText}
@@ -58,7 +58,7 @@ module _ (section selection : List ℕ) (work : ℕ) (b : List ℕ) where
         holds = record { within = omega (arith, length-append xs (drop (length xs) b)); part = take-append-seam xs (drop (length xs) b) };
         few = fits .0;
         short = fits .1;
-        fine = fine-matches (sectionOf section) (treeOf selection) (accepted-section section (checks .0) .few) (accepted-selection selection (checks .1) .ranks);
+        valid = valid-matches (sectionOf section) (treeOf selection) (accepted-section section (checks .0) .few) (accepted-selection selection (checks .1) .ranks);
       }
 
   pub listing-held : PrintableAs (listingAnswer section selection work (length b)) (completeList section selection) (listingBuffer section selection work b)

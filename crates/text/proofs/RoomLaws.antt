@@ -1,4 +1,4 @@
--- A text is at most so long: 16 bytes for a fine string, 17 for each string of a match and 2 for its line, 12 for the first line.
+-- A text is at most so long: 16 bytes for a valid string, 17 for each string of a match and 2 for its line, 12 for the first line.
 use Prim.Native.Nat.{ℕ, _+_, _*_, _≤_, _<_}
 use native.Mathlib.Omega.{arith}
 use mathlib.Core.Bool.{Bool, true, false}
@@ -8,12 +8,12 @@ use Rattle.model.specs.AllStrings.{Every, AllStrs, AllMatch, AllList}
 use Rattle.model.specs.Limits.{maxMatches, maxStrings}
 use Rattle.model.specs.Matches.{Str, Match, stringsIn, strings}
 use Rattle.model.proofs.EveryLaws.{every-append, every-map}
-use Rattle.store.specs.Fine.{Fine}
+use Rattle.store.specs.ValidStr.{ValidStr}
 use Rattle.text.specs.Printable.{textLength}
 use Rattle.text.specs.Printed.{bytes, stringText, behindBlank, lineOf, stringTexts, matchText, headText, answerText}
 use Rattle.text.proofs.PrintedLaws.{length-decimal, length-span, length-query, length-string, length-head}
 
-string-short : (sort : ℕ) (s : Str) → Fine s → length (stringText sort s) ≤ 16
+string-short : (sort : ℕ) (s : Str) → ValidStr s → length (stringText sort s) ≤ 16
 string-short sort s f =
     omega (
       arith,
@@ -29,8 +29,8 @@ string-short sort s f =
 abbrev Short : List ℕ → Type 0
 Short text = length text ≤ 16
 
-texts-short : (sort : ℕ) (ss : List Str) → AllStrs Fine ss → Every Short (map (stringText sort) ss)
-texts-short sort ss f = every-map Short Fine (stringText sort) (string-short sort) ss f
+texts-short : (sort : ℕ) (ss : List Str) → AllStrs ValidStr ss → Every Short (map (stringText sort) ss)
+texts-short sort ss f = every-map Short ValidStr (stringText sort) (string-short sort) ss f
 
 later-short : (texts : List (List ℕ)) → Every Short texts → length (flatMap behindBlank texts) ≤ 17 * length texts
 unfolding Every flatMap
@@ -49,7 +49,7 @@ line-short (text ∷ texts) f =
       length-append text (flatMap behindBlank texts),
     )
 
-match-short : (m : Match) → AllMatch Fine m → length (matchText m) ≤ 2 + 17 * stringsIn m
+match-short : (m : Match) → AllMatch ValidStr m → length (matchText m) ≤ 2 + 17 * stringsIn m
 unfolding matchText
 match-short m f =
     let ins = map (stringText 0) (m .includes) in
@@ -62,7 +62,7 @@ match-short m f =
       length-map (m .excludes) (stringText 1),
     )
 
-lines-short : (ms : List Match) → AllList Fine ms → length (flatMap matchText ms) ≤ 2 * length ms + 17 * strings ms
+lines-short : (ms : List Match) → AllList ValidStr ms → length (flatMap matchText ms) ≤ 2 * length ms + 17 * strings ms
 unfolding Every flatMap strings
 lines-short [] f = omega arith
 lines-short (m ∷ ms) f = omega (arith, match-short m (f .0), lines-short ms (f .1), length-append (matchText m) (flatMap matchText ms))
@@ -73,7 +73,7 @@ answer-short true matches strs h i = omega (arith, length-head (bytes "yes ") ma
 answer-short false matches strs h i = omega (arith, length-head (bytes "no ") matches strs, length-decimal 2 matches (omega arith), length-decimal 2 strs (omega arith))
 
 -- the text of a listing
-pub listing-short : (said : Bool) (ms : List Match) → length ms ≤ maxMatches → strings ms ≤ maxStrings → AllList Fine ms
+pub listing-short : (said : Bool) (ms : List Match) → length ms ≤ maxMatches → strings ms ≤ maxStrings → AllList ValidStr ms
     → length (answerText said (length ms) (strings ms) ++ flatMap matchText ms) ≤ textLength
 listing-short said ms h i f =
     omega (arith, answer-short said (length ms) (strings ms) h i, lines-short ms f, length-append (answerText said (length ms) (strings ms)) (flatMap matchText ms))

@@ -7,7 +7,7 @@ use mathlib.Core.List.{List, [], _∷_, _++_}
 use lib.ListN.{length, take, getD, set}
 use lib.Seq.{sets, take-suc, take-all, length-take-le, length-sets}
 use Rattle.store.specs.Layout.{Holds}
-use Rattle.store.proofs.Memory.{sets-append, holds-written}
+use Rattle.store.proofs.MemoryLaws.{sets-append, holds-written}
 
 module _ (b : List ℕ) (at : ℕ) (xs : List ℕ) (i : ℕ) where
   pub sets-more : i < length xs → set (sets b at (take i xs)) (at + i) (getD xs i 0) ≡ sets b at (take (i + 1) xs)

@@ -1,4 +1,4 @@
--- What printing an answer takes: of a refusal nothing; of a listing its numbers in the buffer, a list within the limits and every string fine.
+-- What printing an answer takes: of a refusal nothing; of a listing its numbers in the buffer, a list within the limits and every string valid.
 use Prim.Native.Nat.{ℕ, _≤_}
 use mathlib.Core.List.{List}
 use mathlib.Core.Path.{_≡_}
@@ -9,7 +9,7 @@ use Rattle.model.specs.Limits.{maxMatches, maxStrings}
 use Rattle.model.specs.Matches.{Match, strings}
 use Rattle.model.specs.declared.Listing.{Listing}
 use Rattle.model.specs.declared.Listing.the-variants.{Listed, Refused}
-use Rattle.store.specs.Fine.{Fine}
+use Rattle.store.specs.ValidStr.{ValidStr}
 use Rattle.store.specs.Layout.{Holds}
 
 -- how many bytes a text has at most: a first line of 12 for a listing, as "yes 256 512"; 2 for each of 256 matches, as "." and its line's end; and 17
@@ -23,7 +23,7 @@ pub record ListingIn (matches strs : ℕ) (ms : List Match) (buffer : List ℕ) 
   pub holds : Holds buffer 0 (listingNumbers ms)
   pub few : length ms ≤ maxMatches
   pub short : strings ms ≤ maxStrings
-  pub fine : AllList Fine ms
+  pub valid : AllList ValidStr ms
 
 abbrev pub PrintableAs : Listing → List Match → List ℕ → Type 0
 PrintableAs (Listed matches strs yes') ms buffer = ListingIn matches strs ms buffer

@@ -15,7 +15,7 @@ ghost use Rattle.text.specs.Printed.{contiguousMark, queryText, sortMark
 fn sort_mark(tag: u32) -> u8
     ensures { λ r. ⌜ r ≡ sortMark (tag % 2) ⌝ }
 {
-    if tag % 2 == 0 {
+    if strings::sort_of(tag) == 0 {
         return b'+';
     }
     b'!'
@@ -25,7 +25,7 @@ fn sort_mark(tag: u32) -> u8
 fn contiguous_mark(tag: u32) -> u8
     ensures { λ r. ⌜ r ≡ contiguousMark (eqb (tag / 2 % 2) 1) ⌝ }
 {
-    if tag / 2 % 2 == 1 {
+    if strings::is_contiguous(tag) {
         return b'c';
     }
     b'n'

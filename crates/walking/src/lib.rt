@@ -41,7 +41,7 @@ fn build_part(section: &[u32], selection: &[u32], work: &mut [u32], hi: u32) -> 
     if let Part::Refused(refusal) = part {
         return answers::too_long(refusal.place);
     }
-    let yes = output::is_yes(work, 0);
+    let yes = store::is_yes(work, 0);
     let codes = count_codes(selection, lo, hi);
     answers::answered(yes, codes)
 }

@@ -1,14 +1,12 @@
 -- The strings inside a window: tested by their two numbers, and copied one behind the other, which comes to the numbers of those that are kept.
 use Prim.Native.Nat.{ℕ, _+_, _*_, _/_, _%_, _≤_, _<_}
 use native.Mathlib.Omega.{arith}
-use native.Mathlib.Numerals.{add-one}
 use mathlib.Core.Path.{_≡_, refl, sym, ap, ap₂, _∙_, subst}
 use mathlib.Core.Bool.{Bool, true, false, cond}
 use mathlib.Core.List.{List, [], _∷_, flatMap}
 use borrow.Author.Tests.{le-ltb, lt-ltb}
 use lib.Dec.{leb}
-use lib.ListN.{length, getD, set}
-use lib.Seq.{sets}
+use lib.ListN.{length, getD}
 use Rattle.model.specs.AllStrings.{AllStrs, Every}
 use Rattle.model.specs.Answers.{spanOf, tagOf}
 use Rattle.model.specs.Limits.{radix}
@@ -17,14 +15,14 @@ use Rattle.model.specs.Matches.{Str}
 use Rattle.model.specs.Rules.{insideWindow}
 use Rattle.model.proofs.RulesLaws.{length-none}
 use Rattle.strings.specs.Strings.{strOf, strsOf}
-use Rattle.store.specs.Fine.{Fine}
+use Rattle.store.specs.ValidStr.{ValidStr}
 use Rattle.store.specs.Layout.{Holds}
 use Rattle.store.specs.Put.{Put}
-use Rattle.store.proofs.Back.{str-back}
+use Rattle.store.proofs.DecodeLaws.{str-back}
 use Rattle.store.proofs.LayoutLaws.{length-strsOf}
-use Rattle.store.proofs.Memory.{getD-head, holds-tail}
+use Rattle.store.proofs.MemoryLaws.{getD-head, holds-tail}
 use Rattle.store.proofs.PutLaws.{put-none, holds-below}
-use Rattle.store.proofs.Rows.{Rows, rows-start, rows-room, rows-step, rows-finish, flatMap-keep}
+use Rattle.store.proofs.RowsLaws.{Rows, rows-start, rows-room, rows-step, rows-finish, flatMap-keep}
 use Rattle.window.specs.Inside.{ExcludesAt, insideNumbers, StringAt}
 
 -- ---- insideWindow
@@ -49,10 +47,8 @@ module _ {n last : ℕ} {mem : List ℕ} {i q : ℕ} (w : StringAt n last mem i 
   pub put-outside : test ≡ false → Put mem mem q (insideNumbers n last span tag) q
   put-outside f = subst (λ t. Put mem mem q (cond t (span ∷ tag ∷ []) []) q) (sym (sym e ∙ f)) (put-none mem q)
 
-  pub put-one : test ≡ true → Put mem (set (set mem q span) (q + 1) tag) q (insideNumbers n last span tag) (q + 2)
-  put-one f =
-      let stored : set (set mem q span) (q + 1) tag ≡ sets mem q (span ∷ tag ∷ []) = ap (λ k. set (set mem q span) k tag) (add-one q) in
-      subst (λ t. Put mem (set (set mem q span) (q + 1) tag) q (cond t (span ∷ tag ∷ []) []) (q + 2)) (sym (sym e ∙ f)) (record { wrote = stored; next-is = refl })
+  pub put-one : test ≡ true → {exit : List ℕ} {next : ℕ} → Put mem exit q (span ∷ tag ∷ []) next → Put mem exit q (insideNumbers n last span tag) next
+  put-one f {exit} {next} v = subst (λ t. Put mem exit q (cond t (span ∷ tag ∷ []) []) next) (sym (sym e ∙ f)) v
 
   pub one-room : test ≡ true → q + 2 ≤ length mem
   one-room f = subst (λ t. q + length (cond t (span ∷ tag ∷ []) []) ≤ length mem) (sym e ∙ f) (w .room)
@@ -75,7 +71,7 @@ rows-inside n last ss = sym (strsOf-rows (keep (insideWindow n last) ss) ∙ fla
 pub record Copying (n last : ℕ) (list : List Str) (mem₀ : List ℕ) (e q : ℕ) (mem : List ℕ) (next i : ℕ) : Type 0 where
   pub todo : List Str
   pub holds : Holds mem i (strsOf 1 todo)
-  pub fine : AllStrs Fine todo
+  pub valid : AllStrs ValidStr todo
   pub end-is : e ≡ i + 2 * length todo
   pub rows : Rows (rowOf n last) list todo mem₀ mem q next
 
@@ -85,16 +81,16 @@ record Here (n last : ℕ) (mem : List ℕ) (e i : ℕ) (todo : List Str) : Type
   pub rest : List Str
   pub is : todo ≡ first ∷ rest
   pub holds : Holds mem (i + 2) (strsOf 1 rest)
-  pub fine : AllStrs Fine rest
+  pub valid : AllStrs ValidStr rest
   pub end-is : e ≡ i + 2 + 2 * length rest
   pub row : insideNumbers n last (getD mem i 0) (getD mem (i + 1) 0) ≡ rowOf n last first
 
 module _ {n last : ℕ} {mem : List ℕ} {a e q : ℕ} (w : ExcludesAt n last mem a e q) where
   pub copy-start : Copying n last (w .list) mem e q mem q a
-  copy-start = record { todo = w .list; holds = w .holds; fine = w .fine; end-is = w .end-is; rows = rows-start }
+  copy-start = record { todo = w .list; holds = w .holds; valid = w .valid; end-is = w .end-is; rows = rows-start }
 
 module _ {n last : ℕ} {mem₀ : List ℕ} {a e q : ℕ} (w : ExcludesAt n last mem₀ a e q) {mem : List ℕ} {next i : ℕ} (g : Copying n last (w .list) mem₀ e q mem next i) where
-  here : (todo : List Str) → Holds mem i (strsOf 1 todo) → AllStrs Fine todo → e ≡ i + 2 * length todo → i < e → Here n last mem e i todo
+  here : (todo : List Str) → Holds mem i (strsOf 1 todo) → AllStrs ValidStr todo → e ≡ i + 2 * length todo → i < e → Here n last mem e i todo
   unfolding strsOf Every
   here [] r f d h = absurd (omega arith)
   here (s ∷ ss) r f d h =
@@ -106,7 +102,7 @@ module _ {n last : ℕ} {mem₀ : List ℕ} {a e q : ℕ} (w : ExcludesAt n last
         rest = ss;
         is = refl;
         holds = two;
-        fine = f .1;
+        valid = f .1;
         end-is = omega arith;
         row =
             ap₂ (insideNumbers n last) (getD-head _ r) (getD-head _ behind)
@@ -115,7 +111,7 @@ module _ {n last : ℕ} {mem₀ : List ℕ} {a e q : ℕ} (w : ExcludesAt n last
 
   module _ (h : i < e) where
     one : Here n last mem e i (g .todo)
-    one = here (g .todo) (g .holds) (g .fine) (g .end-is) h
+    one = here (g .todo) (g .holds) (g .valid) (g .end-is) h
 
     pub string-at : StringAt n last mem i next
     string-at =
@@ -133,7 +129,7 @@ module _ {n last : ℕ} {mem₀ : List ℕ} {a e q : ℕ} (w : ExcludesAt n last
         record {
           todo = one .rest;
           holds = holds-below v (omega (arith, one .end-is, length-strsOf 1 (one .rest), w .below, g .rows .put .next-is)) (one .holds);
-          fine = one .fine;
+          valid = one .valid;
           end-is = one .end-is;
           rows = rows-step (g .rows) (one .is) (subst (λ xs. Put mem mem' next xs next') (one .row) v);
         }

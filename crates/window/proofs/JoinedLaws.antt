@@ -1,6 +1,6 @@
 -- A match without includes has no window. Any other has a join of one string, whose span is from least start to greatest end: so it says where the windows
 -- end.
-use Prim.Native.Nat.{ℕ, _+_, _-_, _*_, _/_, _%_, _≤_, _<_}
+use Prim.Native.Nat.{ℕ, _+_, _-_, _/_, _%_, _≤_, _<_}
 use native.Mathlib.Omega.{arith}
 use mathlib.Core.Path.{_≡_, refl, sym, ap, ap₂, _∙_}
 use mathlib.Core.List.{List, [], _∷_}
@@ -15,10 +15,11 @@ use Rattle.model.proofs.RulesLaws.{length-none, start-leastStart, window-none}
 use Rattle.strings.specs.Strings.{strsAt, strsOf}
 use Rattle.joining.specs.Joined.{joined}
 use Rattle.joining.proofs.JoiningLaws.{end-bound, join-some, strsOf-join}
-use Rattle.store.specs.Fine.{Fine}
-use Rattle.store.specs.Layout.{includesIn}
+use Rattle.store.specs.ValidStr.{ValidStr}
+use Rattle.store.specs.declared.Bounds.{Bounds}
+use Rattle.store.specs.Layout.{BoundsOf}
 use Rattle.store.specs.Stream.{MatchHolds}
-use Rattle.store.proofs.Back.{includes-held, includes-read}
+use Rattle.store.proofs.DecodeLaws.{includes-held, includes-within}
 
 -- the last positions of the windows around strings, by their join
 ends-some : (n : ℕ) (ss : List Str) → (length ss ≡ 0 → ⊥) → windowEnds n ss ≡ fromTo (joined ss .end) (joined ss .start + n - 1)
@@ -26,36 +27,36 @@ unfolding windowEnds joined join
 ends-some n [] h = absurd (h refl)
 ends-some n (s ∷ ss) h = refl
 
-start-some : (ss : List Str) → AllStrs Fine ss → joined ss .start ≤ maxTokens
+start-some : (ss : List Str) → AllStrs ValidStr ss → joined ss .start ≤ maxTokens
 unfolding joined join Every
 start-some [] f = omega arith
 start-some (s ∷ ss) f = omega (arith, start-leastStart s ss .0, f .0 .in-order, f .0 .end-up-to)
 
--- a match at p, its includes counted
-module _ {mem : List ℕ} {p : ℕ} {m : Match} (r : MatchHolds mem p m) {i : ℕ} (e : i ≡ includesIn (getD mem p 0)) where
-  pub window-dropped : (n : ℕ) → i ≡ 0 → window n m ≡ []
-  window-dropped n z = window-none n m (length-none (m .includes) (sym (includes-held r) ∙ sym e ∙ z))
+-- a match at p, by its bounds
+module _ {mem : List ℕ} {p : ℕ} {m : Match} (r : MatchHolds mem p m) {b : Bounds} (e : BoundsOf (getD mem p 0) p b) where
+  pub window-dropped : (n : ℕ) → b .includes ≡ b .excludes → window n m ≡ []
+  window-dropped n z = window-none n m (length-none (m .includes) (omega (arith, includes-held r, e)))
 
   -- .. and some
-  module _ (some : i ≡ 0 → ⊥) where
+  module _ (some : b .includes ≡ b .excludes → ⊥) where
     some-includes : length (m .includes) ≡ 0 → ⊥
-    some-includes z = some (e ∙ includes-held r ∙ z)
+    some-includes z = some (omega (arith, includes-held r, e))
 
     pub length-join-one : length (join (m .includes)) ≡ 1
     length-join-one = ap length (join-some (m .includes) some-includes)
 
     abbrev pub part : List ℕ
-    part = take (p + 1 + 2 * i - (p + 1)) (drop (p + 1) mem)
+    part = take (b .excludes - b .includes) (drop (b .includes) mem)
 
     read : strsAt part ≡ m .includes
-    read = includes-read r (p + 1) (p + 1 + 2 * i) refl (omega arith)
+    read = includes-within r e
 
     some-read : length (strsAt part) ≡ 0 → ⊥
     some-read z = some-includes (ap length (sym read) ∙ z)
 
     -- the start of the join ..
     pub start-low : {start : ℕ} → start ≡ joined (strsAt part) .start → start < radix
-    start-low a = omega (arith, a, ap (λ ss. joined ss .start) read, start-some (m .includes) (r .fine .includes))
+    start-low a = omega (arith, a, ap (λ ss. joined ss .start) read, start-some (m .includes) (r .valid .includes))
 
     -- .. and its end say where the windows end
     pub ends-are : (n : ℕ) {start end : ℕ} → start ≡ joined (strsAt part) .start → end ≡ joined (strsAt part) .end

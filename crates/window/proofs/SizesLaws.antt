@@ -17,15 +17,16 @@ use Rattle.model.proofs.RulesLaws.{strings-append}
 use Rattle.joining.specs.Joined.{joined}
 use Rattle.strings.specs.Strings.{strsAt}
 use Rattle.strings.proofs.StringsLaws.{Left as StringsLeft, left-next, left-none, length-strsAt}
+use Rattle.store.specs.declared.Bounds.{Bounds}
 use Rattle.store.specs.declared.Built.{Built}
 use Rattle.store.specs.declared.Built.the-variants.{Made, TooLong}
 use Rattle.store.specs.Built.{sizedAs, builtOf, Small}
-use Rattle.store.specs.Layout.{excludesIn, includesIn, matchLength}
+use Rattle.store.specs.Layout.{BoundsOf, matchLength}
 use Rattle.store.specs.Slot.{SlotHolds}
-use Rattle.store.specs.Stream.{Left}
-use Rattle.store.proofs.Back.{excludes-read}
-use Rattle.store.proofs.Slots.{answer-long, answer-made, built-made, not-long, slot-stream}
-use Rattle.store.proofs.Walking.{Next, next, none-left}
+use Rattle.store.specs.Stream.{Remaining}
+use Rattle.store.proofs.DecodeLaws.{excludes-within}
+use Rattle.store.proofs.SlotsLaws.{answer-long, answer-made, built-made, matches-held, not-long, slot-stream}
+use Rattle.store.proofs.StreamLaws.{Next, next-counted, none-counted}
 use Rattle.window.specs.Inside.{WindowSize}
 use Rattle.window.specs.Sizes.{SizeAt, timesInside, windowsAround}
 use Rattle.window.proofs.JoinedLaws.{ends-are, length-join-one, part, window-dropped}
@@ -111,22 +112,22 @@ module _ {n : ℕ} (start end : ℕ) (m : Match) (size : WindowSize n) (ends : w
 
 -- ---- size_with
 
-module _ {n : ℕ} {mem : List ℕ} {p matches strs : ℕ} (w : SizeAt n mem p matches strs) {i : ℕ} (e : i ≡ includesIn (getD mem p 0)) where
+module _ {n : ℕ} {mem : List ℕ} {p matches strs : ℕ} (w : SizeAt n mem p matches strs) {b : Bounds} (e : BoundsOf (getD mem p 0) p b) where
   abbrev longer : List Match
   longer = w .list ++ window n (w .item)
 
-  pub size-dropped : i ≡ 0 → Made matches strs ≡ builtOf (w .list ++ window n (w .item))
+  pub size-dropped : b .includes ≡ b .excludes → Made matches strs ≡ builtOf (w .list ++ window n (w .item))
   size-dropped z =
       let same : longer ≡ w .list = ap (λ ms. w .list ++ ms) (window-dropped (w .held) e n z) ∙ append-nil (w .list) in
       built-made (w .list) (w .matches-are) (w .strings-are) (omega (arith, w .matches-are, w .strings-are, w .few-matches, w .few-strings)) ∙ ap builtOf (sym same)
 
   -- what the join and the excludes tell of the windows is so
-  pub size-counted : (some : i ≡ 0 → ⊥) {start end : ℕ} → start ≡ joined (strsAt (part (w .held) e some)) .start → end ≡ joined (strsAt (part (w .held) e some)) .end
-      → {x : ℕ} → x ≡ excludesIn (getD mem p 0) → {built : Built}
+  pub size-counted : (some : b .includes ≡ b .excludes → ⊥) {start end : ℕ} → start ≡ joined (strsAt (part (w .held) e some)) .start → end ≡ joined (strsAt (part (w .held) e some)) .end
+      → {built : Built}
       → built ≡ sizedAs (matches + windowsAround n start end)
-      (strs + (windowsAround n start end + timesInside n start end (strsAt (take (p + 1 + 2 * i + 2 * x - (p + 1 + 2 * i)) (drop (p + 1 + 2 * i) mem)))))
+      (strs + (windowsAround n start end + timesInside n start end (strsAt (take (b .end - b .excludes) (drop (b .excludes) mem)))))
       → built ≡ builtOf (w .list ++ window n (w .item))
-  size-counted some {start} {end} from to {x} f b =
+  size-counted some {start} {end} from to f =
       let m = w .item in
       let held = w .held in
       let ends = ends-are held e some n from to in
@@ -137,8 +138,7 @@ module _ {n : ℕ} {mem : List ℕ} {p matches strs : ℕ} (w : SizeAt n mem p m
       omega (arith, length-append (w .list) (window n m), w .matches-are, length-windows start end m (w .size) ends one) in
       let strings-now : strs + (windows + times (m .excludes)) ≡ strings longer =
       omega (arith, strings-append (w .list) (window n m), w .strings-are, strings-windows start end m (w .size) ends one) in
-      let read = excludes-read held (p + 1 + 2 * i) (p + 1 + 2 * i + 2 * x) (omega arith) (omega arith) in
-      b ∙ ap₂ sizedAs matches-now (ap (λ ss. strs + (windows + times ss)) read ∙ strings-now)
+      f ∙ ap₂ sizedAs matches-now (ap (λ ss. strs + (windows + times ss)) (excludes-within held e) ∙ strings-now)
 
 -- ---- window_size
 
@@ -157,7 +157,9 @@ long-before ms ns e = at (tooLong (ms ++ ns)) refl
 -- before match number i of count, at p: the windows of the matches before it are counted
 pub record Sizing (n : ℕ) (list : List Match) (mem : List ℕ) (count p matches strs i : ℕ) : Type 0 where
   pub todo : List Match
-  pub left : Left todo mem p i count
+  pub end : ℕ
+  pub left : Remaining todo mem p end
+  pub count-is : i + length todo ≡ count
   pub done : List Match
   pub split : flatMap (window n) list ≡ done ++ flatMap (window n) todo
   pub made : Made matches strs ≡ builtOf done
@@ -165,12 +167,20 @@ pub record Sizing (n : ℕ) (list : List Match) (mem : List ℕ) (count p matche
 pub size-start : (n : ℕ) {mem : List ℕ} {src : ℕ} {list : List Match} → SlotHolds mem src list → Sizing n list mem (getD mem src 0) (src + 2) 0 0 0
 unfolding strings
 size-start n {mem} {src} {list} s =
-    record { todo = list; left = slot-stream s (src + 2) (getD mem src 0) refl refl; done = []; split = refl; made = built-made [] refl refl (omega arith) }
+    record {
+      todo = list;
+      end = _;
+      left = slot-stream s _ _ refl refl;
+      count-is = omega (arith, matches-held s);
+      done = [];
+      split = refl;
+      made = built-made [] refl refl (omega arith);
+    }
 
 module _ {n : ℕ} {list : List Match} {mem : List ℕ} {count p matches strs i : ℕ} (g : Sizing n list mem count p matches strs i) where
   module _ (h : i < count) where
-    here : Next (g .todo) mem p i count
-    here = next (g .left) h
+    here : Next (g .todo) mem p (g .end)
+    here = next-counted (g .left) (g .count-is) h
 
     split-next : flatMap (window n) list ≡ (g .done ++ window n (here .first)) ++ flatMap (window n) (here .rest)
     unfolding flatMap
@@ -199,8 +209,16 @@ module _ {n : ℕ} {list : List Match} {mem : List ℕ} {count p matches strs i 
       module _ {built : Built} (e : built ≡ builtOf (size-item .list ++ window n (size-item .item))) where
         pub size-next : {m s len : ℕ} → built ≡ Made m s → len ≡ matchLength (getD mem p 0) → Sizing n list mem count (p + len) m s (i + 1)
         unfolding size-item
-        size-next {len = len} f l =
-            record { todo = here .rest; left = here .after len l; done = g .done ++ window n (here .first); split = split-next; made = sym f ∙ e }
+        size-next f l =
+            record {
+              todo = here .rest;
+              end = g .end;
+              left = here .after _ (ap (λ k. p + k) l);
+              count-is = omega (arith, g .count-is, here .one-less);
+              done = g .done ++ window n (here .first);
+              split = split-next;
+              made = sym f ∙ e;
+            }
 
         pub size-over : built ≡ TooLong → built ≡ builtOf (flatMap (window n) list)
         unfolding size-item
@@ -208,4 +226,4 @@ module _ {n : ℕ} {list : List Match} {mem : List ℕ} {count p matches strs i 
 
   pub size-end : count ≤ i → Made matches strs ≡ builtOf (flatMap (window n) list)
   unfolding flatMap
-  size-end h = g .made ∙ ap builtOf (sym (g .split ∙ ap (λ ms. g .done ++ flatMap (window n) ms) (none-left (g .left) h) ∙ append-nil (g .done)))
+  size-end h = g .made ∙ ap builtOf (sym (g .split ∙ ap (λ ms. g .done ++ flatMap (window n) ms) (none-counted (g .left) (g .count-is) h) ∙ append-nil (g .done)))

@@ -1,25 +1,26 @@
--- The windows of a match, written one by one: each is its header, the join and the excludes inside it, and has one string more than those excludes.
-use Prim.Native.Nat.{ℕ, suc, _+_, _-_, _*_, _/_, _%_, _≤_, _<_}
+-- The windows of a match, written one by one: each is the join and the excludes inside it, with its header in front, and has one string more than those excludes.
+use Prim.Native.Nat.{ℕ, _+_, _-_, _*_, _/_, _%_, _≤_, _<_}
 use native.Mathlib.Omega.{arith}
-use mathlib.Core.Path.{_≡_, refl, sym, ap, ap₂, _∙_, subst}
-use mathlib.Core.List.{List, [], _∷_, _++_, flatMap, map}
+use mathlib.Core.Path.{_≡_, sym, ap, ap₂, _∙_, subst}
+use mathlib.Core.List.{List, [], _∷_, flatMap, map}
 use lib.ListN.{length, getD, set}
 use Rattle.model.specs.Answers.{spanOf, tagOf}
 use Rattle.model.specs.Limits.{maxStrings, radix}
 use Rattle.model.specs.Lists.{keep, fromTo}
-use Rattle.model.specs.Matches.{Match, Str}
+use Rattle.model.specs.Matches.{Match, stringsIn}
 use Rattle.model.specs.Rules.{insideWindow, join, window, windowEnds, windowTo}
 use Rattle.model.proofs.ListsLaws.{length-keep, range-cons, range-empty}
 use Rattle.joining.specs.Joined.{joined}
 use Rattle.strings.specs.Strings.{strsAt, strsOf}
+use Rattle.store.specs.declared.Bounds.{Bounds}
 use Rattle.store.specs.Each.{OneAt}
-use Rattle.store.specs.Layout.{excludesIn, headerOf, includesIn, matchNumbers, matchesNumbers}
-use Rattle.store.specs.Places.{Counts}
+use Rattle.store.specs.Layout.{BoundsOf, headerBetween, matchNumbers, matchesNumbers}
+use Rattle.store.specs.Places.{ClosingMatch}
 use Rattle.store.specs.Put.{Put}
-use Rattle.store.proofs.Back.{excludes-held, excludes-hold}
+use Rattle.store.proofs.DecodeLaws.{excludes-held, excludes-hold}
 use Rattle.store.proofs.LayoutLaws.{length-match, length-strsOf, matches-map, matches-none}
-use Rattle.store.proofs.PutLaws.{holds-below, length-put, put-front, put-none}
-use Rattle.store.proofs.Rows.{Rows, rows-start, rows-room, rows-step, rows-finish}
+use Rattle.store.proofs.PutLaws.{closed-match, closing-match, holds-below, length-put, put-none}
+use Rattle.store.proofs.RowsLaws.{Rows, rows-start, rows-room, rows-step, rows-finish}
 use Rattle.window.specs.Inside.{ExcludesAt, WindowSize}
 use Rattle.window.specs.Sizes.{windowsAround}
 use Rattle.window.specs.Windows.{Source, WindowAt, WindowsAt}
@@ -35,50 +36,42 @@ module _ {n : ℕ} {m : Match} {mem : List ℕ} {x e q span tag : ℕ} (s : Sour
   few-window : length (keep (insideWindow n last) (m .excludes)) ≤ maxStrings
   few-window = omega (arith, length-keep (insideWindow n last) (m .excludes), s .few)
 
--- what is written of a window behind its join
-pub record Behind (size q next : ℕ) : Type 0 where
-  pub from : q + 3 ≤ next
-  pub counts : Counts 1 ((next - (q + 3)) / 2)
-  pub room : q + 3 ≤ size
-
 module _ {n last : ℕ} {mem : List ℕ} {x e q span tag : ℕ} (w : WindowAt n last mem x e q span tag) where
-  -- its match's excludes, and room behind its join for those inside
-  pub excludes-at : ExcludesAt n last mem x e (q + 3)
-  excludes-at =
-      let s = w .source in
-      record {
-        list = w .item .excludes;
-        size = s .size;
-        holds = s .holds;
-        fine = s .fine;
-        end-is = s .end-is;
-        below = omega (arith, s .below);
-        room = omega (arith, w .room, length-window-to s last);
-      }
+  -- room for its join
+  pub join-room : q + 1 + 2 ≤ length mem
+  join-room = omega (arith, w .room, length-window-to (w .source) last)
 
-  module _ {b : List ℕ} {next : ℕ} (v : Put mem b (q + 3) (strsOf 1 (keep (insideWindow n last) (excludes-at .list))) next) where
-    abbrev kept : List Str
-    kept = keep (insideWindow n last) (w .item .excludes)
+  module _ {mem₁ : List ℕ} {excludes : ℕ} (v : Put mem mem₁ (q + 1) (span ∷ tag ∷ []) excludes) where
+    -- its match's excludes, and room behind its join for those inside
+    pub excludes-at : ExcludesAt n last mem₁ x e excludes
+    excludes-at =
+        let s = w .source in
+        record {
+          list = w .item .excludes;
+          size = s .size;
+          holds = holds-below v (omega (arith, s .below, s .end-is, length-strsOf 1 (w .item .excludes))) (s .holds);
+          valid = s .valid;
+          end-is = s .end-is;
+          below = omega (arith, s .below, v .next-is);
+          room = omega (arith, w .room, length-window-to s last, v .next-is, length-put v);
+        }
 
-    behind-is : next ≡ q + 3 + 2 * length kept
-    unfolding excludes-at
-    behind-is = v .next-is ∙ ap (λ k. q + 3 + k) (length-strsOf 1 kept)
+    join-put : Put mem mem₁ (q + 1) (strsOf 0 (join (w .item .includes))) excludes
+    join-put = subst (λ xs. Put mem mem₁ (q + 1) xs excludes) (sym (w .source .joins)) v
 
-    pub behind : Behind (length b) q next
-    behind = omega (arith, behind-is, few-window (w .source) last, w .room, length-window-to (w .source) last, length-put v)
+    module _ {mem₂ : List ℕ} {end : ℕ} (u : Put mem₁ mem₂ excludes (strsOf 1 (keep (insideWindow n last) (excludes-at .list))) end) where
+      excludes-put : Put mem₁ mem₂ excludes (strsOf 1 (keep (insideWindow n last) (w .item .excludes))) end
+      unfolding excludes-at
+      excludes-put = u
 
-    -- then the header and the join in front of them
-    pub window-put : {header : ℕ} → header ≡ headerOf 1 ((next - (q + 3)) / 2)
-        → Put mem (set (set (set b q header) (q + 1) span) (q + 2) tag) q (matchNumbers (windowTo n (w .item) last)) next
-    unfolding excludes-at matchNumbers
-    window-put {header} e =
-        let c : List ℕ = set (set (set b q header) (q + 1) span) (q + 2) tag in
-        let one : q + 1 ≡ suc q = omega arith in
-        let two : q + 2 ≡ suc (suc q) = omega arith in
-        let front : Put b c q (header ∷ span ∷ tag ∷ []) (q + 3) = record { wrote = ap₂ (λ j k. set (set (set b q header) j span) k tag) one two; next-is = refl } in
-        let head : header ≡ headerOf (length (join (w .item .includes))) (length kept) =
-        omega (arith, behind-is, ap length (w .source .joins), length-strsOf 0 (join (w .item .includes))) in
-        subst (λ xs. Put mem c q xs next) (ap₂ (λ h ys. h ∷ (ys ++ strsOf 1 kept)) head (sym (w .source .joins))) (put-front v front)
+      pub window-ends : ClosingMatch (length mem₂) q excludes end
+      window-ends =
+          let few : stringsIn (windowTo n (w .item) last) < radix =
+          omega (arith, few-window (w .source) last, ap length (w .source .joins), length-strsOf 0 (join (w .item .includes))) in
+          closing-match q (windowTo n (w .item) last) join-put excludes-put few (omega (arith, join-room))
+
+      pub window-put : {exit : List ℕ} → exit ≡ set mem₂ q (headerBetween q excludes end) → Put mem exit q (matchNumbers (windowTo n (w .item) last)) end
+      window-put h = closed-match q (windowTo n (w .item) last) join-put excludes-put h
 
 -- ---- the windows of one match
 
@@ -108,7 +101,7 @@ module _ {n : ℕ} {mem₀ : List ℕ} {x e q span tag : ℕ} (w : WindowsAt n m
         record {
           size = s .size;
           holds = holds-below (g .rows .put) under (s .holds);
-          fine = s .fine;
+          valid = s .valid;
           few = s .few;
           end-is = s .end-is;
           below = omega (arith, s .below, g .rows .put .next-is);
@@ -136,14 +129,14 @@ module _ {n : ℕ} {mem₀ : List ℕ} {x e q span tag : ℕ} (w : WindowsAt n m
 
 -- ---- a match with or without includes
 
-module _ (n : ℕ) {mem : List ℕ} {p q : ℕ} (w : OneAt (window n) mem p q) {i : ℕ} (e : i ≡ includesIn (getD mem p 0)) where
+module _ (n : ℕ) {mem : List ℕ} {p q : ℕ} (w : OneAt (window n) mem p q) {b : Bounds} (e : BoundsOf (getD mem p 0) p b) where
   none-put : window n (w .item) ≡ [] → Put mem mem q (matchesNumbers (window n (w .item))) q
   none-put z = subst (λ xs. Put mem mem q xs q) (sym (ap matchesNumbers z ∙ matches-none)) (put-none mem q)
 
-  pub dropped : i ≡ 0 → Put mem mem q (matchesNumbers (window n (w .item))) q
+  pub dropped : b .includes ≡ b .excludes → Put mem mem q (matchesNumbers (window n (w .item))) q
   dropped z = none-put (window-dropped (w .one .held) e n z)
 
-  module _ (size : WindowSize n) (some : i ≡ 0 → ⊥) {span : ℕ} (s : span ≡ spanOf (joined (strsAt (part (w .one .held) e some)))) where
+  module _ (size : WindowSize n) (some : b .includes ≡ b .excludes → ⊥) {span : ℕ} (s : span ≡ spanOf (joined (strsAt (part (w .one .held) e some)))) where
     -- a join that is wider than the windows
     pub too-wide : {start end windows : ℕ} → start ≡ span / radix → end ≡ span % radix → windows ≡ windowsAround n start end → windows ≡ 0
         → Put mem mem q (matchesNumbers (window n (w .item))) q
@@ -152,19 +145,19 @@ module _ (n : ℕ) {mem : List ℕ} {p q : ℕ} (w : OneAt (window n) mem p q) {
         let none = range-empty (span % radix) (span / radix + n - 1) (omega (arith, size .from-one)) in
         none-put (ap (map (windowTo n (w .item))) (ends-by-span (w .one .held) e some s n ∙ none))
 
-    module _ {tag x : ℕ} (t : tag ≡ tagOf 0 (joined (strsAt (part (w .one .held) e some)))) (f : x ≡ excludesIn (getD mem p 0)) where
-      pub windows-at : WindowsAt n mem (p + 1 + 2 * i) (p + 1 + 2 * i + 2 * x) q span tag
+    module _ {tag : ℕ} (t : tag ≡ tagOf 0 (joined (strsAt (part (w .one .held) e some)))) where
+      pub windows-at : WindowsAt n mem (b .excludes) (b .end) q span tag
       windows-at =
           let held = w .one .held in
           record {
             item = w .item;
             source = record {
               size = size;
-              holds = excludes-hold held (p + 1 + 2 * i) (omega arith);
-              fine = held .fine .excludes;
+              holds = excludes-hold held (b .excludes) (omega (arith, e));
+              valid = held .valid .excludes;
               few = omega (arith, held .few);
-              end-is = omega (arith, excludes-held held);
-              below = omega (arith, w .one .below);
+              end-is = omega (arith, excludes-held held, e);
+              below = omega (arith, w .one .below, e);
               joins = joins-are held e some s t;
             };
             ends = ends-by-span held e some s n;

@@ -10,7 +10,7 @@ use Rattle.model.specs.Lists.{keep}
 use Rattle.model.specs.Matches.{Str}
 use Rattle.model.specs.Rules.{insideWindow}
 use Rattle.strings.specs.Strings.{strOf, strsOf}
-use Rattle.store.specs.Fine.{Fine}
+use Rattle.store.specs.ValidStr.{ValidStr}
 use Rattle.store.specs.Layout.{Holds}
 
 -- "N, 1 to 4,096"
@@ -33,7 +33,7 @@ pub record ExcludesAt (n last : ℕ) (mem : List ℕ) (a e q : ℕ) : Type 0 whe
   pub list : List Str
   pub size : WindowSize n
   pub holds : Holds mem a (strsOf 1 list)
-  pub fine : AllStrs Fine list
+  pub valid : AllStrs ValidStr list
   pub end-is : e ≡ a + 2 * length list
   pub below : e ≤ q
   pub room : q + 2 * length (keep (insideWindow n last) list) ≤ length mem

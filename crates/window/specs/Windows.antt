@@ -9,7 +9,7 @@ use Rattle.model.specs.Lists.{fromTo}
 use Rattle.model.specs.Matches.{Match}
 use Rattle.model.specs.Rules.{join, window, windowEnds, windowTo}
 use Rattle.strings.specs.Strings.{strsOf}
-use Rattle.store.specs.Fine.{Fine}
+use Rattle.store.specs.ValidStr.{ValidStr}
 use Rattle.store.specs.Layout.{Holds, matchNumbers, matchesNumbers}
 use Rattle.window.specs.Inside.{WindowSize}
 
@@ -17,7 +17,7 @@ use Rattle.window.specs.Inside.{WindowSize}
 pub record Source (n : ℕ) (m : Match) (mem : List ℕ) (x e q span tag : ℕ) : Type 0 where
   pub size : WindowSize n
   pub holds : Holds mem x (strsOf 1 (m .excludes))
-  pub fine : AllStrs Fine (m .excludes)
+  pub valid : AllStrs ValidStr (m .excludes)
   pub few : length (m .excludes) ≤ maxStrings
   pub end-is : e ≡ x + 2 * length (m .excludes)
   pub below : e ≤ q

@@ -30,9 +30,7 @@ fn put_if_inside(mem: &mut [u32], n: u32, last: Position, i: usize, q: usize) ->
         return q;
     }
     let tag = mem[i + 1];
-    mem[q] = span;
-    mem[q + 1] = tag;
-    q + 2
+    store::put_string(mem, q, span, tag)
 }
 
 // Puts those strings from a to e that lie inside the window, from q on; gives the place after them.

@@ -7,6 +7,7 @@ mod sizes; // how many matches and strings the windows have
 use joining::join_span;
 use joining::join_tag;
 use model::Position;
+use store::Bounds;
 use store::Built;
 ghost use mathlib.Core.List.{flatMap};
 ghost use lib.ListN.{length};
@@ -14,7 +15,7 @@ ghost use Rattle.model.specs.Rules.{window, windowTo};
 ghost use Rattle.store.specs.Each.{OneAt};
 ghost use Rattle.store.specs.Layout.{matchNumbers, matchesNumbers};
 ghost use Rattle.store.specs.Outcome.{Outcome};
-ghost use Rattle.store.specs.Places.{Under};
+ghost use Rattle.store.specs.Places.{SlotBelow};
 ghost use Rattle.store.specs.Put.{Put};
 ghost use Rattle.store.specs.Slot.{SlotAt};
 ghost use Rattle.window.specs.Inside.{WindowSize};
@@ -36,12 +37,10 @@ fn put_window(
         ⌜ ((w : WindowAt n (last .0) (now (mem .entry)) x e q span tag)
         → Put (now (mem .entry)) (now (mem .exit)) q (matchNumbers (windowTo n (w .item) (last .0))) r) ⌝ }
 {
-    let from = q + 3;
-    let next = inside::put_inside(mem, n, last, x, e, from);
-    mem[q] = store::header(1, (next - from) / 2);
-    mem[q + 1] = span;
-    mem[q + 2] = tag;
-    next
+    let excludes = store::put_string(mem, q + store::FIRST_STRING, span, tag);
+    let end = inside::put_inside(mem, n, last, x, e, excludes);
+    store::close_match(mem, q, excludes, end);
+    end
 }
 
 // "each W from (greatest end − N + 1) up to least start", of a match whose join has these numbers
@@ -69,28 +68,28 @@ fn put_windows(mem: &mut [u32], n: u32, p: usize, q: usize) -> usize
         ⌜ ((w : OneAt (window n) (now (mem .entry)) p q)
         → Put (now (mem .entry)) (now (mem .exit)) q (matchesNumbers (window n (w .item))) r) ⌝ }
 {
-    let header = mem[p];
-    let includes = store::includes_in(header);
-    if includes == 0 {
+    let Bounds {
+        includes,
+        excludes,
+        end,
+    } = store::bounds_at(mem, p);
+    if includes == excludes {
         return q;
     }
-    let a = p + 1;
-    let x = a + 2 * includes;
-    let span = join_span(&mem[a..x]);
+    let span = join_span(&mem[includes..excludes]);
     // the join is wider than a window
     if sizes::count_around(n, strings::start_of(span), strings::end_of(span)) == 0 {
         return q;
     }
-    let tag = join_tag(&mem[a..x]);
-    let e = x + 2 * store::excludes_in(header);
-    put_each(mem, n, x, e, q, span, tag)
+    let tag = join_tag(&mem[includes..excludes]);
+    put_each(mem, n, excludes, end, q, span, tag)
 }
 
 // The windows of n positions of the list in a slot, in a slot above it.
 pub fn window_list(mem: &mut [u32], n: u32, src: usize, at: usize) -> Built
     requires { ⌜ WindowSize n ⌝ }
     requires { ⌜ SlotAt (now mem) src ⌝ }
-    requires { ⌜ Under (length (now mem)) src at ⌝ }
+    requires { ⌜ SlotBelow (length (now mem)) src at ⌝ }
     ensures { λ r.
         ⌜ ((w : SlotAt (now (mem .entry)) src)
         → Outcome (flatMap (window n) (w .list)) (now (mem .entry)) (now (mem .exit)) at r) ⌝ }
@@ -100,8 +99,8 @@ pub fn window_list(mem: &mut [u32], n: u32, src: usize, at: usize) -> Built
         return size;
     };
     let count = mem[src];
-    let mut p = src + 2;
-    let mut q = at + 2;
+    let mut p = src + store::FIRST_MATCH;
+    let mut q = at + store::FIRST_MATCH;
     let mut i = 0;
     while i < count {
         let length = store::match_length(mem[p]);
@@ -109,6 +108,6 @@ pub fn window_list(mem: &mut [u32], n: u32, src: usize, at: usize) -> Built
         p += length;
         i += 1;
     }
-    store::put_heads(mem, at, matches, strings);
+    store::put_slot_header(mem, at, matches, strings);
     size
 }

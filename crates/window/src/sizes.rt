@@ -1,8 +1,8 @@
 // How many matches and strings the windows of a list have, counted before any is written.
-use joining::greatest_end;
-use joining::least_start;
+use joining::extent_of;
 use model::MAX_MATCHES;
 use model::Position;
+use store::Bounds;
 use store::Built;
 use strings::end_of;
 use strings::positions::earlier;
@@ -85,17 +85,23 @@ fn size_with(mem: &[u32], n: u32, p: usize, matches: u32, strings: u32) -> Built
     requires { ⌜ SizeAt n (now mem) p matches strings ⌝ }
     ensures { λ r. ⌜ ((w : SizeAt n (now (mem .entry)) p matches strings) → r ≡ builtOf (w .list ++ window n (w .item))) ⌝ }
 {
-    let header = mem[p];
-    let includes = store::includes_in(header);
-    if includes == 0 {
+    let Bounds {
+        includes,
+        excludes,
+        end,
+    } = store::bounds_at(mem, p);
+    if includes == excludes {
         return Built::Made { matches, strings };
     }
-    let a = p + 1;
-    let x = a + 2 * includes;
-    let e = x + 2 * store::excludes_in(header);
-    let start = least_start(&mem[a..x]);
-    let end = greatest_end(&mem[a..x]);
-    size_around(n, start, end, &mem[x..e], matches, strings)
+    let extent = extent_of(&mem[includes..excludes]);
+    size_around(
+        n,
+        extent.start,
+        extent.end,
+        &mem[excludes..end],
+        matches,
+        strings,
+    )
 }
 
 // The sizes of the windows of the list in the slot at src, or that it is too long.
@@ -105,7 +111,7 @@ pub fn window_size(mem: &[u32], n: u32, src: usize) -> Built
     ensures { λ r. ⌜ ((w : SlotAt (now (mem .entry)) src) → r ≡ builtOf (flatMap (window n) (w .list))) ⌝ }
 {
     let count = mem[src];
-    let mut p = src + 2;
+    let mut p = src + store::FIRST_MATCH;
     let mut matches = 0;
     let mut strings = 0;
     let mut i = 0;

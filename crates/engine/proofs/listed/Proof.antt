@@ -1,4 +1,4 @@
--- The slot's two heads are its counts.
+-- The slot's header has its counts.
 use Rattle.engine.proofs.ListingLaws.{listed-held}
 use borrow.Author.Needs.{needs}
 use Rattle.engine.proofs.listed.Statement.{statement}

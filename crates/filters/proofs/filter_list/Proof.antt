@@ -1,4 +1,4 @@
--- Invariant: what the filter makes of the matches before number i is written behind the heads, and counted. Measure: the matches left. The law for rules that go
+-- Invariant: what the filter makes of the matches before number i is written behind the header, and counted. Measure: the matches left. The law for rules that go
 -- match by match, where one match at most is made of each.
 use Prim.Native.Nat.{_+_, _-_, _≤_}
 use native.Mathlib.Omega.{arith}
@@ -12,7 +12,7 @@ use Rattle.filter_rules.specs.Keepers.{keepingOf}
 use Rattle.store.specs.Each.{OneAt}
 use Rattle.store.specs.Slot.{SlotAt}
 use Rattle.store.proofs.EachLaws.{Counting, item, slot-each, count-start, count-most, count-one, count-finish}
-use Rattle.store.proofs.Slots.{closing, closed}
+use Rattle.store.proofs.SlotsLaws.{closing, closed}
 use Rattle.filter_rules.proofs.KeepersLaws.{keeper-list}
 use Rattle.filters.proofs.WritingLaws.{small-kept}
 use Rattle.filters.proofs.filter_list.Statement.{statement}

@@ -9,22 +9,18 @@ use Rattle.joining.proofs.JoiningLaws.{start-bound, end-bound}
 use Rattle.joining.proofs.join_span.Statement.{statement}
 use Rattle.joining.proofs.join_span.Tie as tie
 
-least-start-requires : tie.Need-least-start-requires
-least-start-requires c κs = search needs
-
-greatest-end-requires : tie.Need-greatest-end-requires
-greatest-end-requires c κs = search needs
+extent-of-requires : tie.Need-extent-of-requires
+extent-of-requires c κs = search needs
 
 span-of-requires : tie.Need-span-of-requires
 span-of-requires c κs =
-    let k = c .before .before in
+    let k = c .before in
     let l = k .before .args .strs .now in
     let first : getD l 0 0 < 2 ^ 32 = omega (arith, k .shared-slice-known .given 0) in
-    (rw (c .before .least-start .ensures) (start-bound l first), rw (c .greatest-end .ensures) (end-bound l))
+    (rw (c .extent-of .ensures .0) (start-bound l first), rw (c .extent-of .ensures .1) (end-bound l))
 
 returns : tie.Need-returns
-returns c = c .span-of .ensures ∙ ap₂ (λ a b. a * radix + b) (c .before .before .least-start .ensures) (c .before .greatest-end .ensures)
+returns c = c .span-of .ensures ∙ ap₂ (λ a b. a * radix + b) (c .before .extent-of .ensures .0) (c .before .extent-of .ensures .1)
 
 pub join-span-spec : {M : Type 1} → statement M
-join-span-spec =
-    tie.close (tie.spec least-start-requires greatest-end-requires span-of-requires returns)
+join-span-spec = tie.close (tie.spec extent-of-requires span-of-requires returns)

@@ -12,11 +12,8 @@ all-contiguous-requires c κs = search needs
 returns : tie.Need-returns
 returns c = contiguous-broken _ (sym (c .before .all-contiguous .ensures) ∙ not-true _ (c .if1 .taken))
 
-least-start-requires : tie.Need-least-start-requires
-least-start-requires c κs = search needs
-
-greatest-end-requires : tie.Need-greatest-end-requires
-greatest-end-requires c κs = search needs
+extent-of-requires : tie.Need-extent-of-requires
+extent-of-requires c κs = search needs
 
 run-covered-requires : tie.Need-run-covered-requires
 run-covered-requires c κs = search needs
@@ -24,17 +21,9 @@ run-covered-requires c κs = search needs
 returns-2 : tie.Need-returns-2
 returns-2 c =
     let g = c .before in
-    let f = g .before .before in
+    let f = g .before in
     let all-are = sym (f .before .all-contiguous .ensures) ∙ not-false _ (f .if1 .left) in
-    contiguous-run _ all-are _ _ (g .before .least-start .ensures) (g .greatest-end .ensures) _ (c .run-covered .ensures)
+    contiguous-run _ all-are _ _ (g .extent-of .ensures .0) (g .extent-of .ensures .1) _ (c .run-covered .ensures)
 
 pub joins-contiguous-spec : {M : Type 1} → statement M
-joins-contiguous-spec =
-    tie.close
-    (tie.spec
-    all-contiguous-requires
-    returns
-    least-start-requires
-    greatest-end-requires
-    run-covered-requires
-    returns-2)
+joins-contiguous-spec = tie.close (tie.spec all-contiguous-requires returns extent-of-requires run-covered-requires returns-2)

@@ -1,37 +1,36 @@
 -- Invariant: what mild not makes of the matches passed is written and counted, the others of L lie where they were, and a part of R decides as all of R does.
 -- Measure: the matches left. R lies below what is written, so each turn finds it as it was; no list comes out longer than L.
 use Prim.Native.Nat.{_+_, _-_, _≤_}
-use Rattle.mild.proofs.BeyondLaws.{mildNot-small}
-use Rattle.candidates.proofs.CandidatesLaws.{candidates-below}
-use Rattle.mild.proofs.Seeking.{reach-at, kept-at, keep-next, mildNot-closed}
-use Rattle.mild.specs.Beyond.{mildNot}
-use Rattle.candidates.specs.Candidates.{CandidatesAre, CandidatesAt}
-use Rattle.store.proofs.EachLaws.{Counting, slot-each, count-start, count-most, count-finish}
-use Rattle.store.proofs.Slots.{closing}
-use Rattle.store.specs.Slot.{SlotAt}
-use borrow.Author.Needs.{needs}
-use lib.ListN.{getD, length}
-use mathlib.Core.Path.{_≡_, refl}
 use native.Mathlib.Omega.{arith}
+use mathlib.Core.Path.{_≡_, refl}
+use lib.ListN.{getD, length}
+use Rattle.store.specs.Slot.{TwoSlots}
+use Rattle.store.proofs.EachLaws.{Counting, slot-each, count-start, count-most, count-finish}
+use Rattle.store.proofs.SlotsLaws.{closing}
+use Rattle.candidates.specs.Candidates.{CandidatesAre, CandidatesAt}
+use Rattle.candidates.proofs.CandidatesLaws.{candidates-below}
+use Rattle.mild.specs.Beyond.{mildNot}
+use Rattle.mild.proofs.BeyondLaws.{mildNot-small}
+use Rattle.mild.proofs.AgainstLaws.{reach-at, kept-at, keep-next, mildNot-closed}
+use borrow.Author.Needs.{needs}
 use Rattle.mild.proofs.mild_not_list.Statement.{statement}
 use Rattle.mild.proofs.mild_not_list.Tie as tie
 
 abbrev Inv-loop : tie.InvT-loop
 Inv-loop mem₀ l r at n p₀ q₀ matches₀ candidates₀ i₀ mem p q matches candidates i =
     (i ≤ n) × (length mem ≡ length mem₀)
-    × ((u : SlotAt mem₀ l) → (w : SlotAt mem₀ r) → Counting (mildNot (w .list)) (u .list) mem₀ n (at + 2) mem p q i matches × CandidatesAre (w .list) mem r candidates)
+    × ((w : TwoSlots mem₀ l r) → Counting (mildNot (w .rights)) (w .lefts) mem₀ n (at + 2) mem p q i matches × CandidatesAre (w .rights) mem r candidates)
 
 abbrev μ-loop : tie.MeasureT-loop
 μ-loop mem₀ l r at n p₀ q₀ matches₀ candidates₀ i₀ mem p q matches candidates i = n - i
 
 -- the match of L in hand, with what is known of R
 abbrev one : (c : tie.In-loop Inv-loop μ-loop)
-    → CandidatesAt (c .before .loop .mem) (c .before .loop .p) (getD (c .before .before .before .before .before .before .args .mem .now) (c .before .before .before .before .before .before .args .l) 0 - c .before .loop .i)
-    (c .before .before .before .before .before .before .args .r) (c .before .loop .candidates)
+    → CandidatesAt (c .before .loop .mem) (c .before .loop .p) (getD (c .before .before .before .before .before .before .args .mem .now) (c .before .before .before .before .before .before .args .l) 0 - c .before .loop .i) (c .before .before .before .before .before .before .args .r) (c .before .loop .candidates)
 one c =
-    let r = c .before .before .before .before .before .before .pre in
-    let g = c .before .loop .inv .2 (r .0) (r .1 .0) in
-    reach-at (r .1 .0 .list) (g .0) (c .loop-test .taken) (r .1 .0 .slot) (omega (arith, r .1 .1 .1 .below)) (g .1) refl
+    let w = c .before .before .before .before .before .before .pre .0 in
+    let g = c .before .loop .inv .2 w in
+    reach-at (w .rights) (g .0) (c .loop-test .taken) (w .right) (omega (arith, c .before .before .before .before .before .before .pre .1 .1 .below)) (g .1) refl
 
 mul-n : tie.Need-mul-n Inv-loop μ-loop
 mul-n c = search needs
@@ -49,18 +48,20 @@ add-q : tie.Need-add-q Inv-loop μ-loop
 add-q c = search needs
 
 all-of-requires : tie.Need-all-of-requires Inv-loop μ-loop
-all-of-requires c κs = c .before .before .before .pre .1 .0
+all-of-requires c κs = record { list = c .before .before .before .pre .0 .rights; slot = c .before .before .before .pre .0 .right }
 
 loop-holds : tie.Need-loop-holds Inv-loop μ-loop
-loop-holds c =
-    let r = c .before .before .before .before .pre in (
-      search needs,
-      refl,
-      λ u w. (count-start (slot-each (u .slot) (r .1 .1 .0) (mildNot-small (w .list) (u .slot)) _ refl), c .all-of .ensures w),
-    )
+loop-holds c = (
+  search needs,
+  refl,
+  λ w. (
+    count-start (slot-each (w .left) (c .before .before .before .before .pre .1 .0) (mildNot-small (w .rights) (w .left)) _ refl),
+    c .all-of .ensures (record { list = w .rights; slot = w .right }),
+  ),
+)
 
 mul-match-length : tie.Need-mul-match-length Inv-loop μ-loop
-mul-match-length c = omega (arith, one c .held .header)
+mul-match-length c = omega (arith, one (c) .held .header)
 
 slice-read-match-length : tie.Need-slice-read-match-length Inv-loop μ-loop
 slice-read-match-length c = omega (arith, one (c .before) .held .header)
@@ -76,61 +77,48 @@ reach-requires c κs = one (c .before .before .before)
 
 put-kept-requires : tie.Need-put-kept-requires Inv-loop μ-loop
 put-kept-requires c κs =
-    let t = c .before .before .before .before .before in
-    let r = t .before .before .before .before .before .before .pre in
-    kept-at (r .1 .0 .list) (t .before .loop .inv .2 (r .0) (r .1 .0) .0) (t .loop-test .taken) (c .before .reach .ensures (one t) .beyond)
+    let w = c .before .before .before .before .before .before .before .before .before .before .before .pre .0 in
+    kept-at (w .rights) (c .before .before .before .before .before .before .loop .inv .2 w .0) (c .before .before .before .before .before .loop-test .taken) (c .before .reach .ensures (one (c .before .before .before .before .before)) .beyond)
 
 count-one-requires : tie.Need-count-one-requires Inv-loop μ-loop
 count-one-requires c κs =
-    let l = c .before .before .before .before .before .before .before .before .before in
-    let r = l .before .before .before .before .before .pre in
-    omega (arith, count-most (l .loop .inv .2 (r .0) (r .1 .0) .0), mildNot-small (r .1 .0 .list) (r .0 .slot))
+    let w = c .before .before .before .before .before .before .before .before .before .before .before .before .before .before .pre .0 in
+    omega (arith, count-most (c .before .before .before .before .before .before .before .before .before .loop .inv .2 w .0), mildNot-small (w .rights) (w .left))
 
 add-p-2 : tie.Need-add-p-2 Inv-loop μ-loop
-add-p-2 c =
-    let k = c .before .before .before .before .before .before .before .before in
-    omega (arith, one (k .before .before) .held .header, k .match-length .ensures)
+add-p-2 c = omega (arith, one (c .before .before .before .before .before .before .before .before .before .before) .held .header, c .before .before .before .before .before .before .before .before .match-length .ensures)
 
 add-i : tie.Need-add-i Inv-loop μ-loop
-add-i c =
-    let t = c .before .before .before .before .before .before .before .before .before .before in
-    omega (arith, t .loop-test .taken, t .before .before .before .before .before .before .pre .0 .slot .heads)
+add-i c = omega (arith, c .before .before .before .before .before .before .before .before .before .before .loop-test .taken, c .before .before .before .before .before .before .before .before .before .before .before .before .before .before .before .before .pre .0 .left .header)
 
 loop-less : tie.Need-loop-less Inv-loop μ-loop
 loop-less c = search needs
 
 loop-again : tie.Need-loop-again Inv-loop μ-loop
 loop-again c =
-    let n = c .before in
-    let v = n .before .before .before in
-    let h = v .before .before in
-    let k = h .before .before in
-    let t = k .before .before in
-    let low = t .before .before .before .before .before .before .pre .1 .1 .1 .below in (
+    let t = c .before .before .before .before .before .before .before .before .before .before in
+    let low = c .before .before .before .before .before .before .before .before .before .before .before .before .before .before .before .before .pre .1 .1 .below in (
       search needs,
       search needs,
-      λ u w.
-          let g = t .before .loop .inv .2 u w in
-          let reached = h .reach .ensures (reach-at (w .list) (g .0) (t .loop-test .taken) (w .slot) (omega arith) (g .1) refl) in
-          let put = v .put-kept .ensures (kept-at (w .list) (g .0) (t .loop-test .taken) (reached .beyond)) in (
-            keep-next (w .list) (g .0) (t .loop-test .taken) (reached .beyond) put (k .match-length .ensures) (n .count-one .ensures),
+      λ w.
+          let g = t .before .loop .inv .2 w in
+          let reached = c .before .before .before .before .before .before .reach .ensures (reach-at (w .rights) (g .0) (t .loop-test .taken) (w .right) (omega arith) (g .1) refl) in
+          let put = c .before .before .before .before .put-kept .ensures (kept-at (w .rights) (g .0) (t .loop-test .taken) (reached .beyond)) in (
+            keep-next (w .rights) (g .0) (t .loop-test .taken) (reached .beyond) put (c .before .before .before .before .before .before .before .before .match-length .ensures) (c .before .count-one .ensures),
             candidates-below put (omega (arith, low, g .0 .going .rows .put .next-is)) (reached .candidates),
           ),
     )
 
 close-slot-requires : tie.Need-close-slot-requires Inv-loop μ-loop
 close-slot-requires c κs =
-    let l = c .before .before in
-    let r = l .before .before .before .before .before .pre in
-    closing (mildNot-small (r .1 .0 .list) (r .0 .slot)) (count-finish (l .loop .inv .2 (r .0) (r .1 .0) .0) (c .before .loop-test .left)) (r .1 .1 .0 .room)
+    let w = c .before .before .before .before .before .before .before .pre .0 in
+    closing (mildNot-small (w .rights) (w .left)) (count-finish (c .before .before .loop .inv .2 w .0) (c .before .loop-test .left)) (c .before .before .before .before .before .before .before .pre .1 .0 .room)
 
 same-length : tie.Need-same-length Inv-loop μ-loop
 same-length c = search needs
 
 returns : tie.Need-returns Inv-loop μ-loop
-returns c u w =
-    let l = c .before .before .before .before in
-    mildNot-closed (w .list) (u .slot) (l .before .loop .inv .2 u w .0) (l .loop-test .left) (c .before .before .close-slot .ensures)
+returns c w = mildNot-closed (w .rights) (w .left) (c .before .before .before .before .before .loop .inv .2 w .0) (c .before .before .before .before .loop-test .left) (c .before .before .close-slot .ensures)
 
 pub mild-not-list-spec : {M : Type 1} → statement M
 mild-not-list-spec =

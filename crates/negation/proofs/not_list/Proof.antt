@@ -1,6 +1,6 @@
 -- The sizes come first, so that a list that is too long is refused before anything is written, and one that is not has room in its slot.
-use Rattle.store.proofs.Slots.{refused}
-use Rattle.negation.proofs.Choosing.{allOf, made}
+use Rattle.store.proofs.SlotsLaws.{refused}
+use Rattle.negation.proofs.ChoicesLaws.{allOf, made}
 use borrow.Author.Needs.{needs}
 use Rattle.negation.proofs.not_list.Statement.{statement}
 use Rattle.negation.proofs.not_list.Tie as tie
@@ -33,8 +33,8 @@ put-choices-requires c κs =
     let r = s .before .before .before .pre in
     allOf (r .0) (r .1) (s .not-size .ensures (r .0)) (k .size .given .1)
 
-put-heads-requires : tie.Need-put-heads-requires
-put-heads-requires c κs = search needs
+put-slot-header-requires : tie.Need-put-slot-header-requires
+put-slot-header-requires c κs = search needs
 
 same-length-2 : tie.Need-same-length-2
 same-length-2 c = search needs
@@ -48,7 +48,7 @@ returns-2 c w =
     let r = s .before .before .before .pre in
     let e = s .not-size .ensures w in
     let t = k .size .given .1 in
-    made w (r .1) e t (m .put-choices .ensures (allOf w (r .1) e t)) (h .put-heads .ensures)
+    made w (r .1) e t (m .put-choices .ensures (allOf w (r .1) e t)) (h .put-slot-header .ensures)
 
 pub not-list-spec : {M : Type 1} → statement M
 not-list-spec =
@@ -62,6 +62,6 @@ not-list-spec =
     cast-put-choices
     add-put-choices
     put-choices-requires
-    put-heads-requires
+    put-slot-header-requires
     same-length-2
     returns-2)

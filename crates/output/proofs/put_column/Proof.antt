@@ -2,12 +2,12 @@
 -- strings, so room for all is room for the next. Measure: n - i.
 use Prim.Native.Nat.{_≤_, _-_}
 use native.Mathlib.Omega.{arith}
-use borrow.Author.Needs.{needs}
 use mathlib.Core.Path.{_≡_, refl}
 use lib.ListN.{length}
 use Rattle.store.specs.Stream.{Header}
 use Rattle.output.specs.Columns.{columnIn, ColumnAt}
-use Rattle.output.proofs.Walks.{Writing, Room, start, here, finish, column-room, column-step}
+use Rattle.output.proofs.ColumnLoopLaws.{Writing, Room, start, here, finish, column-room, column-step}
+use borrow.Author.Needs.{needs}
 use Rattle.output.proofs.put_column.Statement.{statement}
 use Rattle.output.proofs.put_column.Tie as tie
 
@@ -18,47 +18,37 @@ Inv-loop mem first n column buffer₀ at p₀ q₀ i₀ buffer p q i =
 abbrev μ-loop : tie.MeasureT-loop
 μ-loop mem first n column buffer₀ at p₀ q₀ i₀ buffer p q i = n - i
 
-loop-holds : tie.Need-loop-holds Inv-loop μ-loop
-loop-holds c = (search needs, refl, λ w. start (w .stream))
-
 -- the header in hand
 one : (c : tie.In-loop Inv-loop μ-loop) → Header (c .before .before .before .before .args .mem .now) (c .before .loop .p)
-one c = here (c .before .loop .inv .2 (c .before .before .before .before .pre .0)) (c .loop-test .taken)
+one c = here (c .before .loop .inv .2 (c .before .before .before .before .pre .0)) (c .loop-test .taken) .held .header
 
 -- and room for its strings' numbers
-room : (c : tie.After-strings-in Inv-loop μ-loop)
-    → let l = c .before .before .before in Room (l .before .before .before .args .mem .now) (l .loop .buffer) (l .loop .p) (l .loop .q) (c .strings-in .result)
-room c =
-    let l = c .before .before in
-    let w = l .before .before .before .before .pre .0 in
-    column-room _ (l .before .loop .inv .2 w) (l .loop-test .taken) (c .strings-in .ensures) (w .room)
+room : (c : tie.After-strings-in Inv-loop μ-loop) → Room (c .before .before .before .before .before .before .before .args .mem .now) (c .before .before .before .before .loop .buffer) (c .before .before .before .before .loop .p) (c .before .before .before .before .loop .q) (c .strings-in .result)
+room c = column-room _ (c .before .before .before .before .loop .inv .2 (c .before .before .before .before .before .before .before .pre .0)) (c .before .before .before .loop-test .taken) (c .strings-in .ensures) (c .before .before .before .before .before .before .before .pre .0 .room)
+
+loop-holds : tie.Need-loop-holds Inv-loop μ-loop
+loop-holds c = (search needs, refl, λ w. start (w .stream) (w .count))
+
+bounds-at-requires : tie.Need-bounds-at-requires Inv-loop μ-loop
+bounds-at-requires c κs = one (c)
 
 mul-strings-in : tie.Need-mul-strings-in Inv-loop μ-loop
-mul-strings-in c = omega (arith, one c)
+mul-strings-in c = omega (arith, one (c .before))
 
 shared-slice-read-strings-in : tie.Need-shared-slice-read-strings-in Inv-loop μ-loop
-shared-slice-read-strings-in c = omega (arith, one (c .before))
+shared-slice-read-strings-in c = omega (arith, one (c .before .before))
 
 strings-in-requires : tie.Need-strings-in-requires Inv-loop μ-loop
 strings-in-requires c κs = search needs
 
 add-copy-every-second : tie.Need-add-copy-every-second Inv-loop μ-loop
-add-copy-every-second c = omega (arith, room c)
+add-copy-every-second c = omega (arith, room (c .before), c .before .before .before .bounds-at .ensures)
 
 copy-every-second-requires : tie.Need-copy-every-second-requires Inv-loop μ-loop
-copy-every-second-requires c κs = omega (arith, room (c .before))
+copy-every-second-requires c κs = omega (arith, room (c .before .before), c .before .before .before .before .bounds-at .ensures)
 
 add-q : tie.Need-add-q Inv-loop μ-loop
-add-q c = omega (arith, room (c .before .before .before .before))
-
-mul-p : tie.Need-mul-p Inv-loop μ-loop
-mul-p c = omega (arith, room (c .before .before .before .before))
-
-add-p : tie.Need-add-p Inv-loop μ-loop
-add-p c = omega (arith, room (c .before .before .before .before))
-
-add-p-2 : tie.Need-add-p-2 Inv-loop μ-loop
-add-p-2 c = omega (arith, room (c .before .before .before .before))
+add-q c = omega (arith, room (c .before .before .before .before .before))
 
 add-i : tie.Need-add-i Inv-loop μ-loop
 add-i c = search needs
@@ -67,15 +57,12 @@ loop-less : tie.Need-loop-less Inv-loop μ-loop
 loop-less c = search needs
 
 loop-again : tie.Need-loop-again Inv-loop μ-loop
-loop-again c =
-    let s = c .before .before .before .before in
-    let l = s .before .before in
-    let given = l .before .before .before .before .pre in (
-      search needs,
-      search needs,
-      λ w. column-step _ (l .before .loop .inv .2 w) (l .loop-test .taken) (s .strings-in .ensures) (given .1)
-          (c .before .before .copy-every-second .ensures),
-    )
+loop-again c = (
+  search needs,
+  search needs,
+  λ w. column-step _ (c .before .before .before .before .before .before .before .before .before .loop .inv .2 w) (c .before .before .before .before .before .before .before .before .loop-test .taken) (c .before .before .before .before .before .strings-in .ensures) (c .before .before .before .before .before .before .before .bounds-at .ensures) (c .before .before .before .before .before .before .before .before .before .before .before .before .pre .1)
+      (c .before .before .copy-every-second .ensures),
+)
 
 same-length : tie.Need-same-length Inv-loop μ-loop
 same-length c = search needs
@@ -90,15 +77,13 @@ put-column-spec =
     Inv-loop
     μ-loop
     loop-holds
+    bounds-at-requires
     mul-strings-in
     shared-slice-read-strings-in
     strings-in-requires
     add-copy-every-second
     copy-every-second-requires
     add-q
-    mul-p
-    add-p
-    add-p-2
     add-i
     loop-less
     loop-again

@@ -2,11 +2,11 @@
 -- index needs no variable. Measure: n - i.
 use Prim.Native.Nat.{_+_, _≤_, _-_}
 use native.Mathlib.Omega.{arith}
-use borrow.Author.Needs.{needs}
 use mathlib.Core.Path.{_≡_, refl}
 use lib.ListN.{length, length-set}
 use Rattle.store.specs.Stream.{StreamAt, Header}
-use Rattle.output.proofs.Walks.{Writing, here, countIn, count-start, count-step, count-finish}
+use Rattle.output.proofs.ColumnLoopLaws.{Writing, here, countIn, count-start, count-step, count-finish}
+use borrow.Author.Needs.{needs}
 use Rattle.output.proofs.put_counts.Statement.{statement}
 use Rattle.output.proofs.put_counts.Tie as tie
 
@@ -17,18 +17,18 @@ Inv-loop mem first n buffer₀ q p₀ i₀ buffer p i =
 abbrev μ-loop : tie.MeasureT-loop
 μ-loop mem first n buffer₀ q p₀ i₀ buffer p i = n - i
 
-loop-holds : tie.Need-loop-holds Inv-loop μ-loop
-loop-holds c = (search needs, refl, λ w. count-start _ (w .stream))
-
 -- the header in hand
 one : (c : tie.In-loop Inv-loop μ-loop) → Header (c .before .before .before .before .args .mem .now) (c .before .loop .p)
-one c = here (c .before .loop .inv .2 (c .before .before .before .before .pre .0)) (c .loop-test .taken)
+one c = here (c .before .loop .inv .2 (c .before .before .before .before .pre .0)) (c .loop-test .taken) .held .header
 
-mul-strings-in : tie.Need-mul-strings-in Inv-loop μ-loop
-mul-strings-in c = omega (arith, one c)
+loop-holds : tie.Need-loop-holds Inv-loop μ-loop
+loop-holds c = (search needs, refl, λ w. count-start _ (w .stream) (w .count))
 
-shared-slice-read-strings-in : tie.Need-shared-slice-read-strings-in Inv-loop μ-loop
-shared-slice-read-strings-in c = omega (arith, one (c .before))
+mul-header : tie.Need-mul-header Inv-loop μ-loop
+mul-header c = omega (arith, one (c))
+
+shared-slice-read-header : tie.Need-shared-slice-read-header Inv-loop μ-loop
+shared-slice-read-header c = omega (arith, one (c .before))
 
 strings-in-requires : tie.Need-strings-in-requires Inv-loop μ-loop
 strings-in-requires c κs = search needs
@@ -45,14 +45,11 @@ mul-buffer c = search needs
 slice-write-buffer : tie.Need-slice-write-buffer Inv-loop μ-loop
 slice-write-buffer c = search needs
 
-mul-p : tie.Need-mul-p Inv-loop μ-loop
-mul-p c = omega (arith, one (c .before .before))
+match-length-requires : tie.Need-match-length-requires Inv-loop μ-loop
+match-length-requires c κs = search needs
 
 add-p : tie.Need-add-p Inv-loop μ-loop
-add-p c = omega (arith, one (c .before .before))
-
-add-p-2 : tie.Need-add-p-2 Inv-loop μ-loop
-add-p-2 c = omega (arith, one (c .before .before))
+add-p c = omega (arith, one (c .before .before .before), c .match-length .ensures)
 
 add-i : tie.Need-add-i Inv-loop μ-loop
 add-i c = search needs
@@ -62,8 +59,11 @@ loop-less c = search needs
 
 loop-again : tie.Need-loop-again Inv-loop μ-loop
 loop-again c =
-    let l = c .before .before in
-    (search needs, simp length-set (l .before .loop .inv .1), λ w. count-step (l .before .loop .inv .2 w) (l .loop-test .taken) (c .strings-in .ensures))
+    let l = c .before .before .before in (
+      search needs,
+      simp length-set (l .before .loop .inv .1),
+      λ w. count-step (l .before .loop .inv .2 w) (l .loop-test .taken) (c .before .strings-in .ensures) (c .match-length .ensures),
+    )
 
 same-length : tie.Need-same-length Inv-loop μ-loop
 same-length c = search needs
@@ -78,16 +78,15 @@ put-counts-spec =
     Inv-loop
     μ-loop
     loop-holds
-    mul-strings-in
-    shared-slice-read-strings-in
+    mul-header
+    shared-slice-read-header
     strings-in-requires
     cast-buffer
     add-buffer
     mul-buffer
     slice-write-buffer
-    mul-p
+    match-length-requires
     add-p
-    add-p-2
     add-i
     loop-less
     loop-again

@@ -1,10 +1,10 @@
--- The heads and three passes, each from where the one before ends. The passes keep the buffer's length, and 1,282 numbers hold any list within the limits.
+-- The two counts and three passes, each from where the one before ends. The passes keep the buffer's length, and 1,282 numbers hold any list within the limits.
 use Prim.Native.Nat.{_≤_}
 use native.Mathlib.Omega.{arith}
 use mathlib.Core.Path.{_∙_}
 use lib.ListN.{length, length-set}
 use Rattle.model.specs.Limits.{bufferLength}
-use Rattle.output.proofs.Listings.{counts-given, column-given, listed}
+use Rattle.output.proofs.ListingLaws.{counts-given, column-given, listed}
 use borrow.Author.Needs.{needs}
 use Rattle.output.proofs.put_listing.Statement.{statement}
 use Rattle.output.proofs.put_listing.Tie as tie

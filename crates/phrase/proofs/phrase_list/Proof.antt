@@ -1,4 +1,4 @@
--- Invariant: the finds before the one at p, so many, are written after the place of the heads, up to q, and the starts left are those from p on. Measure: the positions
+-- Invariant: the finds before the one at p, so many, are written after the place of the header, up to q, and the starts left are those from p on. Measure: the positions
 -- left. At most 256 finds of three numbers fit.
 use Prim.Native.Nat.{_+_, _-_, _≤_}
 use native.Mathlib.Omega.{arith}
@@ -60,8 +60,8 @@ loop-again c =
     let i = v .before .before .before in
     (search needs, search needs, find-step (i .before .loop .inv .2) (i .loop-test .taken) (v .put-found .ensures) (c .next-start2 .ensures))
 
-put-heads-requires : tie.Need-put-heads-requires Inv-loop μ-loop
-put-heads-requires c κs = search needs
+put-slot-header-requires : tie.Need-put-slot-header-requires Inv-loop μ-loop
+put-slot-header-requires c κs = search needs
 
 same-length-2 : tie.Need-same-length-2 Inv-loop μ-loop
 same-length-2 c = search needs
@@ -71,7 +71,7 @@ returns-2 c =
     let h = c .before .before in
     let e = h .before .before in
     let l = e .before in
-    find-finish (l .loop .inv .2) (e .loop-test .left) (l .loop .inv .0) (h .put-heads .ensures)
+    find-finish (l .loop .inv .2) (e .loop-test .left) (l .loop .inv .0) (h .put-slot-header .ensures)
 
 pub phrase-list-spec : {M : Type 1} → statement M
 phrase-list-spec =
@@ -92,6 +92,6 @@ phrase-list-spec =
     next-start-requires-2
     loop-less
     loop-again
-    put-heads-requires
+    put-slot-header-requires
     same-length-2
     returns-2)

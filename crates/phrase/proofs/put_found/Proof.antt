@@ -1,7 +1,7 @@
--- Three stores in a row are the numbers of a match with one include (put-found).
-use Rattle.phrase.proofs.FindsLaws.{put-found}
-use lib.ListN.{length-set}
+-- The string, and the header in front of it, are the numbers of a match with one include (put-found).
 use native.Mathlib.Omega.{arith}
+use lib.ListN.{length-set}
+use Rattle.phrase.proofs.FindsLaws.{put-found}
 use borrow.Author.Needs.{needs}
 use Rattle.phrase.proofs.put_found.Statement.{statement}
 use Rattle.phrase.proofs.put_found.Tie as tie
@@ -12,6 +12,24 @@ add-end c = search needs
 sub-end : tie.Need-sub-end
 sub-end c = search needs
 
+cast-mem : tie.Need-cast-mem
+cast-mem c = search needs
+
+cast-t13 : tie.Need-cast-t13
+cast-t13 c = search needs
+
+span-of-requires : tie.Need-span-of-requires
+span-of-requires c κs = search needs
+
+tag-of-requires : tie.Need-tag-of-requires
+tag-of-requires c κs = search needs
+
+add-put-string : tie.Need-add-put-string
+add-put-string c = search needs
+
+put-string-requires : tie.Need-put-string-requires
+put-string-requires c κs = search needs
+
 header-requires : tie.Need-header-requires
 header-requires c κs = search needs
 
@@ -21,50 +39,13 @@ mul-mem c = search needs
 slice-write-mem : tie.Need-slice-write-mem
 slice-write-mem c = search needs
 
-cast-mem : tie.Need-cast-mem
-cast-mem c = search needs
-
-mul-mem-2 : tie.Need-mul-mem-2
-mul-mem-2 c = search needs
-
-cast-mem-2 : tie.Need-cast-mem-2
-cast-mem-2 c = search needs
-
-add-mem : tie.Need-add-mem
-add-mem c = search needs
-
-add-mem-2 : tie.Need-add-mem-2
-add-mem-2 c = search needs
-
-mul-mem-3 : tie.Need-mul-mem-3
-mul-mem-3 c = search needs
-
-slice-write-mem-2 : tie.Need-slice-write-mem-2
-slice-write-mem-2 c = simp length-set (omega arith)
-
-mul-mem-4 : tie.Need-mul-mem-4
-mul-mem-4 c = search needs
-
-add-mem-3 : tie.Need-add-mem-3
-add-mem-3 c = search needs
-
-add-mem-4 : tie.Need-add-mem-4
-add-mem-4 c = search needs
-
-mul-mem-5 : tie.Need-mul-mem-5
-mul-mem-5 c = search needs
-
-slice-write-mem-3 : tie.Need-slice-write-mem-3
-slice-write-mem-3 c = simp length-set (omega arith)
-
-add-result : tie.Need-add-result
-add-result c = search needs
-
 same-length : tie.Need-same-length
-same-length c = search needs
+same-length c = simp length-set (omega (arith, c .before .before .before .put-string .kept .0))
 
 returns : tie.Need-returns
-returns c = let a = c .before .before .args in put-found (a .mem .now) (a .q) (a .p) (a .k) (a .rank) (c .header .ensures)
+returns c =
+    let a = c .before .before .before .before .before .before .before .before .args in
+    put-found (a .q) (a .p) (a .k) (a .rank) (c .before .before .before .before .before .before .span-of .ensures) (c .before .before .before .before .before .tag-of .ensures) (c .before .before .before .put-string .ensures) (c .header .ensures)
 
 pub put-found-spec : {M : Type 1} → statement M
 put-found-spec =
@@ -72,21 +53,14 @@ put-found-spec =
     (tie.spec
     add-end
     sub-end
+    cast-mem
+    cast-t13
+    span-of-requires
+    tag-of-requires
+    add-put-string
+    put-string-requires
     header-requires
     mul-mem
     slice-write-mem
-    cast-mem
-    mul-mem-2
-    cast-mem-2
-    add-mem
-    add-mem-2
-    mul-mem-3
-    slice-write-mem-2
-    mul-mem-4
-    add-mem-3
-    add-mem-4
-    mul-mem-5
-    slice-write-mem-3
-    add-result
     same-length
     returns)

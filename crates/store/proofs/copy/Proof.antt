@@ -5,7 +5,7 @@ use borrow.Author.Needs.{needs}
 use mathlib.Core.Path.{_≡_}
 use lib.ListN.{length, take, drop, length-set}
 use lib.Seq.{sets}
-use Rattle.store.proofs.Memory.{copy-more}
+use Rattle.store.proofs.MemoryLaws.{copy-more}
 use Rattle.store.proofs.copy.Statement.{statement}
 use Rattle.store.proofs.copy.Tie as tie
 

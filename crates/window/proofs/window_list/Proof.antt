@@ -1,4 +1,4 @@
--- Invariant: the windows of the matches passed are written behind the heads' place, up to q, and the matches left lie at p as they were. Measure: the matches
+-- Invariant: the windows of the matches passed are written behind the header's place, up to q, and the matches left lie at p as they were. Measure: the matches
 -- left. The list is sized first, so there is room for all of it.
 use Prim.Native.Nat.{_+_, _-_, _≤_}
 use native.Mathlib.Omega.{arith}
@@ -8,7 +8,7 @@ use Rattle.model.specs.Rules.{window}
 use Rattle.store.specs.Each.{OneAt}
 use Rattle.store.specs.Slot.{SlotAt}
 use Rattle.store.proofs.EachLaws.{Going, slot-each, start, item, step, finish}
-use Rattle.store.proofs.Slots.{answer-made, filled, refused}
+use Rattle.store.proofs.SlotsLaws.{answer-made, filled, refused}
 use borrow.Author.Needs.{needs}
 use Rattle.window.proofs.window_list.Statement.{statement}
 use Rattle.window.proofs.window_list.Tie as tie
@@ -95,8 +95,8 @@ loop-again c =
           step g (t .loop-test .taken) (k .put-windows .ensures (item g (t .loop-test .taken))) (l .match-length .ensures),
     )
 
-put-heads-requires : tie.Need-put-heads-requires Inv-loop μ-loop
-put-heads-requires c κs = search needs
+put-slot-header-requires : tie.Need-put-slot-header-requires Inv-loop μ-loop
+put-slot-header-requires c κs = search needs
 
 same-length-2 : tie.Need-same-length-2 Inv-loop μ-loop
 same-length-2 c = search needs
@@ -106,7 +106,7 @@ returns-2 c w =
     let h = c .before .before in
     let l = h .before .before in
     let k = l .before .before .before .before in
-    filled (sym (k .size .given .1) ∙ k .before .before .window-size .ensures w) (finish (l .before .loop .inv .2 w) (l .loop-test .left)) (h .put-heads .ensures)
+    filled (sym (k .size .given .1) ∙ k .before .before .window-size .ensures w) (finish (l .before .loop .inv .2 w) (l .loop-test .left)) (h .put-slot-header .ensures)
 
 pub window-list-spec : {M : Type 1} → statement M
 window-list-spec =
@@ -132,6 +132,6 @@ window-list-spec =
     add-i
     loop-less
     loop-again
-    put-heads-requires
+    put-slot-header-requires
     same-length-2
     returns-2)

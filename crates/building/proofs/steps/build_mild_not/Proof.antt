@@ -1,5 +1,5 @@
--- The last two lists that wait are the two slots; the list is built above them all, so that the rest is as it was.
-use Rattle.building.proofs.StepsLaws.{left-slot, right-slot, two-slots, two-unders, two-fresh, two-settled}
+-- The last two lists that wait are the two slots; the product is built above them all, so that the rest is as it was.
+use Rattle.building.proofs.StepsLaws.{two-slots, two-unders, two-fresh, two-settled}
 use borrow.Author.Needs.{needs}
 use Rattle.building.proofs.steps.build_mild_not.Statement.{statement}
 use Rattle.building.proofs.steps.build_mild_not.Tie as tie
@@ -17,24 +17,16 @@ mul-r : tie.Need-mul-r
 mul-r c = search needs
 
 mild-not-list-requires : tie.Need-mild-not-list-requires
-mild-not-list-requires c κs =
-    let w = c .before .before .pre in
-    let v = two-slots w in
-    (left-slot v, (right-slot v, two-unders w))
+mild-not-list-requires c κs = let w = c .before .before .pre in (two-slots w, two-unders w)
 
 settle-requires : tie.Need-settle-requires
-settle-requires c κs =
-    let a = c .before .before .before in
-    two-fresh (a .before .before .before .pre) (λ v. a .mild-not-list .ensures (left-slot v) (right-slot v))
+settle-requires c κs = let a = c .before .before .before in two-fresh (a .before .before .before .pre) (a .mild-not-list .ensures)
 
 same-length : tie.Need-same-length
 same-length c = search needs
 
 returns : tie.Need-returns
-returns c w =
-    let s = c .before .before in
-    let a = s .before .before .before .before in
-    two-settled w (λ v. a .mild-not-list .ensures (left-slot v) (right-slot v)) (s .settle .ensures)
+returns c w = let s = c .before .before in two-settled w (s .before .before .before .before .mild-not-list .ensures) (s .settle .ensures)
 
 pub build-mild-not-spec : {M : Type 1} → statement M
 build-mild-not-spec =

@@ -7,23 +7,8 @@ use Rattle.filters.proofs.WritingLaws.{put-nothing, kept-at, put-one}
 use Rattle.filters.proofs.writing.put_filtered.Statement.{statement}
 use Rattle.filters.proofs.writing.put_filtered.Tie as tie
 
-add-a : tie.Need-add-a
-add-a c = search needs
-
-mul-includes-in : tie.Need-mul-includes-in
-mul-includes-in c = search needs
-
-slice-read-includes-in : tie.Need-slice-read-includes-in
-slice-read-includes-in c = search needs
-
-includes-in-requires : tie.Need-includes-in-requires
-includes-in-requires c κs = search needs
-
-mul-e : tie.Need-mul-e
-mul-e c = search needs
-
-add-e : tie.Need-add-e
-add-e c = search needs
+bounds-at-requires : tie.Need-bounds-at-requires
+bounds-at-requires c κs = search needs
 
 mul-keeps : tie.Need-mul-keeps
 mul-keeps c = search needs
@@ -45,39 +30,29 @@ same-length c = search needs
 
 returns : tie.Need-returns
 returns c w =
-    let k = c .before in
-    let i = k .before .before .before in
-    let a = i .before .before .before .before .args in
-    put-nothing (keepingOf (sectionOf (a .section .now)) (a .keeper)) w (i .includes-in .ensures) (k .keeps .ensures) (not-true _ (c .if1 .taken))
+    let a = c .before .before .before .before .before .before .before .before .args in
+    put-nothing (keepingOf (sectionOf (a .section .now)) (a .keeper)) w (c .before .before .before .before .bounds-at .ensures) (c .before .keeps .ensures) (not-true _ (c .if1 .taken))
 
 put-kept-requires : tie.Need-put-kept-requires
 put-kept-requires c κs =
-    let t = c .before in
-    let i = t .before .before .before .before in
-    let s = i .before .before .before .before in
-    kept-at (keepingOf (sectionOf (s .args .section .now)) (s .args .keeper)) (s .pre) (i .includes-in .ensures) (t .before .keeps .ensures) (not-false _ (t .if1 .left))
+    let s = c .before .before .before .before .before .before .before .before .before in
+    kept-at (keepingOf (sectionOf (s .args .section .now)) (s .args .keeper)) (s .pre) (c .before .before .before .before .before .bounds-at .ensures) (c .before .before .keeps .ensures)
+    (not-false _ (c .before .if1 .left))
 
 same-length-2 : tie.Need-same-length-2
 same-length-2 c = search needs
 
 returns-2 : tie.Need-returns-2
 returns-2 c w =
-    let k = c .before .before in
-    let t = k .before .before in
-    let i = t .before .before .before .before in
-    let a = i .before .before .before .before .args in
-    put-one (keepingOf (sectionOf (a .section .now)) (a .keeper)) w (i .includes-in .ensures) (t .before .keeps .ensures) (not-false _ (t .if1 .left)) (k .put-kept .ensures)
+    let a = c .before .before .before .before .before .before .before .before .before .before .before .before .args in
+    put-one (keepingOf (sectionOf (a .section .now)) (a .keeper)) w (c .before .before .before .before .before .before .before .before .bounds-at .ensures) (c .before .before .before .before .before .keeps .ensures) (not-false _ (c .before .before .before .before .if1 .left))
+    (c .before .before .put-kept .ensures)
 
 pub put-filtered-spec : {M : Type 1} → statement M
 put-filtered-spec =
     tie.close
     (tie.spec
-    add-a
-    mul-includes-in
-    slice-read-includes-in
-    includes-in-requires
-    mul-e
-    add-e
+    bounds-at-requires
     mul-keeps
     sub-keeps
     part-keeps-start

@@ -1,5 +1,5 @@
 -- Without includes it reaches beyond none. Else the part of R decides as all of R does.
-use Rattle.mild.proofs.Seeking.{without-includes, search-at, by-search}
+use Rattle.mild.proofs.AgainstLaws.{without-includes, search-at, by-search}
 use borrow.Author.Needs.{needs}
 use mathlib.Core.Path.{refl}
 use Prim.Native.Nat.{_<_}

@@ -6,22 +6,22 @@ use borrow.Author.Needs.{needs}
 use lib.ListN.{length, drop}
 use Rattle.model.specs.AllStrings.{AllStrs, Every}
 use Rattle.model.specs.Rules.{covered}
-use Rattle.store.specs.Fine.{Fine}
+use Rattle.store.specs.ValidStr.{ValidStr}
 use Rattle.strings.specs.Strings.{strsAt}
 use Rattle.strings.proofs.StringsLaws.{Left, strAt, strsAt-cons, left-start, decides-any, decided-here, decided-later, decided-end}
 use Rattle.mild.proofs.beyond.is_covered.Statement.{statement}
 use Rattle.mild.proofs.beyond.is_covered.Tie as tie
 
 abbrev Inv-loop : tie.InvT-loop
-Inv-loop strs p i₀ i = AllStrs Fine (strsAt (drop i strs)) × Left (covered (strsAt strs) (p .0)) (λ ss. covered ss (p .0)) strs i
+Inv-loop strs p i₀ i = AllStrs ValidStr (strsAt (drop i strs)) × Left (covered (strsAt strs) (p .0)) (λ ss. covered ss (p .0)) strs i
 
 abbrev μ-loop : tie.MeasureT-loop
 μ-loop strs p i₀ i = length strs - i
 
 -- the string in hand, and those after it
-one : (strs : List ℕ) (i : ℕ) → i + 1 < length strs → AllStrs Fine (strsAt (drop i strs)) → Fine (strAt strs i) × AllStrs Fine (strsAt (drop (i + 2) strs))
+one : (strs : List ℕ) (i : ℕ) → i + 1 < length strs → AllStrs ValidStr (strsAt (drop i strs)) → ValidStr (strAt strs i) × AllStrs ValidStr (strsAt (drop (i + 2) strs))
 unfolding Every
-one strs i h f = subst (AllStrs Fine) (strsAt-cons strs i h) f
+one strs i h f = subst (AllStrs ValidStr) (strsAt-cons strs i h) f
 
 loop-holds : tie.Need-loop-holds Inv-loop μ-loop
 loop-holds c = (c .before .pre, left-start _ _)

@@ -1,10 +1,10 @@
--- Invariant: the choices before number c are written; they are the not's first matches (Choosing). Measure: total - c.
+-- Invariant: the choices before number c are written; they are the not's first matches (ChoicesLaws). Measure: total - c.
 use Prim.Native.Nat.{_-_, _≤_}
 use borrow.Author.Needs.{needs}
 use mathlib.Core.Path.{_≡_, refl}
 use lib.ListN.{length}
 use Rattle.negation.specs.Chosen.{ChoicesAt}
-use Rattle.negation.proofs.Choosing.{Going, start, given, step, finish}
+use Rattle.negation.proofs.ChoicesLaws.{Going, start, given, step, finish}
 use Rattle.negation.proofs.choices.put_choices.Statement.{statement}
 use Rattle.negation.proofs.choices.put_choices.Tie as tie
 

@@ -1,13 +1,13 @@
 -- Invariant: what is written, and the strings of choice number rest from the matches left, are the strings of choice number c; weight is the number of these
--- choices (Sides). Measure: n - i. The next match's string is the digit of most weight of rest.
+-- choices (SideLaws). Measure: n - i. The next match's string is the digit of most weight of rest.
 use Prim.Native.Nat.{_-_, _≤_}
 use native.Mathlib.Omega.{arith}
-use borrow.Author.Needs.{needs}
 use mathlib.Core.Path.{_≡_, refl}
 use lib.ListN.{length}
 use Rattle.store.specs.Stream.{Header}
 use Rattle.negation.specs.Chosen.{SideAt}
-use Rattle.negation.proofs.Sides.{Going, Turn, start, here, turn, step, finish}
+use Rattle.negation.proofs.SideLaws.{Going, Turn, start, here, turn, step, finish}
+use borrow.Author.Needs.{needs}
 use Rattle.negation.proofs.choices.put_side.Statement.{statement}
 use Rattle.negation.proofs.choices.put_side.Tie as tie
 
@@ -23,10 +23,9 @@ one : (c : tie.In-loop Inv-loop μ-loop) → Header (c .before .loop .mem) (c .b
 one c = here (c .before .loop .inv .2 (c .before .before .before .before .pre)) (c .loop-test .taken) .held .header
 
 here-turn : (c : tie.After-strings-in Inv-loop μ-loop)
-    → let a = c .before .before .before in Turn (a .loop .mem) (a .before .before .before .args .sort) (a .loop .p) (a .loop .q) (a .loop .rest) (a .loop .weight) (c .strings-in .result)
-here-turn c =
-    let l = c .before .before in
-    turn (l .before .loop .inv .2 (l .before .before .before .before .pre)) (l .loop-test .taken) (c .strings-in .ensures)
+    → let a = c .before .before .before .before .before in
+    Turn (a .loop .mem) (c .before .before .before .before .before .before .before .before .args .sort) (c .before .before .bounds-at .result .includes) (a .loop .q) (a .loop .rest) (a .loop .weight) (c .strings-in .result)
+here-turn c = turn (c .before .before .before .before .before .loop .inv .2 (c .before .before .before .before .before .before .before .before .pre)) (c .before .before .before .before .loop-test .taken) (c .before .before .bounds-at .ensures) (c .strings-in .ensures)
 
 mul-n : tie.Need-mul-n Inv-loop μ-loop
 mul-n c = search needs
@@ -40,20 +39,20 @@ add-p c = search needs
 loop-holds : tie.Need-loop-holds Inv-loop μ-loop
 loop-holds c = (search needs, refl, λ w. start w)
 
+bounds-at-requires : tie.Need-bounds-at-requires Inv-loop μ-loop
+bounds-at-requires c κs = one (c .before)
+
 mul-strings-in : tie.Need-mul-strings-in Inv-loop μ-loop
-mul-strings-in c = omega (arith, one c)
+mul-strings-in c = omega (arith, one (c .before .before))
 
 slice-read-strings-in : tie.Need-slice-read-strings-in Inv-loop μ-loop
-slice-read-strings-in c = omega (arith, one (c .before))
+slice-read-strings-in c = omega (arith, one (c .before .before .before))
 
 strings-in-requires : tie.Need-strings-in-requires Inv-loop μ-loop
 strings-in-requires c κs = search needs
 
 div-weight : tie.Need-div-weight Inv-loop μ-loop
-div-weight c = here-turn c .some
-
-add-put-turned : tie.Need-add-put-turned Inv-loop μ-loop
-add-put-turned c = omega (arith, here-turn (c .before) .ends)
+div-weight c = here-turn (c) .some
 
 div-put-turned : tie.Need-div-put-turned Inv-loop μ-loop
 div-put-turned c = here-turn (c .before) .weighs
@@ -61,23 +60,14 @@ div-put-turned c = here-turn (c .before) .weighs
 mul-put-turned : tie.Need-mul-put-turned Inv-loop μ-loop
 mul-put-turned c = omega (arith, here-turn (c .before) .digit, here-turn (c .before) .few)
 
-add-put-turned-2 : tie.Need-add-put-turned-2 Inv-loop μ-loop
-add-put-turned-2 c = omega (arith, here-turn (c .before) .digit, here-turn (c .before) .ends)
+add-put-turned : tie.Need-add-put-turned Inv-loop μ-loop
+add-put-turned c = omega (arith, here-turn (c .before .before) .turnable .reads)
 
 put-turned-requires : tie.Need-put-turned-requires Inv-loop μ-loop
-put-turned-requires c κs = here-turn (c .before) .turnable
+put-turned-requires c κs = here-turn (c .before .before) .turnable
 
 rem-rest : tie.Need-rem-rest Inv-loop μ-loop
-rem-rest c = here-turn (c .before .before .before .before) .weighs
-
-mul-p : tie.Need-mul-p Inv-loop μ-loop
-mul-p c = omega (arith, here-turn (c .before .before .before .before) .few)
-
-add-p-2 : tie.Need-add-p-2 Inv-loop μ-loop
-add-p-2 c = omega (arith, here-turn (c .before .before .before .before) .few)
-
-add-p-3 : tie.Need-add-p-3 Inv-loop μ-loop
-add-p-3 c = omega (arith, here-turn (c .before .before .before .before) .ends)
+rem-rest c = here-turn (c .before .before .before .before .before) .weighs
 
 add-i : tie.Need-add-i Inv-loop μ-loop
 add-i c = search needs
@@ -86,10 +76,11 @@ loop-less : tie.Need-loop-less Inv-loop μ-loop
 loop-less c = search needs
 
 loop-again : tie.Need-loop-again Inv-loop μ-loop
-loop-again c =
-    let s = c .before .before .before .before in
-    let l = s .before .before in
-    (search needs, search needs, λ w. step (l .before .loop .inv .2 w) (l .loop-test .taken) (s .strings-in .ensures) (c .before .before .put-turned .ensures))
+loop-again c = (
+  search needs,
+  search needs,
+  λ w. step (c .before .before .before .before .before .before .before .before .before .before .loop .inv .2 w) (c .before .before .before .before .before .before .before .before .before .loop-test .taken) (c .before .before .before .before .before .before .before .bounds-at .ensures) (c .before .before .before .before .before .strings-in .ensures) (c .before .before .put-turned .ensures),
+)
 
 same-length : tie.Need-same-length Inv-loop μ-loop
 same-length c = search needs
@@ -107,19 +98,16 @@ put-side-spec =
     slice-read-n
     add-p
     loop-holds
+    bounds-at-requires
     mul-strings-in
     slice-read-strings-in
     strings-in-requires
     div-weight
-    add-put-turned
     div-put-turned
     mul-put-turned
-    add-put-turned-2
+    add-put-turned
     put-turned-requires
     rem-rest
-    mul-p
-    add-p-2
-    add-p-3
     add-i
     loop-less
     loop-again

@@ -1,4 +1,4 @@
--- Invariant: the rows of the left matches before number i are written after the place of the heads, up to q, and the others lie at p as they were. Measure: the
+-- Invariant: the rows of the left matches before number i are written after the place of the header, up to q, and the others lie at p as they were. Measure: the
 -- matches left. The product is sized first, so there is room for all of it.
 use Prim.Native.Nat.{_+_, _-_, _≤_}
 use native.Mathlib.Omega.{arith}
@@ -7,9 +7,9 @@ use mathlib.Core.Path.{_≡_, refl, sym, _∙_}
 use lib.ListN.{length}
 use Rattle.store.specs.Stream.{Header}
 use Rattle.store.proofs.EachLaws.{Going, item}
-use Rattle.store.proofs.Slots.{refused, filled}
-use Rattle.or_and.specs.TwoSlots.{TwoSlots}
-use Rattle.or_and.proofs.AndLaws.{rowOf, rights-below, and-start, and-item, and-step, and-finish}
+use Rattle.store.proofs.SlotsLaws.{refused, filled}
+use Rattle.store.specs.Slot.{TwoSlots}
+use Rattle.or_and.proofs.AndLaws.{rowOf, and-start, and-item, and-step, and-finish}
 use Rattle.or_and.proofs.and.and_list.Statement.{statement}
 use Rattle.or_and.proofs.and.and_list.Tie as tie
 
@@ -87,7 +87,7 @@ put-row-requires : tie.Need-put-row-requires Inv-loop μ-loop
 put-row-requires c κs =
     let i = c .before .before .before in
     let w = i .before .before .before .before .before .before .before .before .before .before .pre in
-    and-item (w .0) (i .before .loop .inv .2 (w .0)) (rights-below (w .0) (w .1 .1)) refl (i .loop-test .taken)
+    and-item (w .0) (i .before .loop .inv .2 (w .0)) (omega (arith, w .1 .1)) refl (i .loop-test .taken)
 
 add-p-2 : tie.Need-add-p-2 Inv-loop μ-loop
 add-p-2 c = omega (arith, one (c .before .before .before .before .before .before), c .before .before .before .before .match-length .ensures)
@@ -106,12 +106,12 @@ loop-again c =
     let u = i .before .before .before .before .before .before .before .before .before .before .pre .1 .1 in (
       search needs,
       search needs,
-      λ w. and-step w (i .before .loop .inv .2 w) (rights-below w u) refl (i .loop-test .taken)
-          (k .put-row .ensures (and-item w (i .before .loop .inv .2 w) (rights-below w u) refl (i .loop-test .taken))) (l .match-length .ensures),
+      λ w. and-step w (i .before .loop .inv .2 w) (omega (arith, u)) refl (i .loop-test .taken)
+          (k .put-row .ensures (and-item w (i .before .loop .inv .2 w) (omega (arith, u)) refl (i .loop-test .taken))) (l .match-length .ensures),
     )
 
-put-heads-requires : tie.Need-put-heads-requires Inv-loop μ-loop
-put-heads-requires c κs = search needs
+put-slot-header-requires : tie.Need-put-slot-header-requires Inv-loop μ-loop
+put-slot-header-requires c κs = search needs
 
 same-length-2 : tie.Need-same-length-2 Inv-loop μ-loop
 same-length-2 c = search needs
@@ -121,7 +121,7 @@ returns-2 c w =
     let h = c .before .before in
     let l = h .before .before in
     let k = l .before .before .before .before .before in
-    filled (sym (k .size .given .1) ∙ k .before .before .and-size .ensures w) (and-finish w (l .before .loop .inv .2 w) (l .loop-test .left)) (h .put-heads .ensures)
+    filled (sym (k .size .given .1) ∙ k .before .before .and-size .ensures w) (and-finish w (l .before .loop .inv .2 w) (l .loop-test .left)) (h .put-slot-header .ensures)
 
 pub and-list-spec : {M : Type 1} → statement M
 and-list-spec =
@@ -152,6 +152,6 @@ and-list-spec =
     add-i
     loop-less
     loop-again
-    put-heads-requires
+    put-slot-header-requires
     same-length-2
     returns-2)

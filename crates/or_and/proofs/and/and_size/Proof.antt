@@ -20,7 +20,7 @@ shared-slice-read-n : tie.Need-shared-slice-read-n
 shared-slice-read-n c = search needs
 
 mul-sized : tie.Need-mul-sized
-mul-sized c = let w = c .before .before .before .pre in omega (arith, mul-le-mul (w .left .heads .few) (w .right .heads .few))
+mul-sized c = let w = c .before .before .before .pre in omega (arith, mul-le-mul (w .left .header .few) (w .right .header .few))
 
 add-sized : tie.Need-add-sized
 add-sized c = search needs
@@ -32,7 +32,7 @@ shared-slice-read-sized : tie.Need-shared-slice-read-sized
 shared-slice-read-sized c = search needs
 
 mul-sized-3 : tie.Need-mul-sized-3
-mul-sized-3 c = let w = c .before .before .before .before .pre in omega (arith, mul-le-mul (w .right .heads .few) (w .left .heads .strs))
+mul-sized-3 c = let w = c .before .before .before .before .pre in omega (arith, mul-le-mul (w .right .header .few) (w .left .header .strs))
 
 add-sized-2 : tie.Need-add-sized-2
 add-sized-2 c = search needs
@@ -44,11 +44,11 @@ shared-slice-read-sized-2 : tie.Need-shared-slice-read-sized-2
 shared-slice-read-sized-2 c = search needs
 
 mul-sized-5 : tie.Need-mul-sized-5
-mul-sized-5 c = let w = c .before .before .before .before .before .pre in omega (arith, mul-le-mul (w .left .heads .few) (w .right .heads .strs))
+mul-sized-5 c = let w = c .before .before .before .before .before .pre in omega (arith, mul-le-mul (w .left .header .few) (w .right .header .strs))
 
 add-sized-3 : tie.Need-add-sized-3
 add-sized-3 c = let w = c .before .before .before .before .before .pre in
-    omega (arith, mul-le-mul (w .right .heads .few) (w .left .heads .strs), mul-le-mul (w .left .heads .few) (w .right .heads .strs))
+    omega (arith, mul-le-mul (w .right .header .few) (w .left .header .strs), mul-le-mul (w .left .header .few) (w .right .header .strs))
 
 sized-requires : tie.Need-sized-requires
 sized-requires c κs = search needs

@@ -1,8 +1,8 @@
--- The sums of the heads are the sizes (or-sizes). Where they are within the limits the right list's matches fit after the left list's, below where they were.
-use Rattle.or_and.proofs.OrLaws.{or-sizes, or-copy, or-filled}
-use Rattle.store.proofs.Slots.{refused}
-use mathlib.Core.Path.{sym, ap, _∙_}
+-- The sums of the headers are the sizes (or-sizes). Where they are within the limits the right list's matches fit after the left list's, below where they were.
 use Prim.Native.Nat.{_+_, _-_}
+use mathlib.Core.Path.{sym, ap, _∙_}
+use Rattle.store.proofs.SlotsLaws.{refused}
+use Rattle.or_and.proofs.OrLaws.{or-sizes, or-copy, or-filled}
 use borrow.Author.Needs.{needs}
 use Rattle.or_and.proofs.or.or_list.Statement.{statement}
 use Rattle.or_and.proofs.or.or_list.Tie as tie
@@ -55,46 +55,35 @@ enum-told c = search needs
 returns : tie.Need-returns
 returns c w = refused (c .before .before .sized .ensures ∙ or-sizes w) (c .enum-told .given .1)
 
-slot-length-requires : tie.Need-slot-length-requires
-slot-length-requires c κs = search needs
+slot-end-requires : tie.Need-slot-end-requires
+slot-end-requires c κs = search needs
 
-add-to : tie.Need-add-to
-add-to c = search needs
+add-from : tie.Need-add-from
+add-from c = search needs
 
-slot-length-requires-2 : tie.Need-slot-length-requires-2
-slot-length-requires-2 c κs = search needs
+slot-end-requires-2 : tie.Need-slot-end-requires-2
+slot-end-requires-2 c κs = search needs
 
 sub-n : tie.Need-sub-n
 sub-n c = search needs
 
-add-copy-down : tie.Need-add-copy-down
-add-copy-down c = search needs
-
 copy-down-requires : tie.Need-copy-down-requires
-copy-down-requires c κs = let n = c .before in
-    let t = n .before .before in
-    let k = t .before .before .before in
-    let s = k .before .before in
-    let g = s .before .before .before .before .before .before in
-    let made = sym (k .size .given .1) ∙ s .sized .ensures ∙ or-sizes (g .pre .0) in
-    or-copy (g .pre .0) made (g .pre .1) (ap (λ x. g .args .l + x) (t .slot-length .ensures)) (ap (λ x. x - 2) (n .slot-length2 .ensures))
+copy-down-requires c κs =
+    let g = c .before .before .before .before .before .before .before .before .before .before .before .before .before .before in
+    let made = sym (c .before .before .before .before .before .before .size .given .1) ∙ c .before .before .before .before .before .before .before .before .sized .ensures ∙ or-sizes (g .pre .0) in
+    or-copy (g .pre .0) made (g .pre .1) (c .before .before .before .slot-end .ensures) (ap (λ x. x - (g .args .r + 2)) (c .before .slot-end2 .ensures))
 
-put-heads-requires : tie.Need-put-heads-requires
-put-heads-requires c κs = search needs
+put-slot-header-requires : tie.Need-put-slot-header-requires
+put-slot-header-requires c κs = search needs
 
 same-length : tie.Need-same-length
 same-length c = search needs
 
 returns-2 : tie.Need-returns-2
-returns-2 c w = let h = c .before .before in
-    let d = h .before .before .before .before in
-    let n = d .before .before in
-    let t = n .before .before in
-    let k = t .before .before .before in
-    let s = k .before .before in
-    let l = s .before .before .before .before .before .before .args .l in
-    let made = sym (k .size .given .1) ∙ s .sized .ensures ∙ or-sizes w in
-    or-filled w made (ap (λ x. l + x) (t .slot-length .ensures)) (ap (λ x. x - 2) (n .slot-length2 .ensures)) (d .copy-down .ensures) (h .put-heads .ensures)
+returns-2 c w =
+    let made = sym (c .before .before .before .before .before .before .before .before .before .before .before .before .before .size .given .1) ∙ c .before .before .before .before .before .before .before .before .before .before .before .before .before .before .before .sized .ensures ∙ or-sizes w in
+    or-filled w made (c .before .before .before .before .before .before .before .before .before .before .slot-end .ensures) (ap (λ x. x - (c .before .before .before .before .before .before .before .before .before .before .before .before .before .before .before .before .before .before .before .before .before .args .r + 2)) (c .before .before .before .before .before .before .before .before .slot-end2 .ensures)) (c .before .before .before .before .before .before .copy-down .ensures)
+    (c .before .before .put-slot-header .ensures)
 
 pub or-list-spec : {M : Type 1} → statement M
 or-list-spec =
@@ -116,12 +105,11 @@ or-list-spec =
     enum-known-size
     enum-told
     returns
-    slot-length-requires
-    add-to
-    slot-length-requires-2
+    slot-end-requires
+    add-from
+    slot-end-requires-2
     sub-n
-    add-copy-down
     copy-down-requires
-    put-heads-requires
+    put-slot-header-requires
     same-length
     returns-2)

@@ -1,9 +1,7 @@
--- The test decides what is written: two numbers, stored one behind the other, or none.
-use native.Mathlib.Omega.{arith}
-use borrow.Author.Needs.{needs}
+-- The test decides whether the string is written.
 use borrow.Author.Tests.{not-true, not-false}
-use lib.ListN.{length-set}
 use Rattle.window.proofs.InsideLaws.{put-outside, put-one, one-room}
+use borrow.Author.Needs.{needs}
 use Rattle.window.proofs.inside.put_if_inside.Statement.{statement}
 use Rattle.window.proofs.inside.put_if_inside.Tie as tie
 
@@ -28,35 +26,14 @@ mul-tag c = search needs
 slice-read-tag : tie.Need-slice-read-tag
 slice-read-tag c = search needs
 
-mul-mem : tie.Need-mul-mem
-mul-mem c = search needs
-
-slice-write-mem : tie.Need-slice-write-mem
-slice-write-mem c =
-    let i = c .before .before in
-    omega (arith, one-room (i .before .before .before .pre) (i .is-inside .ensures) (not-false _ (c .before .if1 .left)))
-
-add-mem : tie.Need-add-mem
-add-mem c = search needs
-
-mul-mem-2 : tie.Need-mul-mem-2
-mul-mem-2 c = search needs
-
-slice-write-mem-2 : tie.Need-slice-write-mem-2
-slice-write-mem-2 c =
-    let i = c .before .before in
-    simp length-set (omega (arith, one-room (i .before .before .before .pre) (i .is-inside .ensures) (not-false _ (c .before .if1 .left))))
-
-add-result : tie.Need-add-result
-add-result c = search needs
+put-string-requires : tie.Need-put-string-requires
+put-string-requires c κs = one-room (c .before .before .before .before .before .before .pre) (c .before .before .before .is-inside .ensures) (not-false _ (c .before .before .if1 .left))
 
 same-length : tie.Need-same-length
 same-length c = search needs
 
 returns-2 : tie.Need-returns-2
-returns-2 c =
-    let i = c .before .before in
-    put-one (i .before .before .before .pre) (i .is-inside .ensures) (not-false _ (c .before .if1 .left))
+returns-2 c = put-one (c .before .before .before .before .before .before .before .before .before .pre) (c .before .before .before .before .before .before .is-inside .ensures) (not-false _ (c .before .before .before .before .before .if1 .left)) (c .before .before .put-string .ensures)
 
 pub put-if-inside-spec : {M : Type 1} → statement M
 put-if-inside-spec =
@@ -69,11 +46,6 @@ put-if-inside-spec =
     add-tag
     mul-tag
     slice-read-tag
-    mul-mem
-    slice-write-mem
-    add-mem
-    mul-mem-2
-    slice-write-mem-2
-    add-result
+    put-string-requires
     same-length
     returns-2)
