@@ -29,7 +29,7 @@ use Rattle.model.proofs.TestsLaws.{both-true}
 use Rattle.model.proofs.WaitingLaws.{fit-of}
 use Rattle.store.proofs.ValidStrLaws.{valid-matches}
 use Rattle.store.proofs.SlotsLaws.{answer-made, answer-long}
-use Rattle.building.specs.Steps.{NoneTaken, OneTaken, TwoTaken, Added}
+use Rattle.building.specs.Steps.{NoneTaken, OneTaken, TwoTaken, Pushed}
 use Rattle.building.specs.State.{Waits, After, AfterCode}
 
 -- ---- firstTooLong of one tree
@@ -38,9 +38,9 @@ first-one : (s : Section) (t : Tree) (b : Bool) → tooLong (allMatches s t) ≡
 unfolding firstTooLong first
 first-one s t b e = rw e
 
--- a list added is that of the tree that waits as the last
+-- a list pushed is that of the tree that waits as the last
 pub grown : {s : Section} {mem : List ℕ} {built : Built} {place : ℕ} (t : Tree) (ts : List Tree) → place ≡ placeOf t
-    → Added (allMatches s t) (map (allMatches s) ts) mem built → After s (t ∷ []) (t ∷ ts) place mem built
+    → Pushed (allMatches s t) (map (allMatches s) ts) mem built → After s (t ∷ []) (t ∷ ts) place mem built
 unfolding first
 grown {s} t ts p a =
     record {
@@ -100,12 +100,12 @@ module _ {section mem : List ℕ} {place rank lists : ℕ} where
     phrase-taken = none-taken
 
     pub phrase-after : {mem' : List ℕ} {built : Built} → ((v : NoneTaken (phraseList (sectionOf section) rank ws) mem lists)
-        → Added (phraseList (sectionOf section) rank ws) (v .rest) mem' built)
+        → Pushed (phraseList (sectionOf section) rank ws) (v .rest) mem' built)
         → AfterCode (sectionOf section) shape s place mem' built
     unfolding none-taken read topTree placeOf
     phrase-after {mem'} {built} f =
         let rest = map (allMatches (sectionOf section)) (s .trees) in
-        let a = subst (λ (l : List Match). Added l rest mem' built) leaf-list (f none-taken) in
+        let a = subst (λ (l : List Match). Pushed l rest mem' built) leaf-list (f none-taken) in
         subst (λ (x : Shape). AfterCode (sectionOf section) x s place mem' built) (sym e) (grown (leaf s) (s .trees) (w .place-is) a)
 
   -- ---- aPair
@@ -126,7 +126,7 @@ module _ {section mem : List ℕ} {place rank lists : ℕ} where
             fine = fine-last (pair k p t u) ts refl w;
           }
 
-      two-after : {mem' : List ℕ} {built : Built} → ((v : TwoTaken (pairList k) mem lists) → Added (pairList k (v .lefts) (v .rights)) (v .rest) mem' built)
+      two-after : {mem' : List ℕ} {built : Built} → ((v : TwoTaken (pairList k) mem lists) → Pushed (pairList k (v .lefts) (v .rights)) (v .rest) mem' built)
           → AfterCode (sectionOf section) (aPair k) (state (u ∷ t ∷ ts) ws p r) place mem' built
       unfolding two-taken read combine topTree placeOf allMatches
       two-after f = grown (pair k p t u) ts (w .place-is) (f two-taken)
@@ -137,7 +137,7 @@ module _ {section mem : List ℕ} {place rank lists : ℕ} where
     pair-taken' (u ∷ t ∷ ts) w = two-taken u t ts w
 
     pair-after' : {mem' : List ℕ} {built : Built} (ts : List Tree) → Waits section mem (aPair k) (state ts ws p r) place rank lists
-        → ((v : TwoTaken (pairList k) mem lists) → Added (pairList k (v .lefts) (v .rights)) (v .rest) mem' built)
+        → ((v : TwoTaken (pairList k) mem lists) → Pushed (pairList k (v .lefts) (v .rights)) (v .rest) mem' built)
         → AfterCode (sectionOf section) (aPair k) (state ts ws p r) place mem' built
     pair-after' [] w f = absurd (omega (arith, fit-of (aPair k) 0 (length ws) (w .here) .finds))
     pair-after' (u ∷ []) w f = absurd (omega (arith, fit-of (aPair k) 1 (length ws) (w .here) .finds))
@@ -150,7 +150,7 @@ module _ {section mem : List ℕ} {place rank lists : ℕ} where
     pub pair-taken : TwoTaken (pairList k) mem lists
     pair-taken = pair-taken' k (s .words) (s .place) (s .rank) (s .trees) as-pair
 
-    pub pair-after : {mem' : List ℕ} {built : Built} → ((v : TwoTaken (pairList k) mem lists) → Added (pairList k (v .lefts) (v .rights)) (v .rest) mem' built)
+    pub pair-after : {mem' : List ℕ} {built : Built} → ((v : TwoTaken (pairList k) mem lists) → Pushed (pairList k (v .lefts) (v .rights)) (v .rest) mem' built)
         → AfterCode (sectionOf section) shape s place mem' built
     pair-after {mem'} {built} f =
         subst (λ (x : Shape). AfterCode (sectionOf section) x s place mem' built) (sym e) (pair-after' k (s .words) (s .place) (s .rank) (s .trees) as-pair f)
@@ -172,7 +172,7 @@ module _ {section mem : List ℕ} {place rank lists : ℕ} where
             fine = fine-last (change k p t) ts refl w;
           }
 
-      one-after : {mem' : List ℕ} {built : Built} → ((v : OneTaken (changeList (sectionOf section) k) mem lists) → Added (changeList (sectionOf section) k (v .list)) (v .rest) mem' built)
+      one-after : {mem' : List ℕ} {built : Built} → ((v : OneTaken (changeList (sectionOf section) k) mem lists) → Pushed (changeList (sectionOf section) k (v .list)) (v .rest) mem' built)
           → AfterCode (sectionOf section) (aChange k) (state (t ∷ ts) ws p r) place mem' built
       unfolding one-taken read changeLast topTree placeOf allMatches
       one-after f = grown (change k p t) ts (w .place-is) (f one-taken)
@@ -182,7 +182,7 @@ module _ {section mem : List ℕ} {place rank lists : ℕ} where
     change-taken' (t ∷ ts) w = one-taken t ts w
 
     change-after' : {mem' : List ℕ} {built : Built} (ts : List Tree) → Waits section mem (aChange k) (state ts ws p r) place rank lists
-        → ((v : OneTaken (changeList (sectionOf section) k) mem lists) → Added (changeList (sectionOf section) k (v .list)) (v .rest) mem' built)
+        → ((v : OneTaken (changeList (sectionOf section) k) mem lists) → Pushed (changeList (sectionOf section) k (v .list)) (v .rest) mem' built)
         → AfterCode (sectionOf section) (aChange k) (state ts ws p r) place mem' built
     change-after' [] w f = absurd (omega (arith, fit-of (aChange k) 0 (length ws) (w .here) .finds))
     change-after' (t ∷ ts) w f = one-after t ts w f
@@ -194,7 +194,7 @@ module _ {section mem : List ℕ} {place rank lists : ℕ} where
     pub change-taken : OneTaken (changeList (sectionOf section) k) mem lists
     change-taken = change-taken' k (s .words) (s .place) (s .rank) (s .trees) as-change
 
-    pub change-after : {mem' : List ℕ} {built : Built} → ((v : OneTaken (changeList (sectionOf section) k) mem lists) → Added (changeList (sectionOf section) k (v .list)) (v .rest) mem' built)
+    pub change-after : {mem' : List ℕ} {built : Built} → ((v : OneTaken (changeList (sectionOf section) k) mem lists) → Pushed (changeList (sectionOf section) k (v .list)) (v .rest) mem' built)
         → AfterCode (sectionOf section) shape s place mem' built
     change-after {mem'} {built} f =
         subst (λ (x : Shape). AfterCode (sectionOf section) x s place mem' built) (sym e) (change-after' k (s .words) (s .place) (s .rank) (s .trees) as-change f)

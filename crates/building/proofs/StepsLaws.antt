@@ -27,36 +27,36 @@ use Rattle.store.proofs.StackLaws.{stack-last, stack-rest, stack-push, stack-bu
 use Rattle.filter_rules.specs.declared.Rule.{Rule}
 use Rattle.filter_rules.specs.declared.Rule.the-variants.{Window as ByWindow}
 use Rattle.filter_rules.specs.Keepers.{filterOf}
-use Rattle.building.specs.Steps.{NoneTaken, OneTaken, TwoTaken, Fresh, Added}
+use Rattle.building.specs.Steps.{NoneTaken, OneTaken, TwoTaken, InScratch, Pushed}
 
 -- a list that a rule has put after the rest waits there
-pub added : {mem mem' : List ℕ} {built : Built} (ms : List Match) (rest : List (List Match)) → length rest < maxWaiting → workLength ≤ length mem
-    → AllList ValidStr ms → Stack mem rest → Outcome ms mem mem' (slotAt (length rest)) built → Added ms rest mem' built
-added ms rest few room f st o =
+pub pushed : {mem mem' : List ℕ} {built : Built} (ms : List Match) (rest : List (List Match)) → length rest < maxWaiting → workLength ≤ length mem
+    → AllList ValidStr ms → Stack mem rest → Outcome ms mem mem' (slotAt (length rest)) built → Pushed ms rest mem' built
+pushed ms rest few room f st o =
     record {
       answered = o .answered;
       waits = λ m s e. let z = answer-made ms (sym e ∙ o .answered) in stack-push ms rest (z .small) f (omega arith) (outcome-put o (z .fits)) st;
     }
 
--- ---- Fresh
+-- ---- InScratch
 
-module _ {mem : List ℕ} {at : ℕ} {built : Built} (w : Fresh mem at built) where
+module _ {mem : List ℕ} {at : ℕ} {built : Built} (w : InScratch mem at built) where
   -- where the list is made, it lies in the slot to build in ..
-  unfoldable pub fresh-slot : {m s : ℕ} → built ≡ Made m s → SlotAt mem scratch
-  fresh-slot e = record { list = w .list; slot = outcome-slot (w .outcome) e (w .fine) (omega (arith, w .room)) }
+  unfoldable pub scratch-slot : {m s : ℕ} → built ≡ Made m s → SlotAt mem scratch
+  scratch-slot e = record { list = w .list; slot = outcome-slot (w .outcome) e (w .fine) (omega (arith, w .room)) }
 
-  pub fresh-below : at + slotSize ≤ scratch
-  fresh-below = omega (arith, w .place, w .few)
+  pub scratch-below : at + slotSize ≤ scratch
+  scratch-below = omega (arith, w .place, w .few)
 
   -- .. and once it is copied it waits
-  pub fresh-copied : {mem' : List ℕ} {m s : ℕ} (e : built ≡ Made m s) → ((v : SlotAt mem scratch) → mem' ≡ sets mem at (slotNumbers (v .list))) → Added (w .list) (w .rest) mem' built
-  unfolding fresh-slot
-  fresh-copied {mem'} e copied =
-      let c : mem' ≡ sets mem (slotAt (length (w .rest))) (slotNumbers (w .list)) = copied (fresh-slot e) ∙ ap (λ (i : ℕ). sets mem i (slotNumbers (w .list))) (w .place) in
+  pub scratch-copied : {mem' : List ℕ} {m s : ℕ} (e : built ≡ Made m s) → ((v : SlotAt mem scratch) → mem' ≡ sets mem at (slotNumbers (v .list))) → Pushed (w .list) (w .rest) mem' built
+  unfolding scratch-slot
+  scratch-copied {mem'} e copied =
+      let c : mem' ≡ sets mem (slotAt (length (w .rest))) (slotNumbers (w .list)) = copied (scratch-slot e) ∙ ap (λ (i : ℕ). sets mem i (slotNumbers (w .list))) (w .place) in
       record { answered = w .outcome .answered; waits = λ m s e'. stack-built (w .list) (w .rest) (w .few) (w .room) (w .fine) (w .outcome) e c (w .stack) }
 
-  pub fresh-long : {mem' : List ℕ} → built ≡ TooLong → Added (w .list) (w .rest) mem' built
-  fresh-long t = record { answered = w .outcome .answered; waits = λ m s e. absurd (let z : _≡_ {A = ℕ} 0 1 = cc in omega arith) }
+  pub scratch-long : {mem' : List ℕ} → built ≡ TooLong → Pushed (w .list) (w .rest) mem' built
+  scratch-long t = record { answered = w .outcome .answered; waits = λ m s e. absurd (let z : _≡_ {A = ℕ} 0 1 = cc in omega arith) }
 
 -- ---- a rule that takes none
 
@@ -64,10 +64,10 @@ module _ {new : List Match} {mem : List ℕ} {lists : ℕ} (w : NoneTaken new me
   pub none-room : lists * slotSize + slotSize ≤ length mem
   none-room = omega (arith, w .few, w .room)
 
-  pub none-added : {mem' : List ℕ} {built : Built} → Outcome new mem mem' (lists * slotSize) built → Added new (w .rest) mem' built
-  none-added {mem'} {built} o =
+  pub none-pushed : {mem' : List ℕ} {built : Built} → Outcome new mem mem' (lists * slotSize) built → Pushed new (w .rest) mem' built
+  none-pushed {mem'} {built} o =
       let at : lists * slotSize ≡ slotAt (length (w .rest)) = omega (arith, w .count) in
-      added new (w .rest) (omega (arith, w .count, w .few)) (w .room) (w .fine) (w .stack) (subst (λ (i : ℕ). Outcome new mem mem' i built) at o)
+      pushed new (w .rest) (omega (arith, w .count, w .few)) (w .room) (w .fine) (w .stack) (subst (λ (i : ℕ). Outcome new mem mem' i built) at o)
 
 -- ---- a rule that takes the last list
 
@@ -81,9 +81,9 @@ module _ {rule : List Match → List Match} {mem : List ℕ} {lists : ℕ} (w : 
   one-under = record { below = omega (arith, w .few); room = omega (arith, w .room) }
 
   module _ {mem' : List ℕ} {built : Built} (o : (v : SlotAt mem ((lists - 1) * slotSize)) → Outcome (rule (v .list)) mem mem' scratch built) where
-    unfoldable pub one-fresh : Fresh mem' ((lists - 1) * slotSize) built
+    unfoldable pub one-in-scratch : InScratch mem' ((lists - 1) * slotSize) built
     unfolding one-slot
-    one-fresh =
+    one-in-scratch =
         record {
           list = rule (w .list);
           rest = w .rest;
@@ -96,9 +96,9 @@ module _ {rule : List Match → List Match} {mem : List ℕ} {lists : ℕ} (w : 
           fine = w .fine;
         }
 
-    pub one-settled : {mem'' : List ℕ} {b : Built} → ((v : Fresh mem' ((lists - 1) * slotSize) built) → Added (v .list) (v .rest) mem'' b) → Added (rule (w .list)) (w .rest) mem'' b
-    unfolding one-fresh
-    one-settled f = f one-fresh
+    pub one-moved : {mem'' : List ℕ} {b : Built} → ((v : InScratch mem' ((lists - 1) * slotSize) built) → Pushed (v .list) (v .rest) mem'' b) → Pushed (rule (w .list)) (w .rest) mem'' b
+    unfolding one-in-scratch
+    one-moved f = f one-in-scratch
 
 -- ---- a rule that takes the last two
 
@@ -126,18 +126,18 @@ module _ {rule : List Match → List Match → List Match} {mem : List ℕ} {lis
   two-rest = stack-rest mem (w .lefts) (w .rest) (stack-rest mem (w .rights) (w .lefts ∷ w .rest) (w .stack))
 
   -- `or` works in the left list's own slot
-  pub two-added : {mem' : List ℕ} {built : Built} → ((v : TwoSlots mem ((lists - 2) * slotSize) ((lists - 1) * slotSize)) → Outcome (rule (v .lefts) (v .rights)) mem mem' ((lists - 2) * slotSize) built)
-      → Added (rule (w .lefts) (w .rights)) (w .rest) mem' built
+  pub two-pushed : {mem' : List ℕ} {built : Built} → ((v : TwoSlots mem ((lists - 2) * slotSize) ((lists - 1) * slotSize)) → Outcome (rule (v .lefts) (v .rights)) mem mem' ((lists - 2) * slotSize) built)
+      → Pushed (rule (w .lefts) (w .rights)) (w .rest) mem' built
   unfolding two-slots
-  two-added {mem'} {built} o =
+  two-pushed {mem'} {built} o =
       let list = rule (w .lefts) (w .rights) in
       let l : (lists - 2) * slotSize ≡ slotAt (length (w .rest)) = omega (arith, w .count) in
-      added list (w .rest) (omega (arith, w .count, w .few)) (w .room) (w .fine) two-rest (subst (λ (i : ℕ). Outcome list mem mem' i built) l (o two-slots))
+      pushed list (w .rest) (omega (arith, w .count, w .few)) (w .room) (w .fine) two-rest (subst (λ (i : ℕ). Outcome list mem mem' i built) l (o two-slots))
 
   module _ {mem' : List ℕ} {built : Built} (o : (v : TwoSlots mem ((lists - 2) * slotSize) ((lists - 1) * slotSize)) → Outcome (rule (v .lefts) (v .rights)) mem mem' scratch built) where
-    unfoldable pub two-fresh : Fresh mem' ((lists - 2) * slotSize) built
+    unfoldable pub two-in-scratch : InScratch mem' ((lists - 2) * slotSize) built
     unfolding two-slots
-    two-fresh =
+    two-in-scratch =
         record {
           list = rule (w .lefts) (w .rights);
           rest = w .rest;
@@ -150,10 +150,10 @@ module _ {rule : List Match → List Match → List Match} {mem : List ℕ} {lis
           fine = w .fine;
         }
 
-    pub two-settled : {mem'' : List ℕ} {b : Built} → ((v : Fresh mem' ((lists - 2) * slotSize) built) → Added (v .list) (v .rest) mem'' b)
-        → Added (rule (w .lefts) (w .rights)) (w .rest) mem'' b
-    unfolding two-fresh
-    two-settled f = f two-fresh
+    pub two-moved : {mem'' : List ℕ} {b : Built} → ((v : InScratch mem' ((lists - 2) * slotSize) built) → Pushed (v .list) (v .rest) mem'' b)
+        → Pushed (rule (w .lefts) (w .rights)) (w .rest) mem'' b
+    unfolding two-in-scratch
+    two-moved f = f two-in-scratch
 
 -- a combination by its name
 module _ {k j : Pair} {mem : List ℕ} {lists : ℕ} (e : k ≡ j) (w : TwoTaken (pairList k) mem lists) where
@@ -170,10 +170,10 @@ module _ {k j : Pair} {mem : List ℕ} {lists : ℕ} (e : k ≡ j) (w : TwoTaken
         fine = subst (λ (i : Pair). AllList ValidStr (pairList i (w .lefts) (w .rights))) e (w .fine);
       }
 
-  pub pair-added : {mem' : List ℕ} {built : Built} → ((v : TwoTaken (pairList j) mem lists) → Added (pairList j (v .lefts) (v .rights)) (v .rest) mem' built)
-      → Added (pairList k (w .lefts) (w .rights)) (w .rest) mem' built
+  pub pair-pushed : {mem' : List ℕ} {built : Built} → ((v : TwoTaken (pairList j) mem lists) → Pushed (pairList j (v .lefts) (v .rights)) (v .rest) mem' built)
+      → Pushed (pairList k (w .lefts) (w .rights)) (w .rest) mem' built
   unfolding pair-as
-  pair-added {mem'} {built} f = subst (λ (i : Pair). Added (pairList i (w .lefts) (w .rights)) (w .rest) mem' built) (sym e) (f pair-as)
+  pair-pushed {mem'} {built} f = subst (λ (i : Pair). Pushed (pairList i (w .lefts) (w .rights)) (w .rest) mem' built) (sym e) (f pair-as)
 
 -- ---- a filter by its rule
 

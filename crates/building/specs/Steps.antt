@@ -45,7 +45,7 @@ pub record TwoTaken (rule : List Match → List Match → List Match) (mem : Lis
   pub fine : AllList ValidStr (rule lefts rights)
 
 -- a rule has answered for a list that it built in the slot for that; it is to wait at `at`, after the rest
-pub record Fresh (mem : List ℕ) (at : ℕ) (built : Built) : Type 0 where
+pub record InScratch (mem : List ℕ) (at : ℕ) (built : Built) : Type 0 where
   pub list : List Match
   pub rest : List (List Match)
   pub before : List ℕ
@@ -57,6 +57,6 @@ pub record Fresh (mem : List ℕ) (at : ℕ) (built : Built) : Type 0 where
   pub fine : AllList ValidStr list
 
 -- a list is answered for; where it is made, it waits after the rest
-pub record Added (list : List Match) (rest : List (List Match)) (exit : List ℕ) (built : Built) : Type 0 where
+pub record Pushed (list : List Match) (rest : List (List Match)) (exit : List ℕ) (built : Built) : Type 0 where
   pub answered : built ≡ builtOf list
   pub waits : (m s : ℕ) → built ≡ Made m s → Stack exit (list ∷ rest)

@@ -20,12 +20,12 @@ ghost use Rattle.store.specs.Places.{SlotBelow};
 ghost use Rattle.store.specs.Slot.{SlotAt};
 ghost use Rattle.window.specs.Inside.{WindowSize};
 ghost use Rattle.building.specs.State.{AfterCode, WaitsAt};
-ghost use Rattle.building.specs.Steps.{Added, Fresh, NoneTaken, OneTaken, TwoTaken};
+ghost use Rattle.building.specs.Steps.{Pushed, InScratch, NoneTaken, OneTaken, TwoTaken};
 
 // Copies a list that was built in the slot for that down to `at`, unless it is too long.
-fn settle(mem: &mut [u32], built: Built, at: usize) -> Built
-    requires { ⌜ Fresh (now mem) at built ⌝ }
-    ensures { λ r. ⌜ ((w : Fresh (now (mem .entry)) at built) → Added (w .list) (w .rest) (now (mem .exit)) r) ⌝ }
+fn move_from_scratch(mem: &mut [u32], built: Built, at: usize) -> Built
+    requires { ⌜ InScratch (now mem) at built ⌝ }
+    ensures { λ r. ⌜ ((w : InScratch (now (mem .entry)) at built) → Pushed (w .list) (w .rest) (now (mem .exit)) r) ⌝ }
 {
     let Built::Made { .. } = built else {
         return built;
@@ -42,7 +42,7 @@ fn build_phrase(section: &[u32], words: &[u32], rank: u32, mem: &mut [u32], list
     requires { ⌜ NoneTaken (phraseList (sectionOf (now section)) rank (now words)) (now mem) lists ⌝ }
     ensures { λ r.
         ⌜ ((w : NoneTaken (phraseList (sectionOf (now (section .entry))) rank (now (words .entry))) (now (mem .entry)) lists)
-        → Added (phraseList (sectionOf (now (section .entry))) rank (now (words .entry))) (w .rest) (now (mem .exit)) r) ⌝ }
+        → Pushed (phraseList (sectionOf (now (section .entry))) rank (now (words .entry))) (w .rest) (now (mem .exit)) r) ⌝ }
 {
     phrase::phrase_list(section, words, rank, mem, lists * store::SLOT)
 }
@@ -50,7 +50,7 @@ fn build_phrase(section: &[u32], words: &[u32], rank: u32, mem: &mut [u32], list
 // Or, of the last two lists.
 fn build_or(mem: &mut [u32], lists: usize) -> Built
     requires { ⌜ TwoTaken orList (now mem) lists ⌝ }
-    ensures { λ r. ⌜ ((w : TwoTaken orList (now (mem .entry)) lists) → Added (orList (w .lefts) (w .rights)) (w .rest) (now (mem .exit)) r) ⌝ }
+    ensures { λ r. ⌜ ((w : TwoTaken orList (now (mem .entry)) lists) → Pushed (orList (w .lefts) (w .rights)) (w .rest) (now (mem .exit)) r) ⌝ }
 {
     or_and::or::or_list(mem, (lists - 2) * store::SLOT, (lists - 1) * store::SLOT)
 }
@@ -58,29 +58,29 @@ fn build_or(mem: &mut [u32], lists: usize) -> Built
 // And, of the last two lists.
 fn build_and(mem: &mut [u32], lists: usize) -> Built
     requires { ⌜ TwoTaken andList (now mem) lists ⌝ }
-    ensures { λ r. ⌜ ((w : TwoTaken andList (now (mem .entry)) lists) → Added (andList (w .lefts) (w .rights)) (w .rest) (now (mem .exit)) r) ⌝ }
+    ensures { λ r. ⌜ ((w : TwoTaken andList (now (mem .entry)) lists) → Pushed (andList (w .lefts) (w .rights)) (w .rest) (now (mem .exit)) r) ⌝ }
 {
     let l = (lists - 2) * store::SLOT;
     let r = (lists - 1) * store::SLOT;
     let built = or_and::and::and_list(mem, l, r, store::SCRATCH);
-    settle(mem, built, l)
+    move_from_scratch(mem, built, l)
 }
 
 // Mild not, of the last two lists.
 fn build_mild_not(mem: &mut [u32], lists: usize) -> Built
     requires { ⌜ TwoTaken mildNotList (now mem) lists ⌝ }
-    ensures { λ r. ⌜ ((w : TwoTaken mildNotList (now (mem .entry)) lists) → Added (mildNotList (w .lefts) (w .rights)) (w .rest) (now (mem .exit)) r) ⌝ }
+    ensures { λ r. ⌜ ((w : TwoTaken mildNotList (now (mem .entry)) lists) → Pushed (mildNotList (w .lefts) (w .rights)) (w .rest) (now (mem .exit)) r) ⌝ }
 {
     let l = (lists - 2) * store::SLOT;
     let r = (lists - 1) * store::SLOT;
     let built = mild::mild_not_list(mem, l, r, store::SCRATCH);
-    settle(mem, built, l)
+    move_from_scratch(mem, built, l)
 }
 
 // A combination, of the last two lists.
 fn build_pair(pair: Pair, mem: &mut [u32], lists: usize) -> Built
     requires { ⌜ TwoTaken (pairList pair) (now mem) lists ⌝ }
-    ensures { λ r. ⌜ ((w : TwoTaken (pairList pair) (now (mem .entry)) lists) → Added (pairList pair (w .lefts) (w .rights)) (w .rest) (now (mem .exit)) r) ⌝ }
+    ensures { λ r. ⌜ ((w : TwoTaken (pairList pair) (now (mem .entry)) lists) → Pushed (pairList pair (w .lefts) (w .rights)) (w .rest) (now (mem .exit)) r) ⌝ }
 {
     match pair {
         Pair::Or => build_or(mem, lists),
@@ -92,11 +92,11 @@ fn build_pair(pair: Pair, mem: &mut [u32], lists: usize) -> Built
 // Not, of the last list.
 fn build_not(mem: &mut [u32], lists: usize) -> Built
     requires { ⌜ OneTaken notList (now mem) lists ⌝ }
-    ensures { λ r. ⌜ ((w : OneTaken notList (now (mem .entry)) lists) → Added (notList (w .list)) (w .rest) (now (mem .exit)) r) ⌝ }
+    ensures { λ r. ⌜ ((w : OneTaken notList (now (mem .entry)) lists) → Pushed (notList (w .list)) (w .rest) (now (mem .exit)) r) ⌝ }
 {
     let src = (lists - 1) * store::SLOT;
     let built = negation::not_list(mem, src, store::SCRATCH);
-    settle(mem, built, src)
+    move_from_scratch(mem, built, src)
 }
 
 // What a filter makes of the list in the slot at src, in the slot to build in.
@@ -120,11 +120,11 @@ fn build_filter(section: &[u32], filter: Filter, mem: &mut [u32], lists: usize) 
     requires { ⌜ OneTaken (filterList (sectionOf (now section)) filter) (now mem) lists ⌝ }
     ensures { λ r.
         ⌜ ((w : OneTaken (filterList (sectionOf (now (section .entry))) filter) (now (mem .entry)) lists)
-        → Added (filterList (sectionOf (now (section .entry))) filter (w .list)) (w .rest) (now (mem .exit)) r) ⌝ }
+        → Pushed (filterList (sectionOf (now (section .entry))) filter (w .list)) (w .rest) (now (mem .exit)) r) ⌝ }
 {
     let src = (lists - 1) * store::SLOT;
     let built = filtered(section, filter, mem, src);
-    settle(mem, built, src)
+    move_from_scratch(mem, built, src)
 }
 
 // The list of the code at a place, from the lists that wait before it. A word has none.

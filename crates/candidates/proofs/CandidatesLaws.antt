@@ -9,7 +9,7 @@ use borrow.Author.Tests.{le-leb, leb-true}
 use lib.Dec.{leb}
 use Rattle.model.specs.Lists.{anyOf}
 use Rattle.model.specs.Matches.{Str, Match}
-use Rattle.model.specs.Rules.{covered, covers, reachesBeyond}
+use Rattle.model.specs.Rules.{covered, covers, hasUncovered}
 use Rattle.model.proofs.TestsLaws.{both-true, and-join, false-true}
 use Rattle.store.specs.Layout.{slotLength, slotSize}
 use Rattle.store.specs.Put.{Put}
@@ -24,7 +24,7 @@ use Rattle.candidates.specs.Edges.{Within}
 use Rattle.candidates.specs.Candidates.{CandidatesAre}
 use Rattle.candidates.specs.Overlapping.{overlapBoth, anyOverlaps, overlaps}
 use Rattle.candidates.specs.Passing.{fromFirst, upToLast}
-use Rattle.candidates.proofs.ReachingLaws.{beyond-at}
+use Rattle.candidates.proofs.UncoveredLaws.{uncovered-at}
 use Rattle.candidates.proofs.PassingLaws.{all-fromFirst, all-upToLast, length-upToLast}
 
 -- ---- anyOverlaps
@@ -57,17 +57,17 @@ apart-uncovered range p w ss e = at (covered ss p) refl
 
 module _ (l : Match) (p q : ℕ) (e : covered (l .includes) p ≡ true) (f : covered (l .includes) q ≡ true) where
   -- .. reaches beyond a match that doesn't cover one of them ..
-  either : (m : Match) (s t : Bool) → (s ≡ false → covered (m .includes) p ≡ false) → (t ≡ false → covered (m .includes) q ≡ false) → (s && t) ≡ false → reachesBeyond l m ≡ true
+  either : (m : Match) (s t : Bool) → (s ≡ false → covered (m .includes) p ≡ false) → (t ≡ false → covered (m .includes) q ≡ false) → (s && t) ≡ false → hasUncovered l m ≡ true
   either m true true a b c = false-true (sym c)
-  either m true false a b c = beyond-at (l .includes) (m .includes) q f (b refl)
-  either m false t a b c = beyond-at (l .includes) (m .includes) p e (a refl)
+  either m true false a b c = uncovered-at (l .includes) (m .includes) q f (b refl)
+  either m false t a b c = uncovered-at (l .includes) (m .includes) p e (a refl)
 
   -- .. so beyond one that doesn't cover both ..
-  pub uncovered-beyond : (m : Match) → (covered (m .includes) p && covered (m .includes) q) ≡ false → reachesBeyond l m ≡ true
+  pub uncovered-beyond : (m : Match) → (covered (m .includes) p && covered (m .includes) q) ≡ false → hasUncovered l m ≡ true
   uncovered-beyond m = either m (covered (m .includes) p) (covered (m .includes) q) (λ z. z) (λ z. z)
 
   -- .. and beyond one that doesn't overlap both ranges with these positions
-  pub apart-beyond : (ranges : Ranges) → Within (ranges .start) p → Within (ranges .end) q → (m : Match) → overlapBoth ranges (m .includes) ≡ false → reachesBeyond l m ≡ true
+  pub apart-beyond : (ranges : Ranges) → Within (ranges .start) p → Within (ranges .end) q → (m : Match) → overlapBoth ranges (m .includes) ≡ false → hasUncovered l m ≡ true
   apart-beyond ranges v w m =
       either m (anyOverlaps (ranges .start) (m .includes)) (anyOverlaps (ranges .end) (m .includes)) (apart-uncovered (ranges .start) p v (m .includes)) (apart-uncovered (ranges .end) q w (m .includes))
 

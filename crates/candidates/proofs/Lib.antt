@@ -1,4 +1,4 @@
 pub mod CandidatesLaws
 pub mod EdgesLaws
-pub mod ReachingLaws
+pub mod UncoveredLaws
 pub mod PassingLaws

@@ -1,4 +1,4 @@
--- A search for the first match that passes a test goes by what is left; one for the last splits the matches passed, and none behind the split passes.
+-- A search for the first match that passes a test goes by what is left; one for the last splits the matches passed, and none after the split passes.
 use Prim.Native.Nat.{ℕ, _+_, _-_, _≤_, _<_}
 use native.Mathlib.Omega.{arith}
 use mathlib.Core.Path.{_≡_, refl, sym, ap, _∙_, subst}
@@ -8,7 +8,7 @@ use lib.ListN.{length, take, drop, getD, length-append}
 use Rattle.model.specs.AllStrings.{AllList, Every}
 use Rattle.model.specs.Lists.{allOf, anyOf}
 use Rattle.model.specs.Matches.{Str, Match}
-use Rattle.model.specs.Rules.{reachesBeyond}
+use Rattle.model.specs.Rules.{hasUncovered}
 use Rattle.model.proofs.ListsLaws.{any-append}
 use Rattle.model.proofs.RulesLaws.{strings-append}
 use Rattle.model.proofs.TestsLaws.{both-false}
@@ -77,7 +77,7 @@ unfolding upToLast anyOf
 none-last test [] e = refl
 none-last test (m ∷ ms) e = rw e
 
--- behind matches of any sort one that passes
+-- after matches of any sort one that passes
 some-there : (test : List Str → Bool) (os : List Match) (m : Match) (ms : List Match) → passes test m ≡ true → anyOf (passes test) (os ++ m ∷ ms) ≡ true
 unfolding anyOf
 some-there test os m ms e = any-append (passes test) os (m ∷ ms) ∙ rw e (or-true (anyOf (passes test) os))
@@ -101,7 +101,7 @@ length-upToLast test (m ∷ ms) = at (anyOf (passes test) (m ∷ ms)) (length-up
     at true h = omega (arith, numbers (upToLast test ms), numbers ms)
     at false h = omega (arith, ap length matches-none)
 
--- before the match at `at`: of those walked over, none at `behind` or after it passes the test
+-- before the match at `at`: of those walked over, none at `after` or after it passes the test
 pub record Ending (test : List Str → Bool) (all : List Match) (mem : List ℕ) (behind at end : ℕ) : Type 0 where
   pub part : List Match
   pub others : List Match
@@ -170,21 +170,21 @@ module _ {test : List Str → Bool} {mem : List ℕ} {from end : ℕ} (w : Remai
             left = after;
           }
 
--- ---- reachesBeyond
+-- ---- hasUncovered
 
 -- a match that reaches beyond all that don't pass a test reaches beyond all, if beyond those from the first one on that passes ..
-module _ (l : Match) (test : List Str → Bool) (miss : (m : Match) → test (m .includes) ≡ false → reachesBeyond l m ≡ true) where
-  pub all-fromFirst : (ms : List Match) → allOf (reachesBeyond l) (fromFirst test ms) ≡ allOf (reachesBeyond l) ms
+module _ (l : Match) (test : List Str → Bool) (miss : (m : Match) → test (m .includes) ≡ false → hasUncovered l m ≡ true) where
+  pub all-fromFirst : (ms : List Match) → allOf (hasUncovered l) (fromFirst test ms) ≡ allOf (hasUncovered l) ms
   unfolding fromFirst allOf
   all-fromFirst [] = refl
   all-fromFirst (m ∷ ms) = at (test (m .includes)) refl (all-fromFirst ms)
     where
-      at : (b : Bool) → test (m .includes) ≡ b → allOf (reachesBeyond l) (fromFirst test ms) ≡ allOf (reachesBeyond l) ms
-          → allOf (reachesBeyond l) (cond b (m ∷ ms) (fromFirst test ms)) ≡ (reachesBeyond l m && allOf (reachesBeyond l) ms)
+      at : (b : Bool) → test (m .includes) ≡ b → allOf (hasUncovered l) (fromFirst test ms) ≡ allOf (hasUncovered l) ms
+          → allOf (hasUncovered l) (cond b (m ∷ ms) (fromFirst test ms)) ≡ (hasUncovered l m && allOf (hasUncovered l) ms)
       at true e later = refl
       at false e later = rw (miss m e) later
 
-  none-passes : (ms : List Match) → anyOf (passes test) ms ≡ false → allOf (reachesBeyond l) ms ≡ true
+  none-passes : (ms : List Match) → anyOf (passes test) ms ≡ false → allOf (hasUncovered l) ms ≡ true
   unfolding anyOf allOf
   none-passes [] e = refl
   none-passes (m ∷ ms) e =
@@ -192,12 +192,12 @@ module _ (l : Match) (test : List Str → Bool) (miss : (m : Match) → test (m 
       rw (miss m (both .0)) (none-passes ms (both .1))
 
   -- .. and up to the last one
-  pub all-upToLast : (ms : List Match) → allOf (reachesBeyond l) (upToLast test ms) ≡ allOf (reachesBeyond l) ms
+  pub all-upToLast : (ms : List Match) → allOf (hasUncovered l) (upToLast test ms) ≡ allOf (hasUncovered l) ms
   unfolding upToLast allOf
   all-upToLast [] = refl
   all-upToLast (m ∷ ms) = at (anyOf (passes test) (m ∷ ms)) refl (all-upToLast ms)
     where
-      at : (b : Bool) → anyOf (passes test) (m ∷ ms) ≡ b → allOf (reachesBeyond l) (upToLast test ms) ≡ allOf (reachesBeyond l) ms
-          → allOf (reachesBeyond l) (cond b (m ∷ upToLast test ms) []) ≡ allOf (reachesBeyond l) (m ∷ ms)
-      at true e later = ap (λ t. reachesBeyond l m && t) later
+      at : (b : Bool) → anyOf (passes test) (m ∷ ms) ≡ b → allOf (hasUncovered l) (upToLast test ms) ≡ allOf (hasUncovered l) ms
+          → allOf (hasUncovered l) (cond b (m ∷ upToLast test ms) []) ≡ allOf (hasUncovered l) (m ∷ ms)
+      at true e later = ap (λ t. hasUncovered l m && t) later
       at false e later = sym (none-passes (m ∷ ms) e)

@@ -5,7 +5,7 @@ use mathlib.Core.List.{List}
 use mathlib.Core.Path.{_≡_}
 use Rattle.model.specs.Lists.{allOf}
 use Rattle.model.specs.Matches.{Match}
-use Rattle.model.specs.Rules.{covered, reachesBeyond}
+use Rattle.model.specs.Rules.{covered, hasUncovered}
 use Rattle.store.specs.Layout.{slotSize}
 use Rattle.store.specs.Slot.{SlotHolds}
 use Rattle.store.specs.Stream.{MatchHolds, Remaining, StreamAt}
@@ -18,7 +18,7 @@ pub record CandidatesAre (rights : List Match) (mem : List ℕ) (r : ℕ) (candi
   pub stream : Remaining part mem (candidates .from) (candidates .end)
   pub within : candidates .end ≤ r + slotSize
   pub same : (p q : ℕ) → Within (candidates .ranges .start) p → Within (candidates .ranges .end) q → (l : Match) → covered (l .includes) p ≡ true → covered (l .includes) q ≡ true
-      → allOf (reachesBeyond l) part ≡ allOf (reachesBeyond l) rights
+      → allOf (hasUncovered l) part ≡ allOf (hasUncovered l) rights
 
 -- a match at p, the first of n, R in the slot at r, and a part of it
 pub record CandidatesAt (mem : List ℕ) (p n r : ℕ) (known : Candidates) : Type 0 where

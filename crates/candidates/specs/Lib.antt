@@ -1,5 +1,5 @@
 pub mod Edges
 pub mod Candidates
-pub mod Reaching
+pub mod Uncovered
 pub mod Passing
 pub mod Overlapping

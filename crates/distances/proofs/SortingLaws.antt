@@ -1,5 +1,5 @@
 -- The neighbours of a sorted list are told from the list unsorted: what is gathered of a list, each number in turn and in any order, is the same of the list
--- sorted, and in a sorted list the least number above another is the first behind its copies. A span's number keeps the order by start, then end.
+-- sorted, and in a sorted list the least number above another is the first after its copies. A span's number keeps the order by start, then end.
 use Prim.Native.Nat.{ℕ, _+_, _≤_, _<_, min}
 use native.Mathlib.Nat.{eq-or-lt-of-le}
 use native.Mathlib.Omega.{arith}
@@ -129,7 +129,7 @@ module _ {A : Type 0} (P : A → Type 0) (le : A → A → Bool) where
   every-sort [] a = tt
   every-sort (x ∷ xs) a = every-insert x (sort le xs) (a .0) (every-sort xs (a .1))
 
--- each number is at most those behind it
+-- each number is at most those after it
 unfoldable Rising : List ℕ → Type 0
 Rising [] = Unit {0}
 Rising (x ∷ xs) = Every (λ y. x ≤ y) xs × Rising xs

@@ -1,4 +1,4 @@
--- What follows a number in a sorted list, told from the list unsorted: an equal number where it has copies, and behind the last of them the least above it.
+-- What follows a number in a sorted list, told from the list unsorted: an equal number where it has copies, and after the last of them the least above it.
 use Prim.Native.Nat.{ℕ, _+_, min}
 use mathlib.Core.Bool.{Bool, _&&_, _||_, cond}
 use mathlib.Core.List.{List, foldr}

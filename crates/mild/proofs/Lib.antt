@@ -1,2 +1,2 @@
-pub mod BeyondLaws
-pub mod AgainstLaws
+pub mod UncoveredLaws
+pub mod KeepsLaws

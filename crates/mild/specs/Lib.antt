@@ -1,2 +1,2 @@
-pub mod Beyond
-pub mod Reach
+pub mod Uncovered
+pub mod Keeps

@@ -1,8 +1,8 @@
 // Mild not: "L's matches in which, for every match of R, some position covered by an include isn't covered by R's includes."
-mod against;
-mod beyond;
+mod keeps;
+mod uncovered;
 
-use against::reach;
+use keeps::is_kept;
 use candidates::all_of;
 use store::Built;
 ghost use lib.ListN.{length};
@@ -14,7 +14,7 @@ ghost use Rattle.store.specs.Places.{SlotBelow};
 ghost use Rattle.store.specs.Put.{Put};
 ghost use Rattle.store.specs.Slot.{TwoSlots};
 
-// Puts the match at p to q if it is kept; gives the place behind it.
+// Puts the match at p to q if it is kept; gives the place after it.
 fn put_kept(mem: &mut [u32], p: usize, q: usize, kept: bool) -> usize
     requires { ⌜ OneAt (keptIf «kept») (now mem) p q ⌝ }
     ensures { λ next.
@@ -44,10 +44,10 @@ pub fn mild_not_list(mem: &mut [u32], l: usize, r: usize, at: usize) -> Built
     let mut i = 0;
     while i < n {
         let length = store::match_length(mem[p]);
-        let reached = reach(mem, p, n - i, r, candidates);
-        let next = put_kept(mem, p, q, reached.beyond);
+        let answer = is_kept(mem, p, n - i, r, candidates);
+        let next = put_kept(mem, p, q, answer.kept);
         matches = store::count_one(matches, q, next);
-        candidates = reached.candidates;
+        candidates = answer.candidates;
         q = next;
         p += length;
         i += 1;

@@ -15,7 +15,7 @@ use Rattle.model.specs.declared.Pair.the-variants.{Or, And, MildNot}
 use Rattle.model.specs.Kinds.{Change, negated, filtered}
 use Rattle.model.specs.Lists.{allOf, keep, fromTo}
 use Rattle.model.specs.Matches.{Str, Match}
-use Rattle.model.specs.Rules.{standFrom, found, phraseList, orList, joined, andList, noStrings, withInclude, withExclude, notList, reachesBeyond, mildNotList, Keeping, keptIf, keptMatch, kept, join, insideWindow, windowTo, windowEnds, window}
+use Rattle.model.specs.Rules.{standFrom, found, phraseList, orList, joined, andList, noStrings, withInclude, withExclude, notList, hasUncovered, mildNotList, Keeping, keptIf, keptMatch, kept, join, insideWindow, windowTo, windowEnds, window}
 use Rattle.model.specs.Choices.{turnedStrings}
 use Rattle.model.specs.AllStrings.{Every, AllStrs, AllMatch, AllList, Within, Ranked, EveryPhrase, RankUpTo, RanksUpTo}
 use Rattle.model.specs.AllMatches.{pairList, changeList, filterMatch, filterList, allMatches}
@@ -93,7 +93,7 @@ module _ (P : Str → Type 0) where
 
   pub all-mildNot : (ls rs : List Match) → AllList P ls → AllList P (mildNotList ls rs)
   unfolding mildNotList
-  all-mildNot ls rs a = every-keep _ (λ l. allOf (reachesBeyond l) rs) ls a
+  all-mildNot ls rs a = every-keep _ (λ l. allOf (hasUncovered l) rs) ls a
 
   -- ---- or, and, mild not
 

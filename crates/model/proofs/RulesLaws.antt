@@ -10,7 +10,7 @@ use lib.ListN.{length, getD, length-append, length-map, List·getD-append}
 use lib.Seq.{getD-append-add}
 use Rattle.model.specs.Lists.{allOf, keep, fromTo}
 use Rattle.model.specs.Matches.{Str, Match, stringsIn, strings}
-use Rattle.model.specs.Rules.{standFrom, found, phraseList, orList, joined, andList, noStrings, withInclude, withExclude, notList, reachesBeyond, mildNotList, Keeping, keptIf, keptMatch, kept, leastStart, greatestEnd, join, insideWindow, windowTo, windowEnds, window}
+use Rattle.model.specs.Rules.{standFrom, found, phraseList, orList, joined, andList, noStrings, withInclude, withExclude, notList, hasUncovered, mildNotList, Keeping, keptIf, keptMatch, kept, leastStart, greatestEnd, join, insideWindow, windowTo, windowEnds, window}
 use Rattle.model.specs.Choices.{choices, turnedStrings, choice}
 use Rattle.model.specs.AllStrings.{Every, AllStrs}
 use Rattle.model.specs.Section.{Section}
@@ -175,7 +175,7 @@ strings-choice (m ∷ ms) c h =
 
 pub length-mildNot : (ls rs : List Match) → length (mildNotList ls rs) ≤ length ls
 unfolding mildNotList
-length-mildNot ls rs = length-keep (λ l. allOf (reachesBeyond l) rs) ls
+length-mildNot ls rs = length-keep (λ l. allOf (hasUncovered l) rs) ls
 
 strings-keep : (p : Match → Bool) (ms : List Match) → strings (keep p ms) ≤ strings ms
 unfolding keep strings
@@ -188,7 +188,7 @@ strings-keep p (m ∷ ms) = at (p m) (strings-keep p ms)
 
 pub strings-mildNot : (ls rs : List Match) → strings (mildNotList ls rs) ≤ strings ls
 unfolding mildNotList
-strings-mildNot ls rs = strings-keep (λ l. allOf (reachesBeyond l) rs) ls
+strings-mildNot ls rs = strings-keep (λ l. allOf (hasUncovered l) rs) ls
 
 -- ---- join
 

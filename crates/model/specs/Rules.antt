@@ -61,11 +61,11 @@ covered ss p = anyOf (λ s. covers s p) ss
 abbrev pub positions : Str → List ℕ
 positions s = fromTo (s .start) (s .end)
 
-abbrev pub reachesBeyond : Match → Match → Bool
-reachesBeyond l r = anyOf (λ s. anyOf (λ p. not (covered (r .includes) p)) (positions s)) (l .includes)
+abbrev pub hasUncovered : Match → Match → Bool
+hasUncovered l r = anyOf (λ s. anyOf (λ p. not (covered (r .includes) p)) (positions s)) (l .includes)
 
 unfoldable pub mildNotList : List Match → List Match → List Match
-mildNotList ls rs = keep (λ l. allOf (reachesBeyond l) rs) ls
+mildNotList ls rs = keep (λ l. allOf (hasUncovered l) rs) ls
 
 -- A filter works on one match: the matches that it gives, in order. Window, which may give several, is a rule of its own. Every other filter keeps
 -- the match or drops it, by what its sentence says of three things.

@@ -1,4 +1,4 @@
--- A choice written: its includes, its excludes behind them, and the header from where both end. And all choices written: choice number c is match number
+-- A choice written: its includes, its excludes after them, and the header from where both end. And all choices written: choice number c is match number
 -- c of the not, so that they follow each other as the not's matches do.
 use Prim.Native.Nat.{ℕ, _+_, _≤_, _<_}
 use native.Mathlib.Omega.{arith}

@@ -1,5 +1,5 @@
 -- A string in memory, turned: a tag's last bit is the string's sort, so that it is turned by its tag alone; and string number d of a match lies 2 × d
--- numbers behind its header.
+-- numbers after its header.
 use Prim.Native.Nat.{ℕ, zero, suc, _+_, _*_, _/_, _%_, _≤_, _<_}
 use native.Mathlib.Omega.{arith}
 use mathlib.Core.Path.{_≡_, sym, ap, ap₂, _∙_, subst}
@@ -81,7 +81,7 @@ twice : (d : ℕ) → 2 * suc d ≡ suc (suc (2 * d))
 twice d = omega arith
 
 module _ (sort : ℕ) (o : sort ≤ 1) where
-  -- string number d of includes and excludes behind each other
+  -- string number d of includes and excludes after each other
   turned-at : (is es : List Str) (d : ℕ) → d < length is + length es
       → turnedNumbers sort (getD (strsOf 0 is ++ strsOf 1 es) (2 * d) 0) (getD (strsOf 0 is ++ strsOf 1 es) (suc (2 * d)) 0)
       ≡ sideNumbers sort (getD (map (λ s. withExclude s noStrings) is ++ map (λ s. withInclude s noStrings) es) d noStrings)

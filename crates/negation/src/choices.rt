@@ -9,7 +9,7 @@ ghost use Rattle.store.specs.Put.{Put};
 ghost use Rattle.negation.specs.Chosen.{ChoiceAt, ChoicesAt, SideAt, TurnAt};
 ghost use Rattle.negation.specs.Turned.{sideNumbers, turnedNumbers};
 
-// Writes the string at a turned to a sort (0: include, 1: exclude), if it is of the other. Like every function here, returns the place behind what it wrote.
+// Writes the string at a turned to a sort (0: include, 1: exclude), if it is of the other. Like every function here, returns the place after what it wrote.
 fn put_turned(mem: &mut [u32], a: usize, sort: u32, q: usize) -> usize
     requires { ⌜ TurnAt (now mem) a sort q ⌝ }
     ensures { λ r. ⌜ Put (now (mem .entry)) (now (mem .exit)) q (turnedNumbers sort (getD (now (mem .entry)) a 0) (getD (now (mem .entry)) (a + 1) 0)) r ⌝ }
@@ -36,7 +36,7 @@ fn put_side(mem: &mut [u32], src: usize, total: usize, c: usize, sort: u32, at: 
     let mut i = 0;
     while i < n {
         let bounds = store::bounds_at(mem, p);
-        // how many choices there are from the matches behind this one
+        // how many choices there are from the matches after this one
         weight /= store::strings_in(mem[p]);
         q = put_turned(mem, bounds.includes + 2 * (rest / weight), sort, q);
         rest %= weight;

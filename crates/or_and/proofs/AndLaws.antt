@@ -62,7 +62,7 @@ module _ {mem : List ℕ} {pl pr q : ℕ} (w : JoinableAt mem pl pr q) where
   pub header-fits : getD mem pl 0 + getD mem pr 0 < 4294967296
   header-fits = omega (arith, w .pair .held-left .header .few, w .pair .held-right .header .few)
 
-  -- the header put, then the includes of both copied behind it, then the excludes of both
+  -- the header put, then the includes of both copied after it, then the excludes of both
   abbrev headed : List ℕ
   headed = set mem q (getD mem pl 0 + getD mem pr 0)
 

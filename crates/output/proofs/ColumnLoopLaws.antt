@@ -1,4 +1,4 @@
--- A loop over the matches of a stream that writes numbers of each, R, to another slice, one behind the other: the counts, and a column.
+-- A loop over the matches of a stream that writes numbers of each, R, to another slice, one after the other: the counts, and a column.
 use Prim.Native.Nat.{ℕ, _+_, _*_, _≤_, _<_}
 use native.Mathlib.Omega.{arith}
 use mathlib.Core.Path.{_≡_, sym, ap, _∙_}

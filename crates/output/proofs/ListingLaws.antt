@@ -1,4 +1,4 @@
--- The three passes one behind the other make the listing; and a listing put in the buffer leaves the rest of it.
+-- The three passes one after the other make the listing; and a listing put in the buffer leaves the rest of it.
 use Prim.Native.Nat.{ℕ, _+_, _*_, _≤_}
 use native.Mathlib.Omega.{arith}
 use mathlib.Core.Path.{_≡_, refl, sym, ap, ap₂, _∙_}

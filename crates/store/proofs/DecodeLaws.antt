@@ -40,7 +40,7 @@ unfolding strsOf strsAt Every
 strs-back sort [] h f = refl
 strs-back sort (s ∷ ss) h f = ap₂ _∷_ (str-back sort s h (f .0)) (strs-back sort ss h (f .1))
 
--- the strings of a part that ends between two strings, and of the part behind it
+-- the strings of a part that ends between two strings, and of the part after it
 pub strsAt-append : (n : ℕ) (xs ys : List ℕ) → length xs ≡ 2 * n → strsAt (xs ++ ys) ≡ strsAt xs ++ strsAt ys
 unfolding strsAt
 strsAt-append n [] ys h = refl
@@ -80,7 +80,7 @@ module _ {mem : List ℕ} {p : ℕ} {m : Match} (h : MatchHolds mem p m) where
   pub length-held : matchLength (getD mem p 0) ≡ length (matchNumbers m)
   length-held = omega (arith, includes-held, excludes-held, length-match m)
 
-  -- where its strings lie: its includes, and its excludes behind them ..
+  -- where its strings lie: its includes, and its excludes after them ..
   pub strings-hold : (a : ℕ) → a ≡ p + 1 → Holds mem a (strsOf 0 (m .includes) ++ strsOf 1 (m .excludes))
   unfolding matchNumbers
   strings-hold a e = rw e (holds-tail _ (h .holds))

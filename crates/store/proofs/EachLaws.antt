@@ -1,4 +1,4 @@
--- One law for every rule that goes over a list match by match and writes what it makes of each, F, behind what is written: at the end the flatMap of F is
+-- One law for every rule that goes over a list match by match and writes what it makes of each, F, after what is written: at the end the flatMap of F is
 -- written. The walk goes by what is left, and what is written lies above it, so that each match is read as it was.
 use Prim.Native.Nat.{ℕ, _+_, _≤_, _<_}
 use native.Mathlib.Omega.{arith}

@@ -1,4 +1,4 @@
--- How many numbers each part of the layout takes, and that lists behind each other are laid out behind each other; in the order of specs/Layout.antt.
+-- How many numbers each part of the layout takes, and that lists after each other are laid out after each other; in the order of specs/Layout.antt.
 use Prim.Native.Nat.{ℕ, _+_, _*_, _≤_}
 use native.Mathlib.Omega.{arith}
 use mathlib.Core.Path.{_≡_, refl, ap, _∙_}
@@ -57,7 +57,7 @@ matches-kept m e = rw e (matches-one m)
 pub matches-dropped : {test : Bool} (m : Match) → test ≡ false → matchesNumbers (keptIf test m) ≡ []
 matches-dropped m e = rw e matches-none
 
--- what is made of each element of a list is laid out behind each other
+-- what is made of each element of a list is laid out after each other
 pub matches-flatMap : {A : Type 0} (F : A → List Match) (xs : List A) → matchesNumbers (flatMap F xs) ≡ flatMap (λ x. matchesNumbers (F x)) xs
 unfolding flatMap
 matches-flatMap F [] = matches-none

@@ -26,7 +26,7 @@ pub sets-sets : (l : List ℕ) (i : ℕ) (xs : List ℕ) (j : ℕ) (ys : List �
 sets-sets l i xs j [] h = refl
 sets-sets l i xs j (y ∷ ys) h = ap (λ r. sets r (suc j) ys) (set-sets l i xs j y (omega arith)) ∙ sets-sets (set l j y) i xs (suc j) ys (omega arith)
 
--- a list is stored also by what is behind first and what is in front last
+-- a list is stored also by what is after first and what is in front last
 pub sets-front : (l : List ℕ) (i : ℕ) (xs ys : List ℕ) (j : ℕ) → j ≡ i + length xs → sets (sets l j ys) i xs ≡ sets l i (xs ++ ys)
 sets-front l i xs ys j e = sets-sets l j ys i xs (omega arith) ∙ ap (λ k. sets (sets l i xs) k ys) e ∙ sym (sets-append l i xs ys)
 

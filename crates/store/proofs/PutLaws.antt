@@ -1,4 +1,4 @@
--- Laws of Put: numbers put one behind the other are put as one list, and whatever lies below them is held still.
+-- Laws of Put: numbers put one after the other are put as one list, and whatever lies below them is held still.
 use Prim.Native.Nat.{ℕ, _+_, _-_, _/_, _≤_, _<_}
 use native.Mathlib.Omega.{arith}
 use mathlib.Core.Bool.{Bool, true, false}
@@ -32,7 +32,7 @@ module _ {a b : List ℕ} {q next : ℕ} {xs : List ℕ} (v : Put a b q xs next)
   pub holds-below : {at : ℕ} {ys : List ℕ} → at + length ys ≤ q → Holds a at ys → Holds b at ys
   holds-below h r = rw (v .wrote) (holds-other a q xs (inl h) r)
 
-  -- then numbers behind them ..
+  -- then numbers after them ..
   pub put-append : {c : List ℕ} {end : ℕ} {ys : List ℕ} → Put b c next ys end → Put a c q (xs ++ ys) end
   put-append {ys = ys} w =
       record {
@@ -48,7 +48,7 @@ module _ {a b : List ℕ} {q next : ℕ} {xs : List ℕ} (v : Put a b q xs next)
         next-is = omega (arith, w .next-is, v .next-is, length-append ys xs);
       }
 
--- numbers behind others that memory holds already
+-- numbers after others that memory holds already
 pub put-held : {a b : List ℕ} {q next : ℕ} {xs ys : List ℕ} (at : ℕ) → at ≡ q + length xs → Holds a q xs → Put a b at ys next → Put a b q (xs ++ ys) next
 put-held {a} {q = q} {xs = xs} {ys} at e r v =
     record {
@@ -70,7 +70,7 @@ put-match {b = b} {q} {header = header} m v e =
     let front : Put b (set b q header) q (headerOf (length (m .includes)) (length (m .excludes)) ∷ []) (q + 1) = record { wrote = ap (set b q) e; next-is = refl } in
     put-front v front
 
--- its includes put, its excludes behind them, and then its header by where both end
+-- its includes put, its excludes after them, and then its header by where both end
 module _ {a b c : List ℕ} (q : ℕ) {excludes end : ℕ} (m : Match) (v : Put a b (q + 1) (strsOf 0 (m .includes)) excludes) (w : Put b c excludes (strsOf 1 (m .excludes)) end) where
   includes-are : (excludes - (q + 1)) / 2 ≡ length (m .includes)
   includes-are = omega (arith, v .next-is, length-strsOf 0 (m .includes))

@@ -1,4 +1,4 @@
--- A loop that writes numbers for each element of a list, R, one behind the other: what is written so far and what R gives of the elements left are
+-- A loop that writes numbers for each element of a list, R, one after the other: what is written so far and what R gives of the elements left are
 -- together what R gives of all.
 use Prim.Native.Nat.{ℕ, _+_, _≤_}
 use native.Mathlib.Omega.{arith}

@@ -59,7 +59,7 @@ module _ {mem : List ℕ} {at : ℕ} {ms : List Match} (s : SlotHolds mem at ms)
   pub length-slot-held : slotLength mem at ≡ length (slotNumbers ms)
   length-slot-held = omega (arith, matches-held, strings-held, length-slot ms)
 
-  -- the matches behind the header
+  -- the matches after the header
   pub slot-stream : (p end : ℕ) → p ≡ at + 2 → end ≡ at + slotLength mem at → Remaining ms mem p end
   unfolding slotNumbers
   slot-stream p end e f =
@@ -132,7 +132,7 @@ module _ {ms : List Match} {entry exit : List ℕ} {at : ℕ} where
   pub refused : {built : Built} → built ≡ builtOf ms → built ≡ TooLong → Outcome ms entry exit at built
   refused e t = record { answered = e; written = λ f. absurd (true≢false (sym (answer-long ms (sym t ∙ e)) ∙ f)) }
 
-  -- a rule has written its list behind the header, and then puts it
+  -- a rule has written its list after the header, and then puts it
   pub filled : {E : List ℕ} {m s next : ℕ} → Made m s ≡ builtOf ms → Put entry E (at + 2) (matchesNumbers ms) next → exit ≡ sets E at (m ∷ s ∷ [])
       → Outcome ms entry exit at (Made m s)
   unfolding slotNumbers
@@ -142,7 +142,7 @@ module _ {ms : List Match} {entry exit : List ℕ} {at : ℕ} where
       record { wrote = e ∙ ap₂ (λ x y. sets E at (x ∷ y ∷ [])) (sym (z .matches-are)) (sym (z .strings-are)); next-is = refl } in
       record { answered = b; written = λ f. put-front v front .wrote }
 
-  -- .. by the number of its matches and the place behind them
+  -- .. by the number of its matches and the place after them
   pub closed : {E : List ℕ} {next matches : ℕ} {built : Built} → Small ms → PutMatches entry E (at + 2) ms next matches
       → Closed E exit at next matches built → Outcome ms entry exit at built
   closed {next = next} {matches} h v c =

@@ -1,4 +1,4 @@
--- The lists that wait: what is written above them leaves them, and a list written to the slot behind them waits as the last. So to replace the last
+-- The lists that wait: what is written above them leaves them, and a list written to the slot after them waits as the last. So to replace the last
 -- list, or the last two by one, is to push onto the rest.
 use Prim.Native.Nat.{ℕ, _+_, _≤_, _<_}
 use native.Mathlib.Omega.{arith}
@@ -39,7 +39,7 @@ unfolding Stack
 stack-below v [] h s = tt
 stack-below v (ms ∷ lists) h s = (slot-below v (omega arith) (s .0), stack-below v lists (omega arith) (s .1))
 
--- a list written to the slot behind them waits as the last
+-- a list written to the slot after them waits as the last
 pub stack-push : {mem mem' : List ℕ} {next : ℕ} (ms : List Match) (lists : List (List Match)) → Small ms → AllList ValidStr ms
     → slotAt (length lists) + slotSize ≤ length mem → Put mem mem' (slotAt (length lists)) (slotNumbers ms) next → Stack mem lists → Stack mem' (ms ∷ lists)
 unfolding Stack

@@ -1,4 +1,4 @@
--- A loop over the matches of a list, by what is left of them: the first of those left lies here, and the others behind it, at the length that its header says. A
+-- A loop over the matches of a list, by what is left of them: the first of those left lies here, and the others after it, at the length that its header says. A
 -- loop tells by the place or by a count whether any is left. Stores above the matches leave them.
 use Prim.Native.Nat.{ℕ, suc, _+_, _≤_, _<_}
 use native.Mathlib.Omega.{arith}
@@ -18,7 +18,7 @@ use Rattle.store.proofs.DecodeLaws.{match-holds, length-held}
 
 -- ---- Remaining
 
--- the next of the matches that are left, and those behind it
+-- the next of the matches that are left, and those after it
 pub record Next (todo : List Match) (mem : List ℕ) (p end : ℕ) : Type 0 where
   pub first : Match
   pub rest : List Match

@@ -27,7 +27,7 @@ headerBetween at excludes end = headerOf ((excludes - (at + 1)) / 2) ((end - exc
 abbrev pub matchLength : ℕ → ℕ
 matchLength header = 1 + 2 * (includesIn header + excludesIn header)
 
--- the bounds of a match at p with this header: its includes lie behind the header, and its excludes behind them
+-- the bounds of a match at p with this header: its includes lie after the header, and its excludes after them
 pub record BoundsOf (header p : ℕ) (b : Bounds) : Type 0 where
   pub includes : b .includes ≡ p + 1
   pub excludes : b .excludes ≡ b .includes + 2 * includesIn header
@@ -46,18 +46,18 @@ slotNumbers ms = length ms ∷ strings ms ∷ matchesNumbers ms
 abbrev pub slotLength : List ℕ → ℕ → ℕ
 slotLength mem at = 2 + getD mem at 0 + 2 * getD mem (at + 1) 0
 
--- how many strings the matches of the slot at `at` have, by their number and the place behind them
+-- how many strings the matches of the slot at `at` have, by their number and the place after them
 abbrev pub stringsBefore : ℕ → ℕ → ℕ → ℕ
 stringsBefore next at matches = (next - (at + 2) - matches) / 2
 
--- how many numbers a slot takes at most, 2 + 256 + 2 × 512; and where the slot behind k others lies
+-- how many numbers a slot takes at most, 2 + 256 + 2 × 512; and where the slot after k others lies
 abbrev pub slotSize : ℕ
 slotSize = 1282
 
 abbrev pub slotAt : ℕ → ℕ
 slotAt k = k * slotSize
 
--- where the slot to build in lies: behind eight others
+-- where the slot to build in lies: after eight others
 abbrev pub scratch : ℕ
 scratch = 10256
 

@@ -1,4 +1,4 @@
--- A match in memory, and the matches of a list one behind the other. Each is a record of facts about a list, and a record that holds the list too:
+-- A match in memory, and the matches of a list one after the other. Each is a record of facts about a list, and a record that holds the list too:
 -- the second is what a function requires, and what its contract speaks of.
 use Prim.Native.Nat.{ℕ, _+_, _≤_}
 use mathlib.Core.List.{List}

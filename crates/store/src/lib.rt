@@ -22,11 +22,11 @@ ghost use Rattle.store.specs.Stream.{Header};
 
 // How many numbers a slot takes at most: 2 + 256 + 2 × 512.
 pub const SLOT: usize = 1282;
-// Where the first match lies in its slot: behind the two counts.
+// Where the first match lies in its slot: after the two counts.
 pub const FIRST_MATCH: usize = 2;
-// Where the first string lies in its match: behind the header.
+// Where the first string lies in its match: after the header.
 pub const FIRST_STRING: usize = 1;
-// Where the slot to build in lies: behind eight others.
+// Where the slot to build in lies: after eight others.
 pub const SCRATCH: usize = 10256;
 
 // What building a list comes to.
@@ -114,7 +114,7 @@ pub fn match_length(header: u32) -> usize
     1 + 2 * strings_in(header)
 }
 
-// Where a match lies: its includes, then its excludes, then what is behind it.
+// Where a match lies: its includes, then its excludes, then what is after it.
 pub struct Bounds {
     pub includes: usize,
     pub excludes: usize,
@@ -144,7 +144,7 @@ pub fn bounds_at(mem: &[u32], p: usize) -> Bounds
     bounds_by(mem[p], p)
 }
 
-// The place behind the list in a slot, by its two counts.
+// The place after the list in a slot, by its two counts.
 pub fn slot_end(mem: &[u32], at: usize) -> usize
     requires { ⌜ SlotHeader (now mem) at ⌝ }
     ensures { λ r. ⌜ r ≡ at + slotLength (now (mem .entry)) at ⌝ }
@@ -164,7 +164,7 @@ pub fn copy_slot_down(mem: &mut [u32], from: usize, to: usize)
     copy_down(mem, from, end - from, to);
 }
 
-// Puts a string; gives the place behind it.
+// Puts a string; gives the place after it.
 pub fn put_string(mem: &mut [u32], q: usize, span: u32, tag: u32) -> usize
     requires { ⌜ q + 2 ≤ length (now mem) ⌝ }
     ensures { λ r. ⌜ Put (now (mem .entry)) (now (mem .exit)) q (span ∷ tag ∷ []) r ⌝ }

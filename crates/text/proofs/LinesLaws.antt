@@ -10,7 +10,7 @@ use Rattle.store.proofs.RowsLaws.{Rows, rows-start, rows-room, rows-step, rows-
 use Rattle.text.specs.Printed.{bytes, behindBlank, lineOf}
 use Rattle.text.specs.Decoded.{textOf, textsAt, matchesAt, totalAt, StringsAt, LinesAt}
 
--- ---- the strings behind the first
+-- ---- the strings after the first
 
 module _ (buffer : List ℕ) (s t n : ℕ) where
   -- the string that is next, and none

@@ -46,7 +46,7 @@ pub decimal-more : (n : ℕ) → 10 ≤ n → decimal n ≡ decimal (n / 10) ++ 
 unfolding decimal
 decimal-more n h = digits-more n n h ∙ ap (λ ds. ds ++ digit (n % 10) ∷ []) (digits-enough n (suc (n / 10)) (n / 10) (omega arith) (omega arith))
 
--- read back, behind a number, the digits are the number
+-- read back, after a number, the digits are the number
 pub valueOf : ℕ → List ℕ → ℕ
 valueOf front [] = front
 valueOf front (b ∷ bs) = valueOf (front * 10 + (b - digit 0)) bs

@@ -1,4 +1,4 @@
--- What is put in parts, one behind the other, is the text that the parts make.
+-- What is put in parts, one after the other, is the text that the parts make.
 use Prim.Native.Nat.{ℕ, _+_, _/_, _%_, _≤_, _<_}
 use mathlib.Core.Path.{_≡_, sym, ap, ap₂, subst}
 use mathlib.Core.Bool.{Bool, cond}

@@ -1,5 +1,5 @@
 // What the program `ftlist` reads and what it prints, as functions on slices.
-pub mod printing; // an answer, and the listing behind it
+pub mod printing; // an answer, and the listing after it
 pub mod reading; // little-endian numbers, and where the section ends among them
 mod lines; // a line a match
 mod texts; // the text of a string

@@ -9,7 +9,7 @@ ghost use Rattle.store.specs.Put.{Put};
 ghost use Rattle.text.specs.Decoded.{LinesAt, StringsAt, matchesAt, textOf, textsAt};
 ghost use Rattle.text.specs.Printed.{behindBlank, lineOf};
 
-// A string behind a blank.
+// A string after a blank.
 fn put_later_string(span: u32, tag: u32, text: &mut [u8], at: usize) -> usize
     requires { ⌜ at + length (behindBlank (textOf span tag)) ≤ length (now text) ⌝ }
     ensures { λ r. ⌜ Put (now (text .entry)) (now (text .exit)) at (behindBlank (textOf span tag)) r ⌝ }
@@ -18,7 +18,7 @@ fn put_later_string(span: u32, tag: u32, text: &mut [u8], at: usize) -> usize
     put_string(span, tag, text, first)
 }
 
-// n strings, each behind a blank: their spans from s on, their tags from t on.
+// n strings, each after a blank: their spans from s on, their tags from t on.
 fn put_later_strings(
     buffer: &[u32],
     s: usize,

@@ -1,4 +1,4 @@
-// The words and numbers of a text. Each function puts bytes from a place on, and answers the place behind them.
+// The words and numbers of a text. Each function puts bytes from a place on, and answers the place after them.
 ghost use mathlib.Core.List.{[], _∷_};
 ghost use Prim.Native.Nat.{_+_, _≤_, _<_};
 ghost use lib.ListN.{length};

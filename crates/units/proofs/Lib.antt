@@ -1,2 +1,2 @@
--- The laws behind the tests of same and different.
+-- The laws after the tests of same and different.
 pub mod UnitsLaws

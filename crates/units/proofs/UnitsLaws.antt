@@ -41,7 +41,7 @@ module _ (unit : ℕ → ℕ) (l : List ℕ) where
   pub enough : 4 ≤ length l → {r : Bool} → r ≡ bothTests unit (strsAt l) → r ≡ different unit .keeps (strsAt l)
   enough h e = let k : 2 ≤ length (strsAt l) = omega (arith, length-strsAt l) in rw (le-leb 2 (length (strsAt l)) k) e
 
--- .. each string against those behind it
+-- .. each string against those after it
 pub decides-differ : (unit : ℕ → ℕ) → Decides false (λ s ss. different unit .stays ss s) (bothTests unit)
 unfolding allOf allPairs
 decides-differ unit =

@@ -1,4 +1,4 @@
--- The strings inside a window: tested by their two numbers, and copied one behind the other, which comes to the numbers of those that are kept.
+-- The strings inside a window: tested by their two numbers, and copied one after the other, which comes to the numbers of those that are kept.
 use Prim.Native.Nat.{ℕ, _+_, _*_, _/_, _%_, _≤_, _<_}
 use native.Mathlib.Omega.{arith}
 use mathlib.Core.Path.{_≡_, refl, sym, ap, ap₂, _∙_, subst}

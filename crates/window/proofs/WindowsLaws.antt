@@ -42,7 +42,7 @@ module _ {n last : ℕ} {mem : List ℕ} {x e q span tag : ℕ} (w : WindowAt n 
   join-room = omega (arith, w .room, length-window-to (w .source) last)
 
   module _ {mem₁ : List ℕ} {excludes : ℕ} (v : Put mem mem₁ (q + 1) (span ∷ tag ∷ []) excludes) where
-    -- its match's excludes, and room behind its join for those inside
+    -- its match's excludes, and room after its join for those inside
     pub excludes-at : ExcludesAt n last mem₁ x e excludes
     excludes-at =
         let s = w .source in

@@ -1,7 +1,7 @@
 -- The section's refusal is passed straight up; after it the selection decides.
 use Rattle.model.specs.Checks.{sectionRefusal, selectionRefusal, inputRefusal}
 use Rattle.model.specs.Section.{size}
-use Rattle.checks.proofs.Refusing.{first-refuses, later-decides}
+use Rattle.checks.proofs.RefusalLaws.{first-refuses, later-decides}
 use mathlib.Core.Path.{_∙_}
 use borrow.Author.Needs.{needs}
 use Rattle.checks.proofs.check_inputs.Statement.{statement}

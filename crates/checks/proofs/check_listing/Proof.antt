@@ -1,5 +1,5 @@
 -- The quick answer's refusal is passed straight up; after it the buffer's length decides.
-use Rattle.checks.proofs.Refusing.{first-refuses, room-short, room-enough, listing-checks}
+use Rattle.checks.proofs.RefusalLaws.{first-refuses, room-short, room-enough, listing-checks}
 use Rattle.model.specs.Limits.{bufferLength}
 use Rattle.model.specs.Checks.{roomRefusal, quickChecks}
 use Rattle.model.specs.Answers.{checkedOf}

@@ -4,7 +4,7 @@ use Rattle.model.specs.Limits.{workLength}
 use Rattle.model.specs.Section.{size}
 use lib.Dec.{leb}
 use borrow.Author.Tests.{le-leb, lt-leb}
-use Rattle.checks.proofs.Refusing.{first-refuses, room-short, room-enough}
+use Rattle.checks.proofs.RefusalLaws.{first-refuses, room-short, room-enough}
 use borrow.Author.Needs.{needs}
 use Rattle.checks.proofs.check_quick.Statement.{statement}
 use Rattle.checks.proofs.check_quick.Tie as tie

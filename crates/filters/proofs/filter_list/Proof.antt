@@ -1,4 +1,4 @@
--- Invariant: what the filter makes of the matches before number i is written behind the header, and counted. Measure: the matches left. The law for rules that go
+-- Invariant: what the filter makes of the matches before number i is written after the header, and counted. Measure: the matches left. The law for rules that go
 -- match by match, where one match at most is made of each.
 use Prim.Native.Nat.{_+_, _-_, _≤_}
 use native.Mathlib.Omega.{arith}

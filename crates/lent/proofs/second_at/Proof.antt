@@ -1,4 +1,4 @@
--- The second array stands behind the size and the first array.
+-- The second array stands after the size and the first array.
 use borrow.Author.Needs.{needs}
 use mathlib.Core.Path.{_∙_}
 use Rattle.lent.proofs.second_at.Statement.{statement}

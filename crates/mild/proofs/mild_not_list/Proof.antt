@@ -9,9 +9,9 @@ use Rattle.store.proofs.EachLaws.{Counting, slot-each, count-start, count-most,
 use Rattle.store.proofs.SlotsLaws.{closing}
 use Rattle.candidates.specs.Candidates.{CandidatesAre, CandidatesAt}
 use Rattle.candidates.proofs.CandidatesLaws.{candidates-below}
-use Rattle.mild.specs.Beyond.{mildNot}
-use Rattle.mild.proofs.BeyondLaws.{mildNot-small}
-use Rattle.mild.proofs.AgainstLaws.{reach-at, kept-at, keep-next, mildNot-closed}
+use Rattle.mild.specs.Uncovered.{mildNot}
+use Rattle.mild.proofs.UncoveredLaws.{mildNot-small}
+use Rattle.mild.proofs.KeepsLaws.{answer-at, kept-at, keep-next, mildNot-closed}
 use borrow.Author.Needs.{needs}
 use Rattle.mild.proofs.mild_not_list.Statement.{statement}
 use Rattle.mild.proofs.mild_not_list.Tie as tie
@@ -30,7 +30,7 @@ abbrev one : (c : tie.In-loop Inv-loop μ-loop)
 one c =
     let w = c .before .before .before .before .before .before .pre .0 in
     let g = c .before .loop .inv .2 w in
-    reach-at (w .rights) (g .0) (c .loop-test .taken) (w .right) (omega (arith, c .before .before .before .before .before .before .pre .1 .1 .below)) (g .1) refl
+    answer-at (w .rights) (g .0) (c .loop-test .taken) (w .right) (omega (arith, c .before .before .before .before .before .before .pre .1 .1 .below)) (g .1) refl
 
 mul-n : tie.Need-mul-n Inv-loop μ-loop
 mul-n c = search needs
@@ -69,16 +69,16 @@ slice-read-match-length c = omega (arith, one (c .before) .held .header)
 match-length-requires : tie.Need-match-length-requires Inv-loop μ-loop
 match-length-requires c κs = search needs
 
-sub-reach : tie.Need-sub-reach Inv-loop μ-loop
-sub-reach c = search needs
+sub-is-kept : tie.Need-sub-is-kept Inv-loop μ-loop
+sub-is-kept c = search needs
 
-reach-requires : tie.Need-reach-requires Inv-loop μ-loop
-reach-requires c κs = one (c .before .before .before)
+is-kept-requires : tie.Need-is-kept-requires Inv-loop μ-loop
+is-kept-requires c κs = one (c .before .before .before)
 
 put-kept-requires : tie.Need-put-kept-requires Inv-loop μ-loop
 put-kept-requires c κs =
     let w = c .before .before .before .before .before .before .before .before .before .before .before .pre .0 in
-    kept-at (w .rights) (c .before .before .before .before .before .before .loop .inv .2 w .0) (c .before .before .before .before .before .loop-test .taken) (c .before .reach .ensures (one (c .before .before .before .before .before)) .beyond)
+    kept-at (w .rights) (c .before .before .before .before .before .before .loop .inv .2 w .0) (c .before .before .before .before .before .loop-test .taken) (c .before .is-kept .ensures (one (c .before .before .before .before .before)) .kept)
 
 count-one-requires : tie.Need-count-one-requires Inv-loop μ-loop
 count-one-requires c κs =
@@ -102,10 +102,10 @@ loop-again c =
       search needs,
       λ w.
           let g = t .before .loop .inv .2 w in
-          let reached = c .before .before .before .before .before .before .reach .ensures (reach-at (w .rights) (g .0) (t .loop-test .taken) (w .right) (omega arith) (g .1) refl) in
-          let put = c .before .before .before .before .put-kept .ensures (kept-at (w .rights) (g .0) (t .loop-test .taken) (reached .beyond)) in (
-            keep-next (w .rights) (g .0) (t .loop-test .taken) (reached .beyond) put (c .before .before .before .before .before .before .before .before .match-length .ensures) (c .before .count-one .ensures),
-            candidates-below put (omega (arith, low, g .0 .going .rows .put .next-is)) (reached .candidates),
+          let answer = c .before .before .before .before .before .before .is-kept .ensures (answer-at (w .rights) (g .0) (t .loop-test .taken) (w .right) (omega arith) (g .1) refl) in
+          let put = c .before .before .before .before .put-kept .ensures (kept-at (w .rights) (g .0) (t .loop-test .taken) (answer .kept)) in (
+            keep-next (w .rights) (g .0) (t .loop-test .taken) (answer .kept) put (c .before .before .before .before .before .before .before .before .match-length .ensures) (c .before .count-one .ensures),
+            candidates-below put (omega (arith, low, g .0 .going .rows .put .next-is)) (answer .candidates),
           ),
     )
 
@@ -136,8 +136,8 @@ mild-not-list-spec =
     mul-match-length
     slice-read-match-length
     match-length-requires
-    sub-reach
-    reach-requires
+    sub-is-kept
+    is-kept-requires
     put-kept-requires
     count-one-requires
     add-p-2

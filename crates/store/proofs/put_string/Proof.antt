@@ -1,4 +1,4 @@
--- Two stores, one behind the other.
+-- Two stores, one after the other.
 use native.Mathlib.Numerals.{add-one}
 use native.Mathlib.Omega.{arith}
 use mathlib.Core.Path.{refl}

@@ -1,4 +1,4 @@
--- The join is put, the excludes inside behind it, and the header in front.
+-- The join is put, the excludes inside after it, and the header in front.
 use Rattle.window.proofs.WindowsLaws.{join-room, excludes-at, window-ends, window-put}
 use borrow.Author.Needs.{needs}
 use Rattle.window.proofs.put_window.Statement.{statement}

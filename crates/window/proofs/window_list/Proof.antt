@@ -1,4 +1,4 @@
--- Invariant: the windows of the matches passed are written behind the header's place, up to q, and the matches left lie at p as they were. Measure: the matches
+-- Invariant: the windows of the matches passed are written after the header's place, up to q, and the matches left lie at p as they were. Measure: the matches
 -- left. The list is sized first, so there is room for all of it.
 use Prim.Native.Nat.{_+_, _-_, _≤_}
 use native.Mathlib.Omega.{arith}

@@ -1,5 +1,5 @@
 -- The last two lists that wait are the two slots; the product is built above them all, so that the rest is as it was.
-use Rattle.building.proofs.StepsLaws.{two-slots, two-unders, two-fresh, two-settled}
+use Rattle.building.proofs.StepsLaws.{two-slots, two-unders, two-in-scratch, two-moved}
 use borrow.Author.Needs.{needs}
 use Rattle.building.proofs.steps.build_and.Statement.{statement}
 use Rattle.building.proofs.steps.build_and.Tie as tie
@@ -19,16 +19,16 @@ mul-r c = search needs
 and-list-requires : tie.Need-and-list-requires
 and-list-requires c κs = let w = c .before .before .pre in (two-slots w, two-unders w)
 
-settle-requires : tie.Need-settle-requires
-settle-requires c κs = let a = c .before .before .before in two-fresh (a .before .before .before .pre) (a .and-list .ensures)
+move-from-scratch-requires : tie.Need-move-from-scratch-requires
+move-from-scratch-requires c κs = let a = c .before .before .before in two-in-scratch (a .before .before .before .pre) (a .and-list .ensures)
 
 same-length : tie.Need-same-length
 same-length c = search needs
 
 returns : tie.Need-returns
-returns c w = let s = c .before .before in two-settled w (s .before .before .before .before .and-list .ensures) (s .settle .ensures)
+returns c w = let s = c .before .before in two-moved w (s .before .before .before .before .and-list .ensures) (s .move-from-scratch .ensures)
 
 pub build-and-spec : {M : Type 1} → statement M
 build-and-spec =
     tie.close
-    (tie.spec sub-l mul-l sub-r mul-r and-list-requires settle-requires same-length returns)
+    (tie.spec sub-l mul-l sub-r mul-r and-list-requires move-from-scratch-requires same-length returns)

@@ -1,5 +1,5 @@
 -- The last list that waits is the slot; the list is built above them all, so that the rest is as it was.
-use Rattle.building.proofs.StepsLaws.{one-slot, one-under, one-fresh, one-settled}
+use Rattle.building.proofs.StepsLaws.{one-slot, one-under, one-in-scratch, one-moved}
 use borrow.Author.Needs.{needs}
 use Rattle.building.proofs.steps.build_filter.Statement.{statement}
 use Rattle.building.proofs.steps.build_filter.Tie as tie
@@ -15,10 +15,10 @@ filtered-requires c κs =
     let r = c .before .before .before .pre in
     (r .0, (one-slot (r .1), one-under (r .1)))
 
-settle-requires : tie.Need-settle-requires
-settle-requires c κs =
+move-from-scratch-requires : tie.Need-move-from-scratch-requires
+move-from-scratch-requires c κs =
     let a = c .before .before .before in
-    one-fresh (a .before .before .before .before .pre .1) (a .filtered .ensures)
+    one-in-scratch (a .before .before .before .before .pre .1) (a .filtered .ensures)
 
 same-length : tie.Need-same-length
 same-length c = search needs
@@ -26,8 +26,8 @@ same-length c = search needs
 returns : tie.Need-returns
 returns c w =
     let s = c .before .before in
-    one-settled w (s .before .before .before .before .filtered .ensures) (s .settle .ensures)
+    one-moved w (s .before .before .before .before .filtered .ensures) (s .move-from-scratch .ensures)
 
 pub build-filter-spec : {M : Type 1} → statement M
 build-filter-spec =
-    tie.close (tie.spec sub-src mul-src filtered-requires settle-requires same-length returns)
+    tie.close (tie.spec sub-src mul-src filtered-requires move-from-scratch-requires same-length returns)

@@ -1,5 +1,5 @@
 -- The last list that waits is the slot; the list is built above them all, so that the rest is as it was.
-use Rattle.building.proofs.StepsLaws.{one-slot, one-under, one-fresh, one-settled}
+use Rattle.building.proofs.StepsLaws.{one-slot, one-under, one-in-scratch, one-moved}
 use borrow.Author.Needs.{needs}
 use Rattle.building.proofs.steps.build_not.Statement.{statement}
 use Rattle.building.proofs.steps.build_not.Tie as tie
@@ -13,15 +13,15 @@ mul-src c = search needs
 not-list-requires : tie.Need-not-list-requires
 not-list-requires c κs = let w = c .before .before .pre in (one-slot w, one-under w)
 
-settle-requires : tie.Need-settle-requires
-settle-requires c κs = let a = c .before .before .before in one-fresh (a .before .before .before .pre) (a .not-list .ensures)
+move-from-scratch-requires : tie.Need-move-from-scratch-requires
+move-from-scratch-requires c κs = let a = c .before .before .before in one-in-scratch (a .before .before .before .pre) (a .not-list .ensures)
 
 same-length : tie.Need-same-length
 same-length c = search needs
 
 returns : tie.Need-returns
-returns c w = let s = c .before .before in one-settled w (s .before .before .before .before .not-list .ensures) (s .settle .ensures)
+returns c w = let s = c .before .before in one-moved w (s .before .before .before .before .not-list .ensures) (s .move-from-scratch .ensures)
 
 pub build-not-spec : {M : Type 1} → statement M
 build-not-spec =
-    tie.close (tie.spec sub-src mul-src not-list-requires settle-requires same-length returns)
+    tie.close (tie.spec sub-src mul-src not-list-requires move-from-scratch-requires same-length returns)

@@ -1,5 +1,5 @@
 -- The last two lists that wait are the two slots; what `or` leaves at the left one waits after the rest.
-use Rattle.building.proofs.StepsLaws.{two-slots, two-apart, two-added}
+use Rattle.building.proofs.StepsLaws.{two-slots, two-apart, two-pushed}
 use borrow.Author.Needs.{needs}
 use Rattle.building.proofs.steps.build_or.Statement.{statement}
 use Rattle.building.proofs.steps.build_or.Tie as tie
@@ -23,7 +23,7 @@ same-length : tie.Need-same-length
 same-length c = search needs
 
 returns : tie.Need-returns
-returns c w = two-added w (c .before .before .or-list .ensures)
+returns c w = two-pushed w (c .before .before .or-list .ensures)
 
 pub build-or-spec : {M : Type 1} → statement M
 build-or-spec =

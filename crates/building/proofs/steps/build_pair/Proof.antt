@@ -1,5 +1,5 @@
 -- In each arm the combination's rule is that of its name (pair-as).
-use Rattle.building.proofs.StepsLaws.{pair-as, pair-added}
+use Rattle.building.proofs.StepsLaws.{pair-as, pair-pushed}
 use borrow.Author.Needs.{needs}
 use Rattle.building.proofs.steps.build_pair.Statement.{statement}
 use Rattle.building.proofs.steps.build_pair.Tie as tie
@@ -26,19 +26,19 @@ same-length : tie.Need-same-length
 same-length c = search needs
 
 returns : tie.Need-returns
-returns c w = let b = c .before .before in pair-added (b .before .before .enum-told .given .1) w (b .build-or .ensures)
+returns c w = let b = c .before .before in pair-pushed (b .before .before .enum-told .given .1) w (b .build-or .ensures)
 
 same-length-2 : tie.Need-same-length-2
 same-length-2 c = search needs
 
 returns-2 : tie.Need-returns-2
-returns-2 c w = let b = c .before .before in pair-added (b .before .before .enum-told2 .given .1) w (b .build-and .ensures)
+returns-2 c w = let b = c .before .before in pair-pushed (b .before .before .enum-told2 .given .1) w (b .build-and .ensures)
 
 same-length-3 : tie.Need-same-length-3
 same-length-3 c = search needs
 
 returns-3 : tie.Need-returns-3
-returns-3 c w = let b = c .before .before in pair-added (b .before .before .enum-told3 .given .1) w (b .build-mild-not .ensures)
+returns-3 c w = let b = c .before .before in pair-pushed (b .before .before .enum-told3 .given .1) w (b .build-mild-not .ensures)
 
 pub build-pair-spec : {M : Type 1} → statement M
 build-pair-spec =

@@ -1,5 +1,5 @@
 -- The list goes to the free slot after those that wait.
-use Rattle.building.proofs.StepsLaws.{none-room, none-added}
+use Rattle.building.proofs.StepsLaws.{none-room, none-pushed}
 use borrow.Author.Needs.{needs}
 use Rattle.building.proofs.steps.build_phrase.Statement.{statement}
 use Rattle.building.proofs.steps.build_phrase.Tie as tie
@@ -16,7 +16,7 @@ same-length : tie.Need-same-length
 same-length c = search needs
 
 returns : tie.Need-returns
-returns c w = none-added w (c .before .before .phrase-list .ensures)
+returns c w = none-pushed w (c .before .before .phrase-list .ensures)
 
 pub build-phrase-spec : {M : Type 1} → statement M
 build-phrase-spec = tie.close (tie.spec mul-phrase-list phrase-list-requires same-length returns)

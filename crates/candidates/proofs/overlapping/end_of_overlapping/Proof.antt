@@ -1,4 +1,4 @@
--- Invariant: no match passed that lies at `behind` or after it overlaps both ranges. Measure: the numbers left.
+-- Invariant: no match passed that lies at `after` or after it overlaps both ranges. Measure: the numbers left.
 use Prim.Native.Nat.{_-_}
 use native.Mathlib.Omega.{arith}
 use Rattle.store.specs.Stream.{Header, RemainingAt}

@@ -1,4 +1,4 @@
--- The includes and the excludes behind them are the strings of the choice, one of each match, so that a header holds both counts.
+-- The includes and the excludes after them are the strings of the choice, one of each match, so that a header holds both counts.
 use Rattle.negation.proofs.ChoicesLaws.{first, second, ends, whole}
 use borrow.Author.Needs.{needs}
 use Rattle.negation.proofs.choices.put_choice.Statement.{statement}

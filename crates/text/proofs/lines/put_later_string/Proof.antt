@@ -1,4 +1,4 @@
--- A blank, and the string behind it.
+-- A blank, and the string after it.
 use Rattle.store.proofs.PutLaws.{put-append}
 use borrow.Author.Needs.{needs}
 use Rattle.text.proofs.lines.put_later_string.Statement.{statement}

@@ -1,4 +1,4 @@
--- No string is a dot; else the first string, the others behind blanks, and the line's end. Room for the whole is room for each.
+-- No string is a dot; else the first string, the others after blanks, and the line's end. Room for the whole is room for each.
 use native.Mathlib.Omega.{arith}
 use Rattle.text.proofs.LinesLaws.{length-line-none, length-line-some, put-line-none, put-line-some}
 use borrow.Author.Needs.{needs}

@@ -1,4 +1,4 @@
--- A number below ten is one digit; any other is put as its tenth and one digit behind it, as the definition has it. Measure: the number.
+-- A number below ten is one digit; any other is put as its tenth and one digit after it, as the definition has it. Measure: the number.
 use native.Mathlib.Omega.{arith}
 use mathlib.Core.Path.{ap}
 use lib.ListN.{length}

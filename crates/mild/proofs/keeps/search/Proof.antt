@@ -4,11 +4,11 @@ use native.Mathlib.Omega.{arith}
 use mathlib.Core.Path.{ap}
 use Rattle.store.specs.Stream.{Header}
 use Rattle.store.proofs.StreamLaws.{next-at}
-use Rattle.mild.specs.Reach.{SearchAt}
-use Rattle.mild.proofs.AgainstLaws.{Against, against-start, against-covered, against-left, against-next, against-end}
+use Rattle.mild.specs.Keeps.{SearchAt}
+use Rattle.mild.proofs.KeepsLaws.{Against, against-start, against-covered, against-left, against-next, against-end}
 use borrow.Author.Needs.{needs}
-use Rattle.mild.proofs.against.search.Statement.{statement}
-use Rattle.mild.proofs.against.search.Tie as tie
+use Rattle.mild.proofs.keeps.search.Statement.{statement}
+use Rattle.mild.proofs.keeps.search.Tie as tie
 
 abbrev Inv-loop : tie.InvT-loop
 Inv-loop mem p from end includes excludes last₀ at₀ last at = (w : SearchAt mem p from end) → Against (w .item) (w .rights) mem at end (last .0)
@@ -41,32 +41,32 @@ shared-slice-read-header c = omega (arith, one (c .before))
 bounds-by-requires : tie.Need-bounds-by-requires Inv-loop μ-loop
 bounds-by-requires c κs = omega (arith, one (c .before))
 
-mul-find-beyond : tie.Need-mul-find-beyond Inv-loop μ-loop
-mul-find-beyond c = search needs
+mul-find-uncovered : tie.Need-mul-find-uncovered Inv-loop μ-loop
+mul-find-uncovered c = search needs
 
-sub-find-beyond : tie.Need-sub-find-beyond Inv-loop μ-loop
-sub-find-beyond c = search needs
+sub-find-uncovered : tie.Need-sub-find-uncovered Inv-loop μ-loop
+sub-find-uncovered c = search needs
 
-part-find-beyond-start : tie.Need-part-find-beyond-start Inv-loop μ-loop
-part-find-beyond-start c = search needs
+part-find-uncovered-start : tie.Need-part-find-uncovered-start Inv-loop μ-loop
+part-find-uncovered-start c = search needs
 
-part-find-beyond-end : tie.Need-part-find-beyond-end Inv-loop μ-loop
-part-find-beyond-end c = search needs
+part-find-uncovered-end : tie.Need-part-find-uncovered-end Inv-loop μ-loop
+part-find-uncovered-end c = search needs
 
-mul-find-beyond-2 : tie.Need-mul-find-beyond-2 Inv-loop μ-loop
-mul-find-beyond-2 c = omega (arith, one (c .before .before .before), c .before .bounds-by .ensures)
+mul-find-uncovered-2 : tie.Need-mul-find-uncovered-2 Inv-loop μ-loop
+mul-find-uncovered-2 c = omega (arith, one (c .before .before .before), c .before .bounds-by .ensures)
 
-sub-find-beyond-2 : tie.Need-sub-find-beyond-2 Inv-loop μ-loop
-sub-find-beyond-2 c = omega (arith, one (c .before .before .before), c .before .bounds-by .ensures)
+sub-find-uncovered-2 : tie.Need-sub-find-uncovered-2 Inv-loop μ-loop
+sub-find-uncovered-2 c = omega (arith, one (c .before .before .before), c .before .bounds-by .ensures)
 
-part-find-beyond-start-2 : tie.Need-part-find-beyond-start-2 Inv-loop μ-loop
-part-find-beyond-start-2 c = omega (arith, one (c .before .before .before), c .before .bounds-by .ensures)
+part-find-uncovered-start-2 : tie.Need-part-find-uncovered-start-2 Inv-loop μ-loop
+part-find-uncovered-start-2 c = omega (arith, one (c .before .before .before), c .before .bounds-by .ensures)
 
-part-find-beyond-end-2 : tie.Need-part-find-beyond-end-2 Inv-loop μ-loop
-part-find-beyond-end-2 c = omega (arith, one (c .before .before .before), c .before .bounds-by .ensures)
+part-find-uncovered-end-2 : tie.Need-part-find-uncovered-end-2 Inv-loop μ-loop
+part-find-uncovered-end-2 c = omega (arith, one (c .before .before .before), c .before .bounds-by .ensures)
 
-find-beyond-requires : tie.Need-find-beyond-requires Inv-loop μ-loop
-find-beyond-requires c κs = search needs
+find-uncovered-requires : tie.Need-find-uncovered-requires Inv-loop μ-loop
+find-uncovered-requires c κs = search needs
 
 enum-known-found : tie.Need-enum-known-found Inv-loop μ-loop
 enum-known-found c = search needs
@@ -77,7 +77,7 @@ enum-told c = search needs
 returns : tie.Need-returns Inv-loop μ-loop
 returns c w =
     let k = c .before .before in
-    against-covered w (c .before .before .before .before .before .before .before .before .loop .inv w) (c .before .before .before .before .before .before .before .loop-test .taken) (c .before .before .before .before .before .before .before .before .before .before .before .before .bounds-at .ensures) (c .before .before .before .before .before .bounds-by .ensures) (k .find-beyond .result) (k .find-beyond .ensures)
+    against-covered w (c .before .before .before .before .before .before .before .before .loop .inv w) (c .before .before .before .before .before .before .before .loop-test .taken) (c .before .before .before .before .before .before .before .before .before .before .before .before .bounds-at .ensures) (c .before .before .before .before .before .bounds-by .ensures) (k .find-uncovered .result) (k .find-uncovered .ensures)
     (c .enum-told .given .1)
 
 match-length-requires : tie.Need-match-length-requires Inv-loop μ-loop
@@ -90,7 +90,7 @@ next-covering-requires-2 : tie.Need-next-covering-requires-2 Inv-loop μ-loop
 next-covering-requires-2 c κs =
     let k = c .before .before .before .before in
     let w = c .before .before .before .before .before .before .before .before .before .before .before .before .before .before .before .before .pre in
-    against-left w (c .before .before .before .before .before .before .before .before .before .before .loop .inv w) (c .before .before .before .before .before .before .before .before .before .loop-test .taken) (c .before .before .before .before .before .before .before .before .before .before .before .before .before .before .bounds-at .ensures) (c .before .before .before .before .before .before .before .bounds-by .ensures) (k .find-beyond .result) (k .find-beyond .ensures)
+    against-left w (c .before .before .before .before .before .before .before .before .before .before .loop .inv w) (c .before .before .before .before .before .before .before .before .before .loop-test .taken) (c .before .before .before .before .before .before .before .before .before .before .before .before .before .before .bounds-at .ensures) (c .before .before .before .before .before .before .before .bounds-by .ensures) (k .find-uncovered .result) (k .find-uncovered .ensures)
     (ap (λ n. c .before .before .before .before .before .before .before .before .before .before .loop .at + n) (c .match-length .ensures))
 
 loop-less : tie.Need-loop-less Inv-loop μ-loop
@@ -104,8 +104,8 @@ loop-again c = λ w.
     let h = c .before .before .before .before .before .before .before .before .before .before .loop-test .taken in
     let g = c .before .before .before .before .before .before .before .before .before .before .before .loop .inv w in
     let next = ap (λ n. c .before .before .before .before .before .before .before .before .before .before .before .loop .at + n) (c .before .match-length .ensures) in
-    against-next w g h l r (k .find-beyond .result) (k .find-beyond .ensures) next (c .before .before .before .found .given .1)
-    (c .next-covering2 .ensures .1 (against-left w g h l r (k .find-beyond .result) (k .find-beyond .ensures) next))
+    against-next w g h l r (k .find-uncovered .result) (k .find-uncovered .ensures) next (c .before .before .before .found .given .1)
+    (c .next-covering2 .ensures .1 (against-left w g h l r (k .find-uncovered .result) (k .find-uncovered .ensures) next))
 
 returns-2 : tie.Need-returns-2 Inv-loop μ-loop
 returns-2 c w = against-end w (c .before .loop .inv w) (c .loop-test .left)
@@ -123,15 +123,15 @@ search-spec =
     mul-header
     shared-slice-read-header
     bounds-by-requires
-    mul-find-beyond
-    sub-find-beyond
-    part-find-beyond-start
-    part-find-beyond-end
-    mul-find-beyond-2
-    sub-find-beyond-2
-    part-find-beyond-start-2
-    part-find-beyond-end-2
-    find-beyond-requires
+    mul-find-uncovered
+    sub-find-uncovered
+    part-find-uncovered-start
+    part-find-uncovered-end
+    mul-find-uncovered-2
+    sub-find-uncovered-2
+    part-find-uncovered-start-2
+    part-find-uncovered-end-2
+    find-uncovered-requires
     enum-known-found
     enum-told
     returns

@@ -1,21 +1,21 @@
 // A match of L against R.
-use super::beyond::Found;
-use super::beyond::find_beyond;
-use super::beyond::next_covering;
+use super::uncovered::Found;
+use super::uncovered::find_uncovered;
+use super::uncovered::next_covering;
 use candidates::Candidates;
 use candidates::candidates_for;
 use candidates::edges_at;
 use store::Bounds;
 ghost use mathlib.Core.Path.{_≡_};
 ghost use Rattle.model.specs.Lists.{allOf};
-ghost use Rattle.model.specs.Rules.{reachesBeyond};
+ghost use Rattle.model.specs.Rules.{hasUncovered};
 ghost use Rattle.candidates.specs.Candidates.{CandidatesAt};
-ghost use Rattle.mild.specs.Reach.{ReachedIs, SearchAt};
+ghost use Rattle.mild.specs.Keeps.{KeptIs, SearchAt};
 
 // The answer for a match of L.
-pub struct Reached {
-    // does it reach beyond every match of R?
-    pub beyond: bool,
+pub struct Kept {
+    // does each match of R leave a position of it uncovered?
+    pub kept: bool,
     // what is known of R for the next match of L
     pub candidates: Candidates,
 }
@@ -24,7 +24,7 @@ pub struct Reached {
 // its edges, then each position found and the one before it, beginning with the start; only where both are covered is another looked for.
 fn search(mem: &[u32], p: usize, from: usize, end: usize) -> bool
     requires { ⌜ SearchAt (now mem) p from end ⌝ }
-    ensures { λ b. ⌜ ((w : SearchAt (now (mem .entry)) p from end) → b ≡ allOf (reachesBeyond (w .item)) (w .rights)) ⌝ }
+    ensures { λ b. ⌜ ((w : SearchAt (now (mem .entry)) p from end) → b ≡ allOf (hasUncovered (w .item)) (w .rights)) ⌝ }
 {
     let Bounds {
         includes,
@@ -41,7 +41,7 @@ fn search(mem: &[u32], p: usize, from: usize, end: usize) -> bool
             excludes: e,
             ..
         } = store::bounds_by(header, at);
-        let found = find_beyond(&mem[includes..excludes], &mem[a..e]);
+        let found = find_uncovered(&mem[includes..excludes], &mem[a..e]);
         let Found::At(q) = found else {
             return false;
         };
@@ -52,17 +52,17 @@ fn search(mem: &[u32], p: usize, from: usize, end: usize) -> bool
 }
 
 // "for every match of R", of the match of L at p, the first of the n that are left, and R in the slot at r.
-pub fn reach(mem: &[u32], p: usize, n: usize, r: usize, known: Candidates) -> Reached
+pub fn is_kept(mem: &[u32], p: usize, n: usize, r: usize, known: Candidates) -> Kept
     requires { ⌜ CandidatesAt (now mem) p n r known ⌝ }
-    ensures { λ b. ⌜ ((w : CandidatesAt (now (mem .entry)) p n r known) → ReachedIs (w .item) (w .rights) (now (mem .entry)) r b) ⌝ }
+    ensures { λ b. ⌜ ((w : CandidatesAt (now (mem .entry)) p n r known) → KeptIs (w .item) (w .rights) (now (mem .entry)) r b) ⌝ }
 {
     if store::includes_in(mem[p]) == 0 {
-        return Reached {
-            beyond: mem[r] == 0,
+        return Kept {
+            kept: mem[r] == 0,
             candidates: known,
         };
     }
     let candidates = candidates_for(mem, p, n, r, known);
-    let beyond = search(mem, p, candidates.from, candidates.end);
-    Reached { beyond, candidates }
+    let kept = search(mem, p, candidates.from, candidates.end);
+    Kept { kept, candidates }
 }

@@ -1,13 +1,13 @@
 -- Without includes it reaches beyond none. Else the part of R decides as all of R does.
-use Rattle.mild.proofs.AgainstLaws.{without-includes, search-at, by-search}
+use Rattle.mild.proofs.KeepsLaws.{without-includes, search-at, by-search}
 use borrow.Author.Needs.{needs}
 use mathlib.Core.Path.{refl}
 use Prim.Native.Nat.{_<_}
 use native.Mathlib.Omega.{arith}
 use lib.ListN.{getD}
 use Rattle.store.specs.Layout.{includesIn}
-use Rattle.mild.proofs.against.reach.Statement.{statement}
-use Rattle.mild.proofs.against.reach.Tie as tie
+use Rattle.mild.proofs.keeps.is_kept.Statement.{statement}
+use Rattle.mild.proofs.keeps.is_kept.Tie as tie
 
 mul-includes-in : tie.Need-mul-includes-in
 mul-includes-in c = search needs
@@ -46,8 +46,8 @@ returns-2 c w =
     let candidates = d .candidates-for .ensures w in
     by-search w some (candidates .0) (candidates .1) (c .search .ensures (search-at w some (candidates .0)))
 
-pub reach-spec : {M : Type 1} → statement M
-reach-spec =
+pub is-kept-spec : {M : Type 1} → statement M
+is-kept-spec =
     tie.close
     (tie.spec
     mul-includes-in

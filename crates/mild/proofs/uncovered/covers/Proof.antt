@@ -7,8 +7,8 @@ use mathlib.Core.Bool.{Bool, true, false, _&&_}
 use borrow.Author.Tests.{le-leb, lt-leb, leb-true, leb-false}
 use lib.Dec.{leb}
 use Rattle.model.specs.Limits.{radix}
-use Rattle.mild.proofs.beyond.covers.Statement.{statement}
-use Rattle.mild.proofs.beyond.covers.Tie as tie
+use Rattle.mild.proofs.uncovered.covers.Statement.{statement}
+use Rattle.mild.proofs.uncovered.covers.Tie as tie
 
 -- w is p - start, modulo 2^32
 one-test : (start end p w : ℕ) → start ≤ end → end < radix → w < 2 ^ 32 → (w + start) % 2 ^ 32 ≡ p → leb w (end - start) ≡ (leb start p && leb p end)

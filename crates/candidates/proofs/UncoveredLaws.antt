@@ -9,7 +9,7 @@ use lib.Dec.{leb}
 use Rattle.model.specs.Lists.{anyOf, fromTo, upFrom}
 use Rattle.model.specs.Matches.{Str}
 use Rattle.model.specs.Rules.{covered, covers, positions}
-use Rattle.candidates.specs.Reaching.{beyond}
+use Rattle.candidates.specs.Uncovered.{anyUncovered}
 use Rattle.model.proofs.TestsLaws.{both-true, false-true}
 
 -- any, over a range with a number that passes
@@ -26,13 +26,13 @@ any-range c a b p h k e = go (b + 1 - a) a h (omega arith)
     go (suc n) x h' k' = at x (anyOf c (upFrom (x + 1) n)) (leb p x) refl h' (λ m. go n (x + 1) (omega arith) (omega arith))
 
 -- a position that is covered by the left strings and not by the right ones
-pub beyond-at : (lefts rights : List Str) (p : ℕ) → covered lefts p ≡ true → covered rights p ≡ false → beyond lefts rights ≡ true
+pub uncovered-at : (lefts rights : List Str) (p : ℕ) → covered lefts p ≡ true → covered rights p ≡ false → anyUncovered lefts rights ≡ true
 unfolding anyOf
-beyond-at [] rights p e f = false-true e
-beyond-at (s ∷ ss) rights p e f = at (covers s p) refl e (beyond-at ss rights p)
+uncovered-at [] rights p e f = false-true e
+uncovered-at (s ∷ ss) rights p e f = at (covers s p) refl e (uncovered-at ss rights p)
   where
-    at : (t : Bool) → covers s p ≡ t → (t || covered ss p) ≡ true → (covered ss p ≡ true → covered rights p ≡ false → beyond ss rights ≡ true)
-        → (anyOf (λ x. not (covered rights x)) (positions s) || beyond ss rights) ≡ true
+    at : (t : Bool) → covers s p ≡ t → (t || covered ss p) ≡ true → (covered ss p ≡ true → covered rights p ≡ false → anyUncovered ss rights ≡ true)
+        → (anyOf (λ x. not (covered rights x)) (positions s) || anyUncovered ss rights) ≡ true
     at true c e' later =
         let both = both-true (leb (s .start) p) (leb p (s .end)) c in
         let here = any-range (λ x. not (covered rights x)) (s .start) (s .end) p (leb-true (s .start) p (both .0)) (leb-true p (s .end) (both .1)) (rw f) in

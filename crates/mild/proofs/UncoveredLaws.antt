@@ -9,7 +9,7 @@ use lib.ListN.{length, drop}
 use Rattle.model.specs.Lists.{allOf, anyOf, fromTo}
 use Rattle.model.specs.Matches.{Str, Match, strings}
 use Rattle.model.specs.declared.Position.{Position}
-use Rattle.model.specs.Rules.{covered, covers, keptIf, mildNotList, positions, reachesBeyond}
+use Rattle.model.specs.Rules.{covered, covers, keptIf, mildNotList, positions, hasUncovered}
 use Rattle.model.proofs.RulesLaws.{AtMostOne}
 use Rattle.strings.specs.Covering.{RunEnd}
 use Rattle.strings.specs.Strings.{strsAt}
@@ -20,15 +20,15 @@ use Rattle.store.specs.Slot.{SlotHolds}
 use Rattle.store.proofs.EachLaws.{flatMap-small}
 use Rattle.store.proofs.RowsLaws.{keep-flatMap}
 use Rattle.store.proofs.SlotsLaws.{slot-small}
-use Rattle.mild.specs.declared.beyond.Found.the-variants.{At, Nothing}
-use Rattle.candidates.specs.Reaching.{beyond}
-use Rattle.mild.specs.Beyond.{mildNot, FoundBeyond}
+use Rattle.mild.specs.declared.uncovered.Found.the-variants.{At, Nothing}
+use Rattle.candidates.specs.Uncovered.{anyUncovered}
+use Rattle.mild.specs.Uncovered.{mildNot, FoundUncovered}
 
 -- ---- mildNot
 
 pub one-at-most : (rights : List Match) (l : Match) → AtMostOne l (mildNot rights l)
 unfolding mildNot strings
-one-at-most rights l = at (allOf (reachesBeyond l) rights)
+one-at-most rights l = at (allOf (hasUncovered l) rights)
   where
     at : (b : Bool) → AtMostOne l (keptIf b l)
     at true = omega arith
@@ -37,7 +37,7 @@ one-at-most rights l = at (allOf (reachesBeyond l) rights)
 -- mild not goes over L match by match
 pub mildNot-flatMap : (lefts rights : List Match) → mildNotList lefts rights ≡ flatMap (mildNot rights) lefts
 unfolding mildNotList mildNot
-mildNot-flatMap lefts rights = keep-flatMap (λ l. allOf (reachesBeyond l) rights) lefts
+mildNot-flatMap lefts rights = keep-flatMap (λ l. allOf (hasUncovered l) rights) lefts
 
 pub mildNot-small : {mem : List ℕ} {at : ℕ} {lefts : List Match} (rights : List Match) → SlotHolds mem at lefts → Small (flatMap (mildNot rights) lefts)
 mildNot-small {lefts = lefts} rights s = flatMap-small (mildNot rights) (one-at-most rights) lefts (slot-small s)
@@ -57,7 +57,7 @@ any-not p (x ∷ xs) = at (p x) (any-not p xs)
 
 -- at index i: the strings left reach beyond just where all do, and what they cover is covered by all
 pub record Searching (lefts : List ℕ) (rights : List Str) (i : ℕ) : Type 0 where
-  pub left : Strs.Left (beyond (strsAt lefts) rights) (λ ss. beyond ss rights) lefts i
+  pub left : Strs.Left (anyUncovered (strsAt lefts) rights) (λ ss. anyUncovered ss rights) lefts i
   pub among : (p : ℕ) → covered (strsAt (drop i lefts)) p ≡ true → covered (strsAt lefts) p ≡ true
 
 pub search-start : (lefts : List ℕ) (rights : List Str) → Searching lefts rights 0
@@ -67,7 +67,7 @@ module _ {lefts : List ℕ} {rights : List Str} {i : ℕ} (g : Searching lefts r
   module _ (more : i + 1 < length lefts) {start end : ℕ} {p : Position} (e : start ≡ strAt lefts i .start) (f : end ≡ strAt lefts i .end)
       (r : RunEnd rights start end (p .0)) where
     -- the run of the string in hand stops being covered within it
-    pub search-found : p .0 ≤ end → FoundBeyond (strsAt lefts) rights (At p)
+    pub search-found : p .0 ≤ end → FoundUncovered (strsAt lefts) rights (At p)
     unfolding anyOf
     search-found h =
         let s = strAt lefts i in
@@ -83,10 +83,10 @@ module _ {lefts : List ℕ} {rights : List Str} {i : ℕ} (g : Searching lefts r
         let all : allOf (covered rights) (positions s) ≡ true = ap₂ (λ x y. allOf (covered rights) (fromTo x y)) (sym e) (sym f) ∙ r .same ∙ lt-ltb end (p .0) h in
         let none : anyOf (λ x. not (covered rights x)) (positions s) ≡ false = any-not (covered rights) (positions s) ∙ ap not all in
         record {
-          left = Strs.left-next (g .left) more (λ ss. beyond ss rights) (rw none);
+          left = Strs.left-next (g .left) more (λ ss. anyUncovered ss rights) (rw none);
           among = λ q c. g .among q (ap (λ ss. covered ss q) (strsAt-cons lefts i more) ∙ rw c (or-true (covers s q)));
         }
 
-  pub search-none : length lefts ≤ i + 1 → FoundBeyond (strsAt lefts) rights Nothing
+  pub search-none : length lefts ≤ i + 1 → FoundUncovered (strsAt lefts) rights Nothing
   unfolding anyOf
   search-none h = sym (Strs.left-none (g .left) h)

@@ -8,10 +8,10 @@ use Rattle.store.proofs.DecodeLaws.{valid-within}
 use Rattle.store.proofs.StreamLaws.{next-at, search-start}
 use Rattle.candidates.specs.Passing.{fromFirst}
 use Rattle.candidates.proofs.PassingLaws.{passing-later}
-use Rattle.mild.specs.Beyond.{coverBoth}
+use Rattle.mild.specs.Uncovered.{coverBoth}
 use borrow.Author.Needs.{needs}
-use Rattle.mild.proofs.beyond.skip_same_header.Statement.{statement}
-use Rattle.mild.proofs.beyond.skip_same_header.Tie as tie
+use Rattle.mild.proofs.uncovered.skip_same_header.Statement.{statement}
+use Rattle.mild.proofs.uncovered.skip_same_header.Tie as tie
 
 abbrev Inv-loop : tie.InvT-loop
 Inv-loop mem from end header p q size length at₀ at =

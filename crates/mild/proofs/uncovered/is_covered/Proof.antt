@@ -9,8 +9,8 @@ use Rattle.model.specs.Rules.{covered}
 use Rattle.store.specs.ValidStr.{ValidStr}
 use Rattle.strings.specs.Strings.{strsAt}
 use Rattle.strings.proofs.StringsLaws.{Left, strAt, strsAt-cons, left-start, decides-any, decided-here, decided-later, decided-end}
-use Rattle.mild.proofs.beyond.is_covered.Statement.{statement}
-use Rattle.mild.proofs.beyond.is_covered.Tie as tie
+use Rattle.mild.proofs.uncovered.is_covered.Statement.{statement}
+use Rattle.mild.proofs.uncovered.is_covered.Tie as tie
 
 abbrev Inv-loop : tie.InvT-loop
 Inv-loop strs p i₀ i = AllStrs ValidStr (strsAt (drop i strs)) × Left (covered (strsAt strs) (p .0)) (λ ss. covered ss (p .0)) strs i

@@ -7,10 +7,10 @@ use Rattle.store.proofs.DecodeLaws.{valid-within}
 use Rattle.store.proofs.StreamLaws.{next-at, search-start}
 use Rattle.candidates.specs.Passing.{fromFirst}
 use Rattle.candidates.proofs.PassingLaws.{passing-here, passing-later, passing-none, passing-trans}
-use Rattle.mild.specs.Beyond.{coverBoth}
+use Rattle.mild.specs.Uncovered.{coverBoth}
 use borrow.Author.Needs.{needs}
-use Rattle.mild.proofs.beyond.next_covering.Statement.{statement}
-use Rattle.mild.proofs.beyond.next_covering.Tie as tie
+use Rattle.mild.proofs.uncovered.next_covering.Statement.{statement}
+use Rattle.mild.proofs.uncovered.next_covering.Tie as tie
 
 abbrev Inv-loop : tie.InvT-loop
 Inv-loop mem from end p q at₀ at =

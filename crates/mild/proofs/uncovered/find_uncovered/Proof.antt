@@ -4,9 +4,9 @@ use borrow.Author.Needs.{needs}
 use Prim.Native.Nat.{_-_}
 use lib.ListN.{length}
 use Rattle.strings.specs.Strings.{strsAt}
-use Rattle.mild.proofs.BeyondLaws.{Searching, search-start, search-found, search-on, search-none}
-use Rattle.mild.proofs.beyond.find_beyond.Statement.{statement}
-use Rattle.mild.proofs.beyond.find_beyond.Tie as tie
+use Rattle.mild.proofs.UncoveredLaws.{Searching, search-start, search-found, search-on, search-none}
+use Rattle.mild.proofs.uncovered.find_uncovered.Statement.{statement}
+use Rattle.mild.proofs.uncovered.find_uncovered.Tie as tie
 
 abbrev Inv-loop : tie.InvT-loop
 Inv-loop lefts rights i₀ i = Searching lefts (strsAt rights) i
@@ -56,8 +56,8 @@ loop-again c =
 returns-2 : tie.Need-returns-2 Inv-loop μ-loop
 returns-2 c = search-none (c .before .loop .inv) (c .loop-test .left)
 
-pub find-beyond-spec : {M : Type 1} → statement M
-find-beyond-spec =
+pub find-uncovered-spec : {M : Type 1} → statement M
+find-uncovered-spec =
     tie.close
     (tie.spec
     Inv-loop

@@ -12,7 +12,7 @@ ghost use Rattle.model.specs.Rules.{covered, covers};
 ghost use Rattle.store.specs.Stream.{Remaining, RemainingAt, SearchInvariant};
 ghost use Rattle.store.specs.ValidStr.{ValidStr};
 ghost use Rattle.strings.specs.Strings.{strOf, strsAt};
-ghost use Rattle.mild.specs.Beyond.{coverBoth, FoundBeyond};
+ghost use Rattle.mild.specs.Uncovered.{coverBoth, FoundUncovered};
 ghost use Rattle.candidates.specs.Passing.{fromFirst};
 
 // A position that includes of a left match cover, and those of a right match don't.
@@ -22,8 +22,8 @@ pub enum Found {
 }
 
 // "some position covered by an include isn't covered by R's includes": one of a left match and a right match, if there is any
-pub fn find_beyond(lefts: &[u32], rights: &[u32]) -> Found
-    ensures { λ r. ⌜ FoundBeyond (strsAt (now (lefts .entry))) (strsAt (now (rights .entry))) r ⌝ }
+pub fn find_uncovered(lefts: &[u32], rights: &[u32]) -> Found
+    ensures { λ r. ⌜ FoundUncovered (strsAt (now (lefts .entry))) (strsAt (now (rights .entry))) r ⌝ }
 {
     let mut i = 0;
     while i + 1 < lefts.len() {

@@ -2,8 +2,8 @@
 use borrow.Author.Needs.{needs}
 use borrow.Author.Tests.{not-true, not-false}
 use mathlib.Core.Path.{sym, _∙_}
-use Rattle.mild.proofs.beyond.cover_both.Statement.{statement}
-use Rattle.mild.proofs.beyond.cover_both.Tie as tie
+use Rattle.mild.proofs.uncovered.cover_both.Statement.{statement}
+use Rattle.mild.proofs.uncovered.cover_both.Tie as tie
 
 is-covered-requires : tie.Need-is-covered-requires
 is-covered-requires c κs = search needs

@@ -5,11 +5,11 @@ use mathlib.Core.Path.{_≡_}
 use lib.ListN.{getD}
 use Rattle.model.specs.Lists.{allOf}
 use Rattle.model.specs.Matches.{Match}
-use Rattle.model.specs.Rules.{reachesBeyond}
+use Rattle.model.specs.Rules.{hasUncovered}
 use Rattle.candidates.specs.Candidates.{CandidatesAre}
 use Rattle.store.specs.Layout.{includesIn}
 use Rattle.store.specs.Stream.{MatchHolds, Remaining}
-use Rattle.mild.specs.declared.against.Reached.{Reached}
+use Rattle.mild.specs.declared.keeps.Kept.{Kept}
 
 -- a match with includes at p, and matches of R from `from` up to `end`
 pub record SearchAt (mem : List ℕ) (p from end : ℕ) : Type 0 where
@@ -20,6 +20,6 @@ pub record SearchAt (mem : List ℕ) (p from end : ℕ) : Type 0 where
   pub stream : Remaining rights mem from end
 
 -- what is said of a match l and of R
-pub record ReachedIs (l : Match) (rights : List Match) (mem : List ℕ) (r : ℕ) (reached : Reached) : Type 0 where
-  pub beyond : reached .beyond ≡ allOf (reachesBeyond l) rights
-  pub candidates : CandidatesAre rights mem r (reached .candidates)
+pub record KeptIs (l : Match) (rights : List Match) (mem : List ℕ) (r : ℕ) (answer : Kept) : Type 0 where
+  pub kept : answer .kept ≡ allOf (hasUncovered l) rights
+  pub candidates : CandidatesAre rights mem r (answer .candidates)
