@@ -1,8 +1,8 @@
 /* A panel's calls: the listing of '10 and 20, within a window of 3 words' over document 01's six tokens, the quick answer to 'not 99', and the
  * snippet of the listing's first match.
  *
- *   rt staticlib boundary
- *   cc -Iinclude examples/panel.c target/staticlib/libboundary.a -o target/panel && target/panel
+ *   rt staticlib jullpinay
+ *   cc -Iinclude examples/panel.c target/staticlib/libjullpinay.a -o target/panel && target/panel
  */
 #include <inttypes.h>
 #include <stdio.h>

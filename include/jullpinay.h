@@ -4,7 +4,7 @@
  * and may end holding anything. Nothing that a call writes, `answer` included, may overlap anything else that is passed. No pointer may be null, also
  * where its count is 0. Nothing is kept between calls, and nothing else is touched.
  *
- * Link with the archive that `rt staticlib boundary` writes, target/staticlib/libboundary.a. */
+ * Link with the archive that `rt staticlib jullpinay` writes, target/staticlib/libjullpinay.a. */
 #ifndef JULLPINAY_H
 #define JULLPINAY_H
 

@@ -1,6 +1,6 @@
 //! The proved engine beside the second one: every example, and random cases.
 //!
-//! `rt staticlib boundary` builds the library that this is linked with. A case that fails is printed as a test, to be
+//! `rt staticlib jullpinay` builds the library that this is linked with. A case that fails is printed as a test, to be
 //! pasted in here.
 
 mod examples;

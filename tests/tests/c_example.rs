@@ -19,7 +19,7 @@ fn the_c_example_prints_a_listing_a_quick_answer_and_a_snippet() {
     let program = Path::new(env!("CARGO_TARGET_TMPDIR")).join("panel");
     let compiled = Command::new("cc")
         .args(["-std=c99", "-Wall", "-Wextra", "-Werror", "-pedantic", "-Iinclude", "examples/panel.c"])
-        .args(["target/staticlib/libboundary.a", "-o"])
+        .args(["target/staticlib/libjullpinay.a", "-o"])
         .arg(&program)
         .current_dir(&root)
         .output()

@@ -61,8 +61,8 @@ fn code_of(kind: u32, operand: u32) -> Code
 pub fn code_at(selection: &[u32], place: u32) -> Code
     ensures { λ r. ⌜ r ≡ codeAt (now (selection .entry)) place ⌝ }
 {
-    let kind = lent::number_at(selection, place as usize);
-    let operand = lent::second_at(selection, place);
+    let kind = slices::number_at(selection, place as usize);
+    let operand = slices::second_at(selection, place);
     code_of(kind, operand)
 }
 

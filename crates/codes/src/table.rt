@@ -60,10 +60,10 @@ fn operand_fits(kind: u32, operand: u32) -> bool
 pub fn unknown_kind(selection: &[u32]) -> Fault
     ensures { λ r. ⌜ r ≡ faultOf (unknownKind (now (selection .entry))) ⌝ }
 {
-    let m = lent::number_at(selection, 0) as usize;
+    let m = slices::number_at(selection, 0) as usize;
     let mut c: usize = 1;
     while c <= m {
-        if is_unknown(lent::number_at(selection, c)) {
+        if is_unknown(slices::number_at(selection, c)) {
             return Fault::At(c as u32);
         }
         c += 1;
@@ -75,12 +75,12 @@ pub fn unknown_kind(selection: &[u32]) -> Fault
 pub fn wrong_operand(selection: &[u32]) -> Fault
     ensures { λ r. ⌜ r ≡ faultOf (wrongOperand (now (selection .entry))) ⌝ }
 {
-    let m = lent::number_at(selection, 0) as usize;
+    let m = slices::number_at(selection, 0) as usize;
     let mut c: usize = 1;
     while c <= m {
         if !operand_fits(
-            lent::number_at(selection, c),
-            lent::number_at(selection, m + c),
+            slices::number_at(selection, c),
+            slices::number_at(selection, m + c),
         ) {
             return Fault::At(c as u32);
         }

@@ -28,11 +28,11 @@ use Rattle.model.proofs.ChecksLaws.{otherwise-none}
 use Rattle.model.proofs.TestsLaws.{both-true, cond-none}
 use Rattle.store.specs.Slot.{SlotAt, SlotHolds}
 use Rattle.store.proofs.SlotsLaws.{matches-held, strings-held}
-use Rattle.output.proofs.ListingLaws.{listing-rest}
-use Rattle.building.specs.State.{Buildable}
-use Rattle.building.specs.PartList.{PartList}
-use Rattle.building.specs.declared.Part.{Part}
-use Rattle.building.specs.declared.Part.the-variants.{Built, Refused as PartRefused}
+use Rattle.listing_buffer.proofs.ListingLaws.{listing-rest}
+use Rattle.build.specs.State.{Buildable}
+use Rattle.build.specs.PartList.{PartList}
+use Rattle.build.specs.declared.Part.{Part}
+use Rattle.build.specs.declared.Part.the-variants.{Built, Refused as PartRefused}
 use Rattle.engine.proofs.WholeLaws.{whole-built, whole-tree}
 
 -- the numbers of a list in the first slot, and its answer

@@ -21,7 +21,7 @@ use Rattle.model.specs.Walk.{walk}
 use Rattle.model.proofs.AnswersLaws.{checked-accepted, checked-refused}
 use Rattle.model.proofs.ChecksLaws.{otherwise-none}
 use Rattle.model.proofs.TestsLaws.{cond-none}
-use Rattle.walking.specs.Walkable.{Walkable}
+use Rattle.walk.specs.Walkable.{Walkable}
 use Rattle.engine.proofs.WholeLaws.{whole-walked, whole-tree}
 
 module _ (section selection : List ℕ) (work : ℕ) where

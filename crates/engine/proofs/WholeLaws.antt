@@ -15,8 +15,8 @@ use Rattle.model.specs.Selection.{upTo}
 use Rattle.model.specs.Trees.{topTree, readAll, fresh, treeOf}
 use Rattle.model.proofs.ChecksLaws.{otherwise-none, accepted-section, accepted-selection, accepted-part}
 use Rattle.model.proofs.PartsLaws.{part-start, part-read}
-use Rattle.building.specs.State.{Buildable}
-use Rattle.walking.specs.Walkable.{Walkable}
+use Rattle.build.specs.State.{Buildable}
+use Rattle.walk.specs.Walkable.{Walkable}
 
 module _ (section selection : List ℕ) (passes : inputRefusal section selection ≡ none) where
   pub section-accepted : AcceptedSection section

@@ -1,5 +1,5 @@
 // The engine's calls. None has a requires: any slices of any lengths may come in, and each gets a result or one refusal.
-use building::Part;
+use build::Part;
 use model::Checked;
 use model::Listing;
 use model::Position;
@@ -19,7 +19,7 @@ fn listed(work: &[u32], buffer: &mut [u32]) -> Listing
     ensures { λ r. ⌜ ((w : SlotAt (now (work .entry)) 0) → r ≡ listedOf (w .list)) ⌝ }
     ensures { λ _. ⌜ ((w : SlotAt (now (work .entry)) 0) → now (buffer .exit) ≡ sets (now (buffer .entry)) 0 (listingNumbers (w .list))) ⌝ }
 {
-    output::put_listing(work, 0, buffer);
+    listing_buffer::put_listing(work, 0, buffer);
     let yes = store::is_yes(work, 0);
     let matches = work[0];
     let strings = work[1];
@@ -41,7 +41,7 @@ pub fn listing(section: &[u32], selection: &[u32], work: &mut [u32], buffer: &mu
     let Checked::Accepted { size: codes } = checked else {
         return Listing::Refused(checks::refusal_of(checked));
     };
-    let part = building::build(section, selection, work, 0, codes, 1);
+    let part = build::build(section, selection, work, 0, codes, 1);
     if let Part::Refused(refusal) = part {
         return Listing::Refused(refusal);
     }
@@ -57,7 +57,7 @@ pub fn quick(section: &[u32], selection: &[u32], work: &mut [u32]) -> Quick
     let Checked::Accepted { size: codes } = checked else {
         return Quick::Refused(checks::refusal_of(checked));
     };
-    walking::walk(section, selection, work, codes)
+    walk::walk(section, selection, work, codes)
 }
 
 // The snippet: "the word numbers of those positions, as a part of the lent section".

@@ -1,10 +1,10 @@
 // Each filter by its rule: window's own, or that of the nine which keep a match or drop it. Each of these is three things: a test on the includes, a test that
 // an exclude stays by, and whether the result holds the join.
-use distances::in_distance;
-use distances::sorted_within;
-use lent::number_at;
+use distance::in_distance;
+use distance::sorted_within;
 use model::Filter;
 use model::Position;
+use slices::number_at;
 use strings::covering::covered;
 use strings::covering::run_covered;
 use strings::ordering::agrees_with_all;

@@ -17,8 +17,8 @@ use Rattle.model.proofs.ListsLaws.{length-keep}
 use Rattle.model.proofs.RulesLaws.{length-kept, size-kept}
 use Rattle.strings.specs.Strings.{strOf, strsOf, strsAt}
 use Rattle.strings.proofs.StringsLaws.{length-strsAt, strsAt-none}
-use Rattle.joining.specs.Joined.{joined}
-use Rattle.joining.proofs.JoiningLaws.{strsOf-join}
+use Rattle.join.specs.Joined.{joined}
+use Rattle.join.proofs.JoiningLaws.{strsOf-join}
 use Rattle.store.specs.declared.Bounds.{Bounds}
 use Rattle.store.specs.Built.{Small}
 use Rattle.store.specs.Each.{OneAt}

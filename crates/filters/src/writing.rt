@@ -1,7 +1,7 @@
 // What a filter makes of one match, written after what is written.
 use filter_rules::Keeper;
-use joining::join_span;
-use joining::join_tag;
+use join::join_span;
+use join::join_tag;
 use store::Bounds;
 ghost use lib.ListN.{length};
 ghost use Rattle.model.specs.Rules.{join, kept};

@@ -23,21 +23,21 @@ ghost use Rattle.section.specs.Rises.{SummedRises};
 pub fn word_at(section: &[u32], p: Position) -> u32
     ensures { λ r. ⌜ r ≡ wordAt (now (section .entry)) (p .0) ⌝ }
 {
-    lent::number_at(section, p.0 as usize)
+    slices::number_at(section, p.0 as usize)
 }
 
 // The sentence of the token at a position.
 pub fn sentence_at(section: &[u32], p: Position) -> Sentence
     ensures { λ r. ⌜ r .0 ≡ sentenceAt (now (section .entry)) (p .0) ⌝ }
 {
-    Sentence(lent::second_at(section, p.0) % RADIX)
+    Sentence(slices::second_at(section, p.0) % RADIX)
 }
 
 // The paragraph of the token at a position.
 pub fn paragraph_at(section: &[u32], p: Position) -> Paragraph
     ensures { λ r. ⌜ r .0 ≡ paragraphAt (now (section .entry)) (p .0) ⌝ }
 {
-    Paragraph(lent::second_at(section, p.0) / RADIX)
+    Paragraph(slices::second_at(section, p.0) / RADIX)
 }
 
 // "below that of the position before it, or just one of the two is zero"
@@ -136,7 +136,7 @@ fn first_faulty(section: &[u32], n: usize) -> Fault
 pub fn check_section(section: &[u32]) -> Checked
     ensures { λ r. ⌜ r ≡ checkedOf (size (now (section .entry))) (sectionRefusal (now (section .entry))) ⌝ }
 {
-    if !lent::well_sized(section, 0, MAX_TOKENS) {
+    if !slices::well_sized(section, 0, MAX_TOKENS) {
         return Checked::Refused(Refusal {
             number: 1,
             place: 0,

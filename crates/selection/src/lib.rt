@@ -19,7 +19,7 @@ fn not_under_mild_not(selection: &[u32]) -> Fault
     requires { ⌜ wellFormed (shapesOf (now selection)) ≡ true ⌝ }
     ensures { λ r. ⌜ r ≡ faultOf (notUnderMildNot (now (selection .entry))) ⌝ }
 {
-    let m = lent::number_at(selection, 0);
+    let m = slices::number_at(selection, 0);
     let mut c: u32 = 0;
     while c < m {
         c += 1;
@@ -37,7 +37,7 @@ fn not_under_mild_not(selection: &[u32]) -> Fault
 pub fn check_selection(selection: &[u32]) -> Checked
     ensures { λ r. ⌜ r ≡ checkedOf (size (now (selection .entry))) (selectionRefusal (now (selection .entry))) ⌝ }
 {
-    if !lent::well_sized(selection, 1, MAX_CODES) {
+    if !slices::well_sized(selection, 1, MAX_CODES) {
         return Checked::Refused(Refusal {
             number: 3,
             place: 0,
@@ -60,6 +60,6 @@ pub fn check_selection(selection: &[u32]) -> Checked
         return Checked::Refused(Refusal { number: 7, place });
     }
     Checked::Accepted {
-        size: lent::number_at(selection, 0),
+        size: slices::number_at(selection, 0),
     }
 }

@@ -88,11 +88,11 @@ pub fn rank_at(selection: &[u32], place: u32) -> u32
 pub fn phrase_words(selection: &[u32], place: u32) -> &[u32]
     ensures { λ r. ⌜ now r ≡ phraseWords (now (selection .entry)) place ⌝ }
 {
-    let k = lent::second_at(selection, place);
+    let k = slices::second_at(selection, place);
     if place <= k {
         return &selection[..0];
     }
-    let m = lent::number_at(selection, 0);
+    let m = slices::number_at(selection, 0);
     let end = m as usize + place as usize;
     if selection.len() < end {
         return &selection[..0];

@@ -66,7 +66,7 @@ fn words_after(code: Code, words: usize) -> usize
 pub fn wrong_shape(selection: &[u32]) -> Fault
     ensures { λ r. ⌜ r ≡ faultOf (wrongShape (now (selection .entry))) ⌝ }
 {
-    let m = lent::number_at(selection, 0);
+    let m = slices::number_at(selection, 0);
     let mut lists: usize = 0;
     let mut words: usize = 0;
     let mut c: u32 = 0;

@@ -43,7 +43,7 @@ pub fn section_length(numbers: &[u32]) -> usize
     ensures { λ r. ⌜ r ≡ length (sectionPart (now (numbers .entry))) ⌝ }
     ensures { λ r. ⌜ r ≤ length (now (numbers .entry)) ⌝ }
 {
-    let n = lent::number_at(numbers, 0) as usize;
+    let n = slices::number_at(numbers, 0) as usize;
     if numbers.len() < 1 + 2 * n {
         return numbers.len();
     }

@@ -14,7 +14,7 @@ use Rattle.model.specs.Matches.{Match, Str, strings, tooLong}
 use Rattle.model.specs.Rules.{insideWindow, join, window, windowEnds, windowTo}
 use Rattle.model.proofs.ListsLaws.{length-range}
 use Rattle.model.proofs.RulesLaws.{strings-append}
-use Rattle.joining.specs.Joined.{joined}
+use Rattle.join.specs.Joined.{joined}
 use Rattle.strings.specs.Strings.{strsAt}
 use Rattle.strings.proofs.StringsLaws.{Left as StringsLeft, left-next, left-none, length-strsAt}
 use Rattle.store.specs.declared.Bounds.{Bounds}

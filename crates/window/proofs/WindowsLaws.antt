@@ -10,7 +10,7 @@ use Rattle.model.specs.Lists.{keep, fromTo}
 use Rattle.model.specs.Matches.{Match, stringsIn}
 use Rattle.model.specs.Rules.{insideWindow, join, window, windowEnds, windowTo}
 use Rattle.model.proofs.ListsLaws.{length-keep, range-cons, range-empty}
-use Rattle.joining.specs.Joined.{joined}
+use Rattle.join.specs.Joined.{joined}
 use Rattle.strings.specs.Strings.{strsAt, strsOf}
 use Rattle.store.specs.declared.Bounds.{Bounds}
 use Rattle.store.specs.Each.{OneAt}

@@ -4,8 +4,8 @@
 mod inside; // the excludes inside a window
 mod sizes; // how many matches and strings the windows have
 
-use joining::join_span;
-use joining::join_tag;
+use join::join_span;
+use join::join_tag;
 use model::Position;
 use store::Bounds;
 use store::Built;

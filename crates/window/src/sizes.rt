@@ -1,5 +1,5 @@
 // How many matches and strings the windows of a list have, counted before any is written.
-use joining::extent_of;
+use join::extent_of;
 use model::MAX_MATCHES;
 use model::Position;
 use store::Bounds;

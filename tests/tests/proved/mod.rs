@@ -1,15 +1,15 @@
-//! The proved engine, by the exported functions of `crates/boundary`.
+//! The proved engine, by the exported functions of `crates/jullpinay`.
 
 #![allow(dead_code)]
 
 use second_engine::{Engine, Listing, Quick};
 
 #[cfg(not_built)]
-compile_error!("target/staticlib/libboundary.a is not there: build it by `rt staticlib boundary`");
+compile_error!("target/staticlib/libjullpinay.a is not there: build it by `rt staticlib jullpinay`");
 
 pub mod exported {
-    // Nothing holds these declarations to crates/boundary/src/lib.rt: keep them alike. A slice is a pointer and a length.
-    #[link(name = "boundary", kind = "static")]
+    // Nothing holds these declarations to crates/jullpinay/src/lib.rt: keep them alike. A slice is a pointer and a length.
+    #[link(name = "jullpinay", kind = "static")]
     extern "C" {
         pub fn jullpinay_listing(
             section: *const u32,

@@ -1,0 +1,105 @@
+-- Every second number of a match as it lies in memory is a span, or a tag, of each of its strings, the includes' before the excludes'.
+use Prim.Native.Nat.{ℕ, zero, suc, _+_, _*_, _≤_}
+use native.Mathlib.Omega.{arith}
+use native.Mathlib.Numerals.{add-one}
+use mathlib.Core.Path.{_≡_, refl, sym, ap, ap₂, _∙_}
+use mathlib.Core.List.{List, [], _∷_, _++_, map, flatMap, append-nil}
+use lib.ListN.{length, getD, set, length-append}
+use lib.Seq.{sets}
+use Rattle.model.specs.Answers.{spanOf, tagOf, spansIn, tagsIn}
+use Rattle.model.specs.Matches.{Str, Match, stringsIn, strings}
+use Rattle.strings.specs.Strings.{strsOf}
+use Rattle.store.specs.Layout.{Holds}
+use Rattle.store.specs.Stream.{MatchHolds}
+use Rattle.store.proofs.DecodeLaws.{strings-hold}
+use Rattle.store.proofs.LayoutLaws.{length-strsOf}
+use Rattle.store.proofs.MemoryLaws.{sets-append, getD-held}
+use Rattle.listing_buffer.specs.Columns.{everySecond, columnIn}
+
+-- ---- everySecond
+
+length-every : (l : List ℕ) (p n : ℕ) → length (everySecond l p n) ≡ n
+unfolding everySecond
+length-every l p zero = refl
+length-every l p (suc n) = ap suc (length-every l (p + 2) n)
+
+every-snoc : (l : List ℕ) (p n : ℕ) → everySecond l p (suc n) ≡ everySecond l p n ++ getD l (p + 2 * n) 0 ∷ []
+unfolding everySecond
+every-snoc l p zero = ap (λ k. getD l k 0 ∷ []) (omega arith)
+every-snoc l p (suc n) = ap (λ r. getD l p 0 ∷ r) (every-snoc l (p + 2) n ∙ ap (λ k. everySecond l (p + 2) n ++ getD l k 0 ∷ []) (omega arith))
+
+every-cons : (x : ℕ) (l : List ℕ) (p n : ℕ) → everySecond (x ∷ l) (suc p) n ≡ everySecond l p n
+unfolding everySecond
+every-cons x l p zero = refl
+every-cons x l p (suc n) = ap (λ r. getD l p 0 ∷ r) (ap (λ k. everySecond (x ∷ l) k n) (omega arith) ∙ every-cons x l (p + 2) n)
+
+-- the loop that copies them: nothing yet, and one more
+pub copied-none : (mem b : List ℕ) (p q : ℕ) → b ≡ sets b q (everySecond mem p 0)
+unfolding everySecond
+copied-none mem b p q = refl
+
+pub copied-more : (mem b : List ℕ) (p q i : ℕ) → set (sets b q (everySecond mem p i)) (q + i) (getD mem (p + 2 * i) 0) ≡ sets b q (everySecond mem p (i + 1))
+copied-more mem b p q i =
+    let x = getD mem (p + 2 * i) 0 in
+    let one : everySecond mem p (i + 1) ≡ everySecond mem p i ++ x ∷ [] = ap (everySecond mem p) (add-one i) ∙ every-snoc mem p i in
+    sym (ap (sets b q) one ∙ sets-append b q (everySecond mem p i) (x ∷ []) ∙ ap (λ k. set (sets b q (everySecond mem p i)) (q + k) x) (length-every mem p i))
+
+-- what memory holds is read there
+every-held : {mem : List ℕ} {p : ℕ} (xs : List ℕ) → Holds mem p xs → (n k : ℕ) → k + 2 * n ≤ length xs + 1 → everySecond mem (p + k) n ≡ everySecond xs k n
+unfolding everySecond
+every-held xs h zero k l = refl
+every-held {mem} {p} xs h (suc n) k l =
+    ap₂ _∷_ (getD-held k (omega arith) h) (ap (λ j. everySecond mem j n) (omega arith) ∙ every-held xs h n (k + 2) (omega arith))
+
+-- ---- columnIn
+
+-- the column of a match in memory
+pub column-held : {mem : List ℕ} {p : ℕ} {m : Match} → MatchHolds mem p m → (a column n : ℕ) → a ≡ p + 1 → column ≤ 1 → n ≡ stringsIn m
+    → everySecond mem (a + column) n ≡ columnIn column m
+unfolding columnIn
+column-held {mem} {m = m} h a column n e l f =
+    let strs = strsOf 0 (m .includes) ++ strsOf 1 (m .excludes) in
+    let long : length strs ≡ 2 * stringsIn m =
+    omega (arith, length-append (strsOf 0 (m .includes)) (strsOf 1 (m .excludes)), length-strsOf 0 (m .includes), length-strsOf 1 (m .excludes)) in
+    ap (everySecond mem (a + column)) f ∙ every-held strs (strings-hold h a e) (stringsIn m) column (omega arith)
+
+pub length-column : (column : ℕ) (m : Match) → length (columnIn column m) ≡ stringsIn m
+unfolding columnIn
+length-column column m = length-every (strsOf 0 (m .includes) ++ strsOf 1 (m .excludes)) column (stringsIn m)
+
+pub length-columns : (column : ℕ) (ms : List Match) → length (flatMap (columnIn column) ms) ≡ strings ms
+unfolding flatMap strings
+length-columns column [] = refl
+length-columns column (m ∷ ms) = length-append (columnIn column m) (flatMap (columnIn column) ms) ∙ ap₂ _+_ (length-column column m) (length-columns column ms)
+
+-- f is the number at k of each string
+module _ (k sort : ℕ) (f : Str → ℕ) (is : (s : Str) (l : List ℕ) → getD (spanOf s ∷ tagOf sort s ∷ l) k 0 ≡ f s) where
+  every-strs : (ss : List Str) (rest : List ℕ) (n : ℕ) → everySecond (strsOf sort ss ++ rest) k (length ss + n) ≡ map f ss ++ everySecond rest k n
+  unfolding everySecond strsOf
+  every-strs [] rest n = let e : 0 + n ≡ n = omega arith in ap (everySecond rest k) e
+  every-strs (s ∷ ss) rest n =
+      let l = strsOf sort ss ++ rest in
+      let e : suc (length ss) + n ≡ suc (length ss + n) = omega arith in
+      let j : k + 2 ≡ suc (suc k) = omega arith in
+      ap (everySecond (spanOf s ∷ tagOf sort s ∷ l) k) e
+      ∙ ap₂ _∷_ (is s l) (ap (λ i. everySecond (spanOf s ∷ tagOf sort s ∷ l) i (length ss + n)) j ∙ every-cons (spanOf s) (tagOf sort s ∷ l) (suc k) (length ss + n)
+      ∙ every-cons (tagOf sort s) l k (length ss + n) ∙ every-strs ss rest n)
+
+  every-all : (ss : List Str) → everySecond (strsOf sort ss) k (length ss) ≡ map f ss
+  unfolding everySecond
+  every-all ss =
+      let e : length ss ≡ length ss + 0 = omega arith in
+      ap₂ (λ l n. everySecond l k n) (sym (append-nil (strsOf sort ss))) e ∙ every-strs ss [] 0 ∙ append-nil (map f ss)
+
+-- the column k of a match, where f and g are the number at k of each include and of each exclude
+column-is : (k : ℕ) (f g : Str → ℕ) → ((s : Str) (l : List ℕ) → getD (spanOf s ∷ tagOf 0 s ∷ l) k 0 ≡ f s)
+    → ((s : Str) (l : List ℕ) → getD (spanOf s ∷ tagOf 1 s ∷ l) k 0 ≡ g s) → (m : Match) → columnIn k m ≡ map f (m .includes) ++ map g (m .excludes)
+unfolding columnIn
+column-is k f g e h m =
+    every-strs k 0 f e (m .includes) (strsOf 1 (m .excludes)) (length (m .excludes)) ∙ ap (λ l. map f (m .includes) ++ l) (every-all k 1 g h (m .excludes))
+
+pub column-spans : (m : Match) → columnIn 0 m ≡ spansIn m
+column-spans m = column-is 0 spanOf spanOf (λ s l. refl) (λ s l. refl) m
+
+pub column-tags : (m : Match) → columnIn 1 m ≡ tagsIn m
+column-tags m = column-is 1 (tagOf 0) (tagOf 1) (λ s l. refl) (λ s l. refl) m
