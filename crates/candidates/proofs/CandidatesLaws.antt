@@ -1,5 +1,5 @@
 -- Why a part of R is enough: a string that covers a position of a range overlaps the range, so that a match of R which doesn't overlap both ranges leaves one of
--- the edges of a match of L uncovered, and that match reaches beyond it.
+-- the edges of a match of L uncovered.
 use Prim.Native.Nat.{ℕ, _+_, _≤_}
 use native.Mathlib.Omega.{arith}
 use mathlib.Core.Path.{_≡_, refl, sym, _∙_}
@@ -56,19 +56,19 @@ apart-uncovered range p w ss e = at (covered ss p) refl
 -- ---- a match of L that covers two positions
 
 module _ (l : Match) (p q : ℕ) (e : covered (l .includes) p ≡ true) (f : covered (l .includes) q ≡ true) where
-  -- .. reaches beyond a match that doesn't cover one of them ..
+  -- .. has an uncovered position beside a match that doesn't cover one of them ..
   either : (m : Match) (s t : Bool) → (s ≡ false → covered (m .includes) p ≡ false) → (t ≡ false → covered (m .includes) q ≡ false) → (s && t) ≡ false → hasUncovered l m ≡ true
   either m true true a b c = false-true (sym c)
   either m true false a b c = uncovered-at (l .includes) (m .includes) q f (b refl)
   either m false t a b c = uncovered-at (l .includes) (m .includes) p e (a refl)
 
-  -- .. so beyond one that doesn't cover both ..
-  pub uncovered-beyond : (m : Match) → (covered (m .includes) p && covered (m .includes) q) ≡ false → hasUncovered l m ≡ true
-  uncovered-beyond m = either m (covered (m .includes) p) (covered (m .includes) q) (λ z. z) (λ z. z)
+  -- .. so beside one that doesn't cover both ..
+  pub uncovered-both : (m : Match) → (covered (m .includes) p && covered (m .includes) q) ≡ false → hasUncovered l m ≡ true
+  uncovered-both m = either m (covered (m .includes) p) (covered (m .includes) q) (λ z. z) (λ z. z)
 
-  -- .. and beyond one that doesn't overlap both ranges with these positions
-  pub apart-beyond : (ranges : Ranges) → Within (ranges .start) p → Within (ranges .end) q → (m : Match) → overlapBoth ranges (m .includes) ≡ false → hasUncovered l m ≡ true
-  apart-beyond ranges v w m =
+  -- .. and beside one that doesn't overlap both ranges with these positions
+  pub uncovered-apart : (ranges : Ranges) → Within (ranges .start) p → Within (ranges .end) q → (m : Match) → overlapBoth ranges (m .includes) ≡ false → hasUncovered l m ≡ true
+  uncovered-apart ranges v w m =
       either m (anyOverlaps (ranges .start) (m .includes)) (anyOverlaps (ranges .end) (m .includes)) (apart-uncovered (ranges .start) p v (m .includes)) (apart-uncovered (ranges .end) q w (m .includes))
 
 -- ---- the part of R
@@ -94,7 +94,7 @@ module _ {mem : List ℕ} {r : ℕ} {rights : List Match} (slot : SlotHolds mem 
         stream = h;
         within = omega (arith, e, slot .header, g .up-to, h .up-to, length-upToLast test (fromFirst test rights));
         same = λ p q v w l c d.
-            let miss = apart-beyond l p q c d ranges v w in
+            let miss = uncovered-apart l p q c d ranges v w in
             all-upToLast l test miss (fromFirst test rights) ∙ all-fromFirst l test miss rights;
       }
 

@@ -172,7 +172,7 @@ module _ {test : List Str → Bool} {mem : List ℕ} {from end : ℕ} (w : Remai
 
 -- ---- hasUncovered
 
--- a match that reaches beyond all that don't pass a test reaches beyond all, if beyond those from the first one on that passes ..
+-- a match that has an uncovered position beside all that don't pass a test has one beside all, if beside those from the first one on that passes ..
 module _ (l : Match) (test : List Str → Bool) (miss : (m : Match) → test (m .includes) ≡ false → hasUncovered l m ≡ true) where
   pub all-fromFirst : (ms : List Match) → allOf (hasUncovered l) (fromFirst test ms) ≡ allOf (hasUncovered l) ms
   unfolding fromFirst allOf

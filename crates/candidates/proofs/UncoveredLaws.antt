@@ -1,4 +1,4 @@
--- A match reaches beyond another where some position is covered by its includes and not by the other's.
+-- A match has an uncovered position, beside another, where its includes cover one that the other's don't.
 use Prim.Native.Nat.{ℕ, zero, suc, _+_, _-_, _≤_, _<_}
 use native.Mathlib.Omega.{arith}
 use mathlib.Core.Path.{_≡_, refl, sym, ap, _∙_}

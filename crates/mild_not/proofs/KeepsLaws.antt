@@ -37,7 +37,7 @@ use Rattle.mild_not.specs.Keeps.{KeptIs, SearchAt}
 use Rattle.candidates.specs.Passing.{fromFirst}
 use Rattle.candidates.proofs.UncoveredLaws.{uncovered-at}
 use Rattle.mild_not.proofs.UncoveredLaws.{mildNot-flatMap, mildNot-small, one-at-most}
-use Rattle.candidates.proofs.CandidatesLaws.{uncovered-beyond}
+use Rattle.candidates.proofs.CandidatesLaws.{uncovered-both}
 use Rattle.candidates.proofs.EdgesLaws.{end-covered, start-covered}
 use Rattle.candidates.proofs.PassingLaws.{all-fromFirst}
 
@@ -56,7 +56,7 @@ module _ {mem : List ℕ} {p from end : ℕ} (w : SearchAt mem p from end) where
       let some : 0 < length (w .item .includes) = omega (arith, w .some, includes-held (w .held)) in
       let a = subst (λ g. covered (w .item .includes) (g .end .0) ≡ true) (sym e) (end-covered (w .item .includes) (w .held .valid .includes) some) in
       let b = subst (λ g. covered (w .item .includes) (g .start .0) ≡ true) (sym e) (start-covered (w .item .includes) (w .held .valid .includes) some) in
-      record { search = record { todo = _; left = left; same = all-fromFirst (w .item) _ (uncovered-beyond (w .item) _ _ a b) (w .rights) }; within = b }
+      record { search = record { todo = _; left = left; same = all-fromFirst (w .item) _ (uncovered-both (w .item) _ _ a b) (w .rights) }; within = b }
 
   module _ {at last : ℕ} (g : Against (w .item) (w .rights) mem at end last) where
     module _ (h : at < end) {L R : Bounds} (l : BoundsOf (getD mem p 0) p L) (r : BoundsOf (getD mem at 0) at R) (found : Found)
@@ -65,15 +65,15 @@ module _ {mem : List ℕ} {p from end : ℕ} (w : SearchAt mem p from end) where
       N = next-at (g .search .left) h
 
       -- the search against the match of R in hand, as its parts are lent
-      found-beyond : FoundUncovered (w .item .includes) (N .first .includes) found
-      found-beyond =
+      found-uncovered : FoundUncovered (w .item .includes) (N .first .includes) found
+      found-uncovered =
           subst (λ ss. FoundUncovered ss (N .first .includes) found) (includes-within (w .held) l)
           (subst (λ ss. FoundUncovered (strsAt (take (L .excludes - L .includes) (drop (L .includes) mem))) ss found) (includes-within (N .held) r) test)
 
       pub against-covered : found ≡ Nothing → false ≡ allOf (hasUncovered (w .item)) (w .rights)
       unfolding allOf
       against-covered none =
-          let covered-first : hasUncovered (w .item) (N .first) ≡ false = subst (FoundUncovered (w .item .includes) (N .first .includes)) none found-beyond in
+          let covered-first : hasUncovered (w .item) (N .first) ≡ false = subst (FoundUncovered (w .item .includes) (N .first .includes)) none found-uncovered in
           let decided : allOf (hasUncovered (w .item)) (N .first ∷ N .rest) ≡ false = rw covered-first in
           sym decided ∙ search-here (g .search) N
 
@@ -85,10 +85,10 @@ module _ {mem : List ℕ} {p from end : ℕ} (w : SearchAt mem p from end) where
           → Against (w .item) (w .rights) mem at' end (q .0)
       unfolding allOf against-left
       against-next e {q} some left =
-          let at-q = subst (FoundUncovered (w .item .includes) (N .first .includes)) some found-beyond in
-          let beyond-first : hasUncovered (w .item) (N .first) ≡ true = uncovered-at (w .item .includes) (N .first .includes) (q .0) (at-q .0) (at-q .1) in
-          let one-more : allOf (hasUncovered (w .item)) (N .first ∷ N .rest) ≡ allOf (hasUncovered (w .item)) (N .rest) = rw beyond-first in
-          let rest = all-fromFirst (w .item) _ (uncovered-beyond (w .item) (q .0) last (at-q .0) (g .within)) (N .rest) in
+          let at-q = subst (FoundUncovered (w .item .includes) (N .first .includes)) some found-uncovered in
+          let uncovered-first : hasUncovered (w .item) (N .first) ≡ true = uncovered-at (w .item .includes) (N .first .includes) (q .0) (at-q .0) (at-q .1) in
+          let one-more : allOf (hasUncovered (w .item)) (N .first ∷ N .rest) ≡ allOf (hasUncovered (w .item)) (N .rest) = rw uncovered-first in
+          let rest = all-fromFirst (w .item) _ (uncovered-both (w .item) (q .0) last (at-q .0) (g .within)) (N .rest) in
           record {
             search = record { todo = _; left = left; same = rest ∙ sym one-more ∙ search-here (g .search) N };
             within = at-q .0;
@@ -100,11 +100,11 @@ module _ {mem : List ℕ} {p from end : ℕ} (w : SearchAt mem p from end) where
 
 -- ---- a match of L against R
 
--- a match without includes reaches beyond none
-none-beyond : (l : Match) → l .includes ≡ [] → (rs : List Match) → eqb (length rs) 0 ≡ allOf (hasUncovered l) rs
+-- a match without includes has no uncovered position
+none-uncovered : (l : Match) → l .includes ≡ [] → (rs : List Match) → eqb (length rs) 0 ≡ allOf (hasUncovered l) rs
 unfolding allOf anyOf
-none-beyond l e [] = refl
-none-beyond l e (r ∷ rs) =
+none-uncovered l e [] = refl
+none-uncovered l e (r ∷ rs) =
     let some : eqb (length (r ∷ rs)) 0 ≡ false = ne-eqb (length (r ∷ rs)) 0 (λ z. absurd (omega arith)) in
     let within : allOf (hasUncovered l) (r ∷ rs) ≡ false = rw e in
     some ∙ sym within
@@ -113,7 +113,7 @@ module _ {mem : List ℕ} {p n r : ℕ} {known : Candidates} (w : CandidatesAt m
   pub without-includes : {m : ℕ} {b : Bool} → m ≡ includesIn (getD mem p 0) → m ≡ 0 → b ≡ eqb (getD mem r 0) 0 → KeptIs (w .item) (w .rights) mem r (record { kept = b; candidates = known })
   without-includes e f g =
       let none = length-none (w .item .includes) (omega (arith, includes-held (w .held))) in
-      record { kept = g ∙ ap (λ n. eqb n 0) (matches-held (w .slot)) ∙ none-beyond (w .item) none (w .rights); candidates = w .candidates }
+      record { kept = g ∙ ap (λ n. eqb n 0) (matches-held (w .slot)) ∙ none-uncovered (w .item) none (w .rights); candidates = w .candidates }
 
   module _ (some : 0 < includesIn (getD mem p 0)) {candidates : Candidates} (g : CandidatesAre (w .rights) mem r candidates) where
     abbrev pub search-at : SearchAt mem p (candidates .from) (candidates .end)

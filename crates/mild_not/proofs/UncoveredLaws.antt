@@ -1,4 +1,4 @@
--- A match of L reaches beyond one of R where some position is covered by its includes and not by the other's; mild not keeps it where it reaches beyond each.
+-- A match of L has an uncovered position, beside one of R, where its includes cover one that the other's don't; mild not keeps it where each of R leaves it one.
 use Prim.Native.Nat.{ℕ, _+_, _≤_, _<_}
 use native.Mathlib.Omega.{arith}
 use mathlib.Core.Path.{_≡_, refl, sym, ap, ap₂, _∙_}
@@ -42,7 +42,7 @@ mildNot-flatMap lefts rights = keep-flatMap (λ l. allOf (hasUncovered l) rights
 pub mildNot-small : {mem : List ℕ} {at : ℕ} {lefts : List Match} (rights : List Match) → SlotHolds mem at lefts → Small (flatMap (mildNot rights) lefts)
 mildNot-small {lefts = lefts} rights s = flatMap-small (mildNot rights) (one-at-most rights) lefts (slot-small s)
 
--- ---- beyond
+-- ---- anyUncovered
 
 any-not : {A : Type 0} (p : A → Bool) (xs : List A) → anyOf (λ x. not (p x)) xs ≡ not (allOf p xs)
 unfolding anyOf allOf
@@ -55,7 +55,7 @@ any-not p (x ∷ xs) = at (p x) (any-not p xs)
 
 -- ---- the search for a position
 
--- at index i: the strings left reach beyond just where all do, and what they cover is covered by all
+-- at index i: the strings left have an uncovered position just where all do, and what they cover is covered by all
 pub record Searching (lefts : List ℕ) (rights : List Str) (i : ℕ) : Type 0 where
   pub left : Strs.Left (anyUncovered (strsAt lefts) rights) (λ ss. anyUncovered ss rights) lefts i
   pub among : (p : ℕ) → covered (strsAt (drop i lefts)) p ≡ true → covered (strsAt lefts) p ≡ true

@@ -1,4 +1,4 @@
--- Without includes it reaches beyond none. Else the part of R decides as all of R does.
+-- Without includes it has no uncovered position. Else the part of R decides as all of R does.
 use Rattle.mild_not.proofs.KeepsLaws.{without-includes, search-at, by-search}
 use borrow.Author.Needs.{needs}
 use mathlib.Core.Path.{refl}

@@ -1,4 +1,4 @@
--- Invariant: the strings left reach beyond just where all do, and cover nothing that all don't. Measure: the numbers left. The run of a string that
+-- Invariant: the strings left have an uncovered position just where all do, and cover nothing that all don't. Measure: the numbers left. The run of a string that
 -- stops being covered within it stops at such a position.
 use borrow.Author.Needs.{needs}
 use Prim.Native.Nat.{_-_}
