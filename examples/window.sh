@@ -20,7 +20,7 @@ crates=$(awk '
   /:/ { needs[substr($0, 1, index($0, ":") - 1)] = substr($0, index($0, ":") + 1) }
   END { visit("ftlist"); print count }' crates.txt)
 
-echo "Building ftlist. Each of its $crates crates is proved first: some five minutes the first time, a second later on." >&2
+echo "Building ftlist. Each of its $crates crates is proved first: three to five minutes the first time, a second later on." >&2
 said=$(mktemp)
 trap 'rm -f "$said"' EXIT
 

@@ -2,4 +2,4 @@ pub mod StepsLaws
 pub mod CodesLaws
 pub mod WordsLaws
 pub mod RanksLaws
-pub mod BuildingLaws
+pub mod BuildLaws

@@ -1,2 +1,2 @@
-pub mod DistancesLaws
+pub mod DistanceLaws
 pub mod SortingLaws

@@ -19,7 +19,7 @@ use Rattle.model.specs.Rules.{notAfter, distance}
 use Rattle.model.proofs.EveryLaws.{every-weaker}
 use Rattle.distance.specs.Sorting.{counted, copies, nearer, above, passing, passes, spansWithin}
 use Rattle.strings.specs.Strings.{strsAt}
-use Rattle.distance.proofs.DistancesLaws.{notAfter-spanOf, neighbours-spanOf}
+use Rattle.distance.proofs.DistanceLaws.{notAfter-spanOf, neighbours-spanOf}
 use Rattle.strings.proofs.StringsLaws.{Left, left-next, left-none, strAt, spanOf-strOf, end-strsAt}
 
 -- ---- what is gathered of a list in any order
@@ -244,7 +244,7 @@ unfolding sort Every
 map-sort [] a = refl
 map-sort (s ∷ ss) a = map-insert s (sort notAfter ss) (a .0) (every-sort Ends notAfter ss (a .1)) ∙ ap (insertSorted leb (spanOf s)) (map-sort ss (a .1))
 
--- a string passes with what follows its copies among the strings of a part, sorted
+-- a string passes with what follows its copies among the strings of a slice, sorted
 abbrev pub followed : ℕ → ℕ → List ℕ → Str → Bool
 followed least most l s = passes (spansWithin least most) (spanOf s) (map spanOf (strsAt l))
 

@@ -97,7 +97,7 @@ fn followed_within(span: u32, copies: usize, above: u32, least: u32, most: u32) 
     lies_within(span, span, least, most)
 }
 
-// The same among the strings of a part: one pass counts the copies and finds the least above.
+// The same among the strings of a slice: one pass counts the copies and finds the least above.
 fn next_within(span: u32, strs: &[u32], least: u32, most: u32) -> bool
     ensures { λ r. ⌜ r ≡ passes (spansWithin least most) span (map spanOf (strsAt (now (strs .entry)))) ⌝ }
 {

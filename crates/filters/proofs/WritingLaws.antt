@@ -18,7 +18,7 @@ use Rattle.model.proofs.RulesLaws.{length-kept, size-kept}
 use Rattle.strings.specs.Strings.{strOf, strsOf, strsAt}
 use Rattle.strings.proofs.StringsLaws.{length-strsAt, strsAt-none}
 use Rattle.join.specs.Joined.{joined}
-use Rattle.join.proofs.JoiningLaws.{strsOf-join}
+use Rattle.join.proofs.JoinLaws.{strsOf-join}
 use Rattle.store.specs.declared.Bounds.{Bounds}
 use Rattle.store.specs.Built.{Small}
 use Rattle.store.specs.Each.{OneAt}

@@ -1,1 +1,1 @@
-pub mod JoiningLaws
+pub mod JoinLaws

@@ -1,4 +1,4 @@
-// The join of the strings of a part, as the two numbers of one string. Of no strings it is the string of zeros (`joined`).
+// The join of the strings of a slice, as the two numbers of one string. Of no strings it is the string of zeros (`joined`).
 use model::Position;
 use strings::covering::run_covered;
 use strings::end_of;

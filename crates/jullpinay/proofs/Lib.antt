@@ -1,1 +1,1 @@
-pub mod BoundaryLaws
+pub mod ExportLaws

@@ -40,7 +40,7 @@ unfolding strsOf strsAt Every
 strs-back sort [] h f = refl
 strs-back sort (s ∷ ss) h f = ap₂ _∷_ (str-back sort s h (f .0)) (strs-back sort ss h (f .1))
 
--- the strings of a part that ends between two strings, and of the part after it
+-- the strings of a slice that ends between two strings, and of the slice after it
 pub strsAt-append : (n : ℕ) (xs ys : List ℕ) → length xs ≡ 2 * n → strsAt (xs ++ ys) ≡ strsAt xs ++ strsAt ys
 unfolding strsAt
 strsAt-append n [] ys h = refl
@@ -93,7 +93,7 @@ module _ {mem : List ℕ} {p : ℕ} {m : Match} (h : MatchHolds mem p m) where
       let at : a ≡ p + 1 + length (strsOf 0 (m .includes)) = omega (arith, length-strsOf 0 (m .includes), includes-held) in
       rw at (holds-right (strsOf 0 (m .includes)) (strsOf 1 (m .excludes)) (strings-hold (p + 1) refl))
 
-  -- .. and the strings that a reader of the part `&mem[a..e]` sees
+  -- .. and the strings that a reader of the slice `&mem[a..e]` sees
   pub includes-read : (a e : ℕ) → a ≡ p + 1 → e ≡ a + 2 * includesIn (getD mem p 0) → strsAt (take (e - a) (drop a mem)) ≡ m .includes
   includes-read a e f g =
       ap strsAt (holds-part (e - a) (omega (arith, length-strsOf 0 (m .includes), includes-held)) (includes-hold a f))

@@ -1,4 +1,4 @@
--- Loops over the strings of a part. What such a loop returns is some function of the strings that are left: the first pair of numbers left is the first
+-- Loops over the strings of a slice. What such a loop returns is some function of the strings that are left: the first pair of numbers left is the first
 -- string left, and where less than a pair is left no string is.
 use Prim.Native.Nat.{_/_, ℕ, suc, _+_, _-_, _≤_, _<_}
 use native.Mathlib.Nat.{div-add-mod'}
@@ -81,7 +81,7 @@ module _ {A : Type 0} {result : A} {f : List Str → A} {l : List ℕ} {i : ℕ}
     pub left-next : (g : List Str → A) → f (strAt l i ∷ strsAt (drop (i + 2) l)) ≡ g (strsAt (drop (i + 2) l)) → Left result g l (i + 2)
     left-next g e = record { bounded = omega arith; same = sym e ∙ left-here }
 
--- the rest of a part, as a part
+-- the rest of a slice, as a slice
 pub drop-whole : (l : List ℕ) (i : ℕ) → take (length l - i) (drop i l) ≡ drop i l
 drop-whole l i = take-all (length l - i) (drop i l) (simp length-drop (omega arith))
 
@@ -117,3 +117,13 @@ module _ {b : Bool} {test : Str → List Str → Bool} {D : List Str → Bool} (
 
     pub decided-later : test (strAt l i) (strsAt (drop (i + 2) l)) ≡ not b → Left (D (strsAt l)) D l (i + 2)
     decided-later e = left-next left more D (d .later (strAt l i) (strsAt (drop (i + 2) l)) e)
+
+-- pairs are decided where one string at most is left
+pub pairs-end : (r : Str → Str → Bool) {l : List ℕ} {i : ℕ} → Left (allPairs r (strsAt l)) (allPairs r) l i → length l ≤ i + 3 → true ≡ allPairs r (strsAt l)
+unfolding allPairs allOf
+pairs-end r {l} {i} left h = few (strsAt (drop i l)) (rw length-strsAt (simp length-drop (omega arith))) ∙ left .same
+  where
+    few : (ss : List Str) → length ss ≤ 1 → true ≡ allPairs r ss
+    few [] n = refl
+    few (s ∷ []) n = refl
+    few (s ∷ t ∷ ss) n = absurd (omega arith)

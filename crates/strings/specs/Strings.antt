@@ -15,7 +15,7 @@ strsOf sort (s ∷ ss) = spanOf s ∷ tagOf sort s ∷ strsOf sort ss
 abbrev pub strOf : ℕ → ℕ → Str
 strOf span tag = record { start = span / radix; end = span % radix; query = tag / 4; contiguous = eqb (tag / 2 % 2) 1 }
 
--- the strings that a part holds; a last number alone is none
+-- the strings that a slice holds; a last number alone is none
 unfoldable pub strsAt : List ℕ → List Str
 strsAt [] = []
 strsAt (span ∷ []) = []

@@ -1,4 +1,4 @@
-// Which positions the strings of a part cover. A run of positions is gone through string by string, never position by position.
+// Which positions the strings of a slice cover. A run of positions is gone through string by string, never position by position.
 use super::positions::is_between;
 use super::spans::end_of;
 use super::spans::is_contiguous;

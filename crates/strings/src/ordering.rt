@@ -43,12 +43,12 @@ pub fn agrees_with_all(span: u32, tag: u32, strs: &[u32]) -> bool
     true
 }
 
-// "all pairs of includes agree"
+// "all pairs of includes agree": each with those after it, the last with none
 pub fn all_agree(strs: &[u32]) -> bool
     ensures { λ r. ⌜ r ≡ ordered .keeps (strsAt (now (strs .entry))) ⌝ }
 {
     let mut i = 0;
-    while i + 1 < strs.len() {
+    while i + 3 < strs.len() {
         let rest = i + 2;
         if !agrees_with_all(strs[i], strs[i + 1], &strs[rest..]) {
             return false;

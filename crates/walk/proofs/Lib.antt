@@ -1,3 +1,3 @@
 pub mod PartsLaws
 pub mod AnswersLaws
-pub mod WalkingLaws
+pub mod WalkLaws

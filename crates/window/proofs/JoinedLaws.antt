@@ -14,7 +14,7 @@ use Rattle.model.specs.Rules.{join, window, windowEnds}
 use Rattle.model.proofs.RulesLaws.{length-none, start-leastStart, window-none}
 use Rattle.strings.specs.Strings.{strsAt, strsOf}
 use Rattle.join.specs.Joined.{joined}
-use Rattle.join.proofs.JoiningLaws.{end-bound, join-some, strsOf-join}
+use Rattle.join.proofs.JoinLaws.{end-bound, join-some, strsOf-join}
 use Rattle.store.specs.ValidStr.{ValidStr}
 use Rattle.store.specs.declared.Bounds.{Bounds}
 use Rattle.store.specs.Layout.{BoundsOf}

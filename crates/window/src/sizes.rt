@@ -33,7 +33,7 @@ pub fn count_around(n: u32, start: Position, end: Position) -> u32
     before - end.0
 }
 
-// How often strings of a part lie inside the windows around a join from `start` to `end`, summed over the windows: each as often as there are windows around
+// How often strings of a slice lie inside the windows around a join from `start` to `end`, summed over the windows: each as often as there are windows around
 // it and the join.
 fn count_inside(n: u32, start: Position, end: Position, strs: &[u32]) -> u32
     requires { ⌜ WindowSize n ⌝ }

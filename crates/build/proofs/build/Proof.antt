@@ -1,5 +1,5 @@
 -- Invariant: the lists of the trees that wait after the codes read lie in memory, and none built so far is too long. Measure: the codes left.
-use Rattle.build.proofs.BuildingLaws.{Going, lo-le, start, rank-few, lists-few, lists-found, waits-next, refuse, go-on, end-slot, end-fine, part-long, part-built}
+use Rattle.build.proofs.BuildLaws.{Going, lo-le, start, rank-few, lists-few, lists-found, waits-next, refuse, go-on, end-slot, end-fine, part-long, part-built}
 use Rattle.build.specs.State.{Buildable}
 use Rattle.model.specs.Kinds.{shapeOf}
 use Rattle.selection.proofs.PhrasesLaws.{phrasesEnded-le}

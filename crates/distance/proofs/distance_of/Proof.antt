@@ -1,7 +1,7 @@
--- Spans are in order just where their numbers are (DistancesLaws).
+-- Spans are in order just where their numbers are (DistanceLaws).
 use mathlib.Core.Path.{_∙_}
 use borrow.Author.Needs.{needs}
-use Rattle.distance.proofs.DistancesLaws.{distanceOf-rising, distanceOf-falling}
+use Rattle.distance.proofs.DistanceLaws.{distanceOf-rising, distanceOf-falling}
 use Rattle.distance.proofs.distance_of.Statement.{statement}
 use Rattle.distance.proofs.distance_of.Tie as tie
 

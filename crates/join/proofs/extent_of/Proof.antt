@@ -7,7 +7,7 @@ use borrow.Author.Needs.{needs}
 use lib.ListN.{length, drop}
 use Rattle.model.specs.Rules.{leastStart, greatestEnd}
 use Rattle.strings.specs.Strings.{strsAt}
-use Rattle.join.proofs.JoiningLaws.{leastFrom, greatestFrom, leastStart-next, greatestEnd-next, joined-none, start-joined, end-joined}
+use Rattle.join.proofs.JoinLaws.{leastFrom, greatestFrom, leastStart-next, greatestEnd-next, joined-none, start-joined, end-joined}
 use Rattle.strings.proofs.StringsLaws.{Left, left-next, left-none}
 use Rattle.join.proofs.extent_of.Statement.{statement}
 use Rattle.join.proofs.extent_of.Tie as tie

@@ -5,7 +5,7 @@ use mathlib.Core.Path.{ap₂, _∙_}
 use borrow.Author.Needs.{needs}
 use lib.ListN.{getD}
 use Rattle.model.specs.Limits.{radix}
-use Rattle.join.proofs.JoiningLaws.{start-bound, end-bound}
+use Rattle.join.proofs.JoinLaws.{start-bound, end-bound}
 use Rattle.join.proofs.join_span.Statement.{statement}
 use Rattle.join.proofs.join_span.Tie as tie
 

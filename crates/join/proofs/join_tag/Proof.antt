@@ -1,11 +1,11 @@
--- The tag of the first string's query position and the join's mark. A part that holds a string has two numbers.
+-- The tag of the first string's query position and the join's mark. A slice that holds a string has two numbers.
 use Prim.Native.Nat.{_+_, _*_}
 use native.Mathlib.Omega.{arith}
 use mathlib.Core.Bool.{cond}
 use mathlib.Core.Path.{ap, ap₂, sym, _∙_}
 use borrow.Author.Needs.{needs}
 use Rattle.model.specs.Answers.{tagOf}
-use Rattle.join.proofs.JoiningLaws.{joined-none, query-joined}
+use Rattle.join.proofs.JoinLaws.{joined-none, query-joined}
 use Rattle.join.proofs.join_tag.Statement.{statement}
 use Rattle.join.proofs.join_tag.Tie as tie
 

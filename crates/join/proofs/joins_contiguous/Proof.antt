@@ -2,7 +2,7 @@
 use mathlib.Core.Path.{sym, _∙_}
 use borrow.Author.Needs.{needs}
 use borrow.Author.Tests.{not-true, not-false}
-use Rattle.join.proofs.JoiningLaws.{contiguous-broken, contiguous-run}
+use Rattle.join.proofs.JoinLaws.{contiguous-broken, contiguous-run}
 use Rattle.join.proofs.joins_contiguous.Statement.{statement}
 use Rattle.join.proofs.joins_contiguous.Tie as tie
 

@@ -1,5 +1,5 @@
 -- The part's length is the snippet's, and that many words from `from` on are the snippet.
-use Rattle.jullpinay.proofs.BoundaryLaws.{take-snippet}
+use Rattle.jullpinay.proofs.ExportLaws.{take-snippet}
 use mathlib.Core.Path.{refl}
 use borrow.Author.Needs.{needs}
 use Rattle.jullpinay.proofs.jullpinay_snippet.Statement.{statement}

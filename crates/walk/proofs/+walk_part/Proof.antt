@@ -14,8 +14,8 @@ use Rattle.model.specs.Walk.{walk}
 use Rattle.model.proofs.PartsLaws.{PairAt, start-le}
 use Rattle.walk.specs.Steps.{answerOf, goesInto}
 use Rattle.walk.specs.Walkable.{Walkable}
-use Rattle.walk.proofs.WalkingLaws.{below, leaf-code, some-codes, sides}
-use Rattle.walk.proofs.WalkingLaws.{Going, start, passes, passes-few, under-not, left-decides, left-few, right-side}
+use Rattle.walk.proofs.WalkLaws.{below, leaf-code, some-codes, sides}
+use Rattle.walk.proofs.WalkLaws.{Going, start, passes, passes-few, under-not, left-decides, left-few, right-side}
 use borrow.Author.Needs.{needs}
 use Prim.Native.Nat.{ℕ, _<_}
 use borrow.Fn.Kinds.{In}

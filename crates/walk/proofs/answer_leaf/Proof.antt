@@ -6,7 +6,7 @@ use Rattle.model.specs.declared.Code.{Code}
 use Rattle.model.specs.Kinds.{shapeOf}
 use Rattle.model.specs.declared.Quick.the-variants.{Answered}
 use Rattle.walk.specs.Steps.{goesInto}
-use Rattle.walk.proofs.WalkingLaws.{phrase-walks, leaf-builds}
+use Rattle.walk.proofs.WalkLaws.{phrase-walks, leaf-builds}
 use Rattle.walk.proofs.answer_leaf.Statement.{statement}
 use Rattle.walk.proofs.answer_leaf.Tie as tie
 

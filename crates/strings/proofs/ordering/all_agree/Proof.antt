@@ -1,6 +1,7 @@
 -- Invariant: the pairs of what is left agree just where all pairs do. Measure: the numbers left. Decided by the law for loops that decide, whose test here is
--- the first string against the rest, a part of the part.
+-- the first string against the rest, a slice of the slice.
 use Prim.Native.Nat.{_-_}
+use native.Mathlib.Omega.{arith}
 use mathlib.Core.Path.{sym, _∙_}
 use borrow.Author.Needs.{needs}
 use borrow.Author.Tests.{not-true, not-false}
@@ -8,7 +9,7 @@ use lib.ListN.{length}
 use Rattle.model.specs.Lists.{allPairs}
 use Rattle.model.specs.Rules.{agree}
 use Rattle.strings.specs.Strings.{strsAt}
-use Rattle.strings.proofs.StringsLaws.{Left, left-start, decides-allPairs, decided-here, decided-later, decided-end, drop-whole}
+use Rattle.strings.proofs.StringsLaws.{Left, left-start, decides-allPairs, decided-here, decided-later, pairs-end, drop-whole}
 use Rattle.strings.proofs.ordering.all_agree.Statement.{statement}
 use Rattle.strings.proofs.ordering.all_agree.Tie as tie
 
@@ -61,7 +62,7 @@ returns : tie.Need-returns Inv-loop μ-loop
 returns c =
     let t = c .before .before .before .before .before in
     let e = sym (c .before .agrees-with-all .ensures) ∙ not-true _ (c .if1 .taken) in
-    decided-here (decides-allPairs _) (t .before .loop .inv) (t .loop-test .taken) (rw drop-whole at e)
+    decided-here (decides-allPairs _) (t .before .loop .inv) (omega (arith, t .loop-test .taken)) (rw drop-whole at e)
 
 loop-less : tie.Need-loop-less Inv-loop μ-loop
 loop-less c = search needs
@@ -70,10 +71,10 @@ loop-again : tie.Need-loop-again Inv-loop μ-loop
 loop-again c =
     let t = c .before .before .before .before .before in
     let e = sym (c .before .agrees-with-all .ensures) ∙ not-false _ (c .if1 .left) in
-    decided-later (decides-allPairs _) (t .before .loop .inv) (t .loop-test .taken) (rw drop-whole at e)
+    decided-later (decides-allPairs _) (t .before .loop .inv) (omega (arith, t .loop-test .taken)) (rw drop-whole at e)
 
 returns-2 : tie.Need-returns-2 Inv-loop μ-loop
-returns-2 c = decided-end (decides-allPairs _) (c .before .loop .inv) (c .loop-test .left)
+returns-2 c = pairs-end agree (c .before .loop .inv) (c .loop-test .left)
 
 pub all-agree-spec : {M : Type 1} → statement M
 all-agree-spec =

@@ -1,5 +1,5 @@
 -- Invariant: what is left passes both tests just where all strings do. Measure: the numbers left. Decided by the law for loops that decide, whose test here is
--- the first string against the rest, a part of the part.
+-- the first string against the rest, a slice of the slice.
 use Prim.Native.Nat.{_-_}
 use mathlib.Core.Path.{sym, _∙_}
 use borrow.Author.Needs.{needs}

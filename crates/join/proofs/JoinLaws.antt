@@ -59,12 +59,12 @@ greatestEnd-from s (t ∷ ts) = refl
 
 -- ---- joined
 
--- of a part without a string
+-- of a slice without a string
 pub joined-none : (l : List ℕ) → length l ≤ 1 → joined (strsAt l) ≡ zeroStr
 unfolding joined join
 joined-none l h = ap joined (strsAt-none l 0 h)
 
--- of a part with strings, gathered from its first one on
+-- of a slice with strings, gathered from its first one on
 module _ (l : List ℕ) (h : 1 < length l) where
   first : {A : Type 0} (f : Str → A) → f (joined (strAt l 0 ∷ strsAt (drop 2 l))) ≡ f (joined (strsAt l))
   first f = ap (λ ss. f (joined ss)) (sym (strsAt-cons l 0 h))
