@@ -101,15 +101,15 @@ length-upToLast test (m ∷ ms) = at (anyOf (passes test) (m ∷ ms)) (length-up
     at true h = omega (arith, numbers (upToLast test ms), numbers ms)
     at false h = omega (arith, ap length matches-none)
 
--- before the match at `at`: of those walked over, none at `after` or after it passes the test
-pub record Ending (test : List Str → Bool) (all : List Match) (mem : List ℕ) (behind at end : ℕ) : Type 0 where
+-- before the match at `at`: of those walked over, none at `stop` or after it passes the test
+pub record Ending (test : List Str → Bool) (all : List Match) (mem : List ℕ) (stop at end : ℕ) : Type 0 where
   pub part : List Match
   pub others : List Match
   pub todo : List Match
   pub split : all ≡ part ++ (others ++ todo)
   pub same : upToLast test all ≡ part ++ upToLast test (others ++ todo)
   pub none : anyOf (passes test) others ≡ false
-  pub up-to : behind + length (matchesNumbers (others ++ todo)) ≡ end
+  pub up-to : stop + length (matchesNumbers (others ++ todo)) ≡ end
   pub left : Remaining todo mem at end
 
 module _ {test : List Str → Bool} {mem : List ℕ} {from end : ℕ} (w : RemainingAt mem from end) where
@@ -117,14 +117,14 @@ module _ {test : List Str → Bool} {mem : List ℕ} {from end : ℕ} (w : Remai
   unfolding anyOf
   ending-start = record { part = []; others = []; todo = w .list; split = refl; same = refl; none = refl; up-to = w .stream .up-to; left = w .stream }
 
-  module _ {behind at : ℕ} (g : Ending test (w .list) mem behind at end) where
-    pub ending-none : end ≤ at → Remaining (upToLast test (w .list)) mem from behind
+  module _ {stop at : ℕ} (g : Ending test (w .list) mem stop at end) where
+    pub ending-none : end ≤ at → Remaining (upToLast test (w .list)) mem from stop
     ending-none h =
         let others : g .others ++ g .todo ≡ g .others = ap (λ ms. g .others ++ ms) (none-at (g .left) h) ∙ append-nil (g .others) in
         let all = subst (λ ms. Remaining ms mem from end) (g .split ∙ ap (λ ms. g .part ++ ms) others) (w .stream) in
         let last = g .same ∙ ap (λ ms. g .part ++ ms) (ap (upToLast test) others ∙ none-last test (g .others) (g .none)) ∙ append-nil (g .part) in
-        let part = remaining-before (g .part) (g .others) all (subst (λ ms. behind + length (matchesNumbers ms) ≡ end) others (g .up-to)) in
-        subst (λ ms. Remaining ms mem from behind) (sym last) part
+        let part = remaining-before (g .part) (g .others) all (subst (λ ms. stop + length (matchesNumbers ms) ≡ end) others (g .up-to)) in
+        subst (λ ms. Remaining ms mem from stop) (sym last) part
 
     module _ (h : at < end) {b : Bounds} {t : Bool} (s : BoundsOf (getD mem at 0) at b) (tested : t ≡ test (strsAt (take (b .excludes - b .includes) (drop (b .includes) mem)))) where
       N : Next (g .todo) mem at end
@@ -156,7 +156,7 @@ module _ {test : List Str → Bool} {mem : List ℕ} {from end : ℕ} (w : Remai
             left = after;
           }
 
-      pub ending-later : t ≡ false → Ending test (w .list) mem behind (b .end) end
+      pub ending-later : t ≡ false → Ending test (w .list) mem stop (b .end) end
       unfolding anyOf
       ending-later miss =
           record {
@@ -166,7 +166,7 @@ module _ {test : List Str → Bool} {mem : List ℕ} {from end : ℕ} (w : Remai
             split = g .split ∙ ap (λ ms. g .part ++ ms) one-more;
             same = g .same ∙ ap (λ ms. g .part ++ upToLast test ms) one-more;
             none = any-append (passes test) (g .others) (N .first ∷ []) ∙ rw (g .none, first-is ∙ miss);
-            up-to = subst (λ ms. behind + length (matchesNumbers ms) ≡ end) one-more (g .up-to);
+            up-to = subst (λ ms. stop + length (matchesNumbers ms) ≡ end) one-more (g .up-to);
             left = after;
           }
 

@@ -69,7 +69,7 @@ pub fn end_of_overlapping(mem: &[u32], from: usize, end: usize, ranges: Ranges) 
     requires { ⌜ RemainingAt (now mem) from end ⌝ }
     ensures { λ r. ⌜ ((w : RemainingAt (now (mem .entry)) from end) → Remaining (upToLast (overlapBoth ranges) (w .list)) (now (mem .entry)) from r) ⌝ }
 {
-    let mut behind = from;
+    let mut stop = from;
     let mut at = from;
     while at < end {
         let Bounds {
@@ -78,9 +78,9 @@ pub fn end_of_overlapping(mem: &[u32], from: usize, end: usize, ranges: Ranges) 
             end: next,
         } = store::bounds_at(mem, at);
         if overlap_both(&mem[includes..excludes], ranges) {
-            behind = next;
+            stop = next;
         }
         at = next;
     }
-    behind
+    stop
 }

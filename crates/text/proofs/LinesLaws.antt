@@ -7,7 +7,7 @@ use lib.ListN.{length, getD, length-append}
 use Rattle.store.specs.Put.{Put}
 use Rattle.store.proofs.PutLaws.{put-append}
 use Rattle.store.proofs.RowsLaws.{Rows, rows-start, rows-room, rows-step, rows-finish}
-use Rattle.text.specs.Printed.{bytes, behindBlank, lineOf}
+use Rattle.text.specs.Printed.{bytes, afterBlank, lineOf}
 use Rattle.text.specs.Decoded.{textOf, textsAt, matchesAt, totalAt, StringsAt, LinesAt}
 
 -- ---- the strings after the first
@@ -24,7 +24,7 @@ module _ (buffer : List ℕ) (s t n : ℕ) where
 
 -- from string i on, of n, those are left whose spans lie from s + i on; the others are put, from at to q
 abbrev pub Later : (buffer : List ℕ) (s t n : ℕ) (b₀ : List ℕ) (at : ℕ) (b : List ℕ) (q i : ℕ) → Type 0
-Later buffer s t n b₀ at b q i = Rows behindBlank (textsAt buffer s t n) (textsAt buffer (s + i) (t + i) (n - i)) b₀ b at q
+Later buffer s t n b₀ at b q i = Rows afterBlank (textsAt buffer s t n) (textsAt buffer (s + i) (t + i) (n - i)) b₀ b at q
 
 module _ (buffer : List ℕ) (s t n : ℕ) {b₀ : List ℕ} {at : ℕ} where
   pub later-start : Later buffer s t n b₀ at b₀ at 0
@@ -42,14 +42,14 @@ module _ (buffer : List ℕ) (s t n : ℕ) {b₀ : List ℕ} {at : ℕ} where
         let m : n - i - 1 ≡ n - (i + 1) = omega arith in
         texts-next buffer (s + i) (t + i) (n - i) (omega arith) ∙ rw (k, l, m)
 
-    pub later-room : i < n → at + length (flatMap behindBlank (textsAt buffer s t n)) ≤ length b₀
-        → q + length (behindBlank (textOf (getD buffer (s + i) 0) (getD buffer (t + i) 0))) ≤ length b
+    pub later-room : i < n → at + length (flatMap afterBlank (textsAt buffer s t n)) ≤ length b₀
+        → q + length (afterBlank (textOf (getD buffer (s + i) 0) (getD buffer (t + i) 0))) ≤ length b
     later-room h room = rows-room r (next-is h) room
 
-    pub later-step : i < n → {b' : List ℕ} {q' : ℕ} → Put b b' q (behindBlank (textOf (getD buffer (s + i) 0) (getD buffer (t + i) 0))) q' → Later buffer s t n b₀ at b' q' (i + 1)
+    pub later-step : i < n → {b' : List ℕ} {q' : ℕ} → Put b b' q (afterBlank (textOf (getD buffer (s + i) 0) (getD buffer (t + i) 0))) q' → Later buffer s t n b₀ at b' q' (i + 1)
     later-step h v = rows-step r (next-is h) v
 
-    pub later-finish : n ≤ i → Put b₀ b at (flatMap behindBlank (textsAt buffer s t n)) q
+    pub later-finish : n ≤ i → Put b₀ b at (flatMap afterBlank (textsAt buffer s t n)) q
     later-finish h = rows-finish r (texts-none buffer (s + i) (t + i) (n - i) (omega arith))
 
 -- ---- a line
@@ -60,7 +60,7 @@ module _ (buffer : List ℕ) (s t n : ℕ) where
   line-none e = ap lineOf (texts-none buffer s t n e)
 
   line-some : 0 < n
-      → lineOf (textsAt buffer s t n) ≡ textOf (getD buffer s 0) (getD buffer t 0) ++ flatMap behindBlank (textsAt buffer (s + 1) (t + 1) (n - 1)) ++ bytes "\n"
+      → lineOf (textsAt buffer s t n) ≡ textOf (getD buffer s 0) (getD buffer t 0) ++ flatMap afterBlank (textsAt buffer (s + 1) (t + 1) (n - 1)) ++ bytes "\n"
   unfolding lineOf
   line-some h = ap lineOf (texts-next buffer s t n h)
 
@@ -68,14 +68,14 @@ module _ (buffer : List ℕ) (s t n : ℕ) where
   length-line-none e = ap length (line-none e)
 
   pub length-line-some : 0 < n
-      → length (lineOf (textsAt buffer s t n)) ≡ length (textOf (getD buffer s 0) (getD buffer t 0)) + length (flatMap behindBlank (textsAt buffer (s + 1) (t + 1) (n - 1))) + 1
+      → length (lineOf (textsAt buffer s t n)) ≡ length (textOf (getD buffer s 0) (getD buffer t 0)) + length (flatMap afterBlank (textsAt buffer (s + 1) (t + 1) (n - 1))) + 1
   length-line-some h = ap length (line-some h) ∙ simp length-append
 
   pub put-line-none : {a b : List ℕ} {at next : ℕ} → n ≡ 0 → Put a b at (bytes ".\n") next → Put a b at (lineOf (textsAt buffer s t n)) next
   put-line-none {a} {b} {at} {next} e v = subst (λ xs. Put a b at xs next) (sym (line-none e)) v
 
   pub put-line-some : {a b c d : List ℕ} {at later end next : ℕ} → 0 < n → Put a b at (textOf (getD buffer s 0) (getD buffer t 0)) later
-      → Put b c later (flatMap behindBlank (textsAt buffer (s + 1) (t + 1) (n - 1))) end → Put c d end (bytes "\n") next → Put a d at (lineOf (textsAt buffer s t n)) next
+      → Put b c later (flatMap afterBlank (textsAt buffer (s + 1) (t + 1) (n - 1))) end → Put c d end (bytes "\n") next → Put a d at (lineOf (textsAt buffer s t n)) next
   put-line-some {a} {d = d} {at} {next = next} h v w x = subst (λ xs. Put a d at xs next) (sym (line-some h)) (put-append (put-append v w) x)
 
 -- ---- the lines

@@ -10,7 +10,7 @@ use Rattle.model.specs.Matches.{Str, Match, stringsIn, strings}
 use Rattle.model.proofs.EveryLaws.{every-append, every-map}
 use Rattle.store.specs.ValidStr.{ValidStr}
 use Rattle.text.specs.Printable.{textLength}
-use Rattle.text.specs.Printed.{bytes, stringText, behindBlank, lineOf, stringTexts, matchText, headText, answerText}
+use Rattle.text.specs.Printed.{bytes, stringText, afterBlank, lineOf, stringTexts, matchText, headText, answerText}
 use Rattle.text.proofs.PrintedLaws.{length-decimal, length-span, length-query, length-string, length-head}
 
 string-short : (sort : ℕ) (s : Str) → ValidStr s → length (stringText sort s) ≤ 16
@@ -32,10 +32,10 @@ Short text = length text ≤ 16
 texts-short : (sort : ℕ) (ss : List Str) → AllStrs ValidStr ss → Every Short (map (stringText sort) ss)
 texts-short sort ss f = every-map Short ValidStr (stringText sort) (string-short sort) ss f
 
-later-short : (texts : List (List ℕ)) → Every Short texts → length (flatMap behindBlank texts) ≤ 17 * length texts
+later-short : (texts : List (List ℕ)) → Every Short texts → length (flatMap afterBlank texts) ≤ 17 * length texts
 unfolding Every flatMap
 later-short [] f = omega arith
-later-short (text ∷ texts) f = omega (arith, f .0, later-short texts (f .1), length-append text (flatMap behindBlank texts))
+later-short (text ∷ texts) f = omega (arith, f .0, later-short texts (f .1), length-append text (flatMap afterBlank texts))
 
 line-short : (texts : List (List ℕ)) → Every Short texts → length (lineOf texts) ≤ 2 + 17 * length texts
 unfolding Every lineOf
@@ -45,8 +45,8 @@ line-short (text ∷ texts) f =
       arith,
       f .0,
       later-short texts (f .1),
-      length-append (text ++ flatMap behindBlank texts) (bytes "\n"),
-      length-append text (flatMap behindBlank texts),
+      length-append (text ++ flatMap afterBlank texts) (bytes "\n"),
+      length-append text (flatMap afterBlank texts),
     )
 
 match-short : (m : Match) → AllMatch ValidStr m → length (matchText m) ≤ 2 + 17 * stringsIn m

@@ -48,12 +48,12 @@ unfoldable pub stringText : ℕ → Str → List ℕ
 stringText sort s = sortMark sort ∷ [] ++ spanText (s .start) (s .end) ++ queryText (s .query) (s .contiguous)
 
 -- "a line a match": the texts of its strings "parted by a blank, `.` for a match with none"
-abbrev pub behindBlank : List ℕ → List ℕ
-behindBlank text = bytes " " ++ text
+abbrev pub afterBlank : List ℕ → List ℕ
+afterBlank text = bytes " " ++ text
 
 unfoldable pub lineOf : List (List ℕ) → List ℕ
 lineOf [] = bytes ".\n"
-lineOf (text ∷ texts) = text ++ flatMap behindBlank texts ++ bytes "\n"
+lineOf (text ∷ texts) = text ++ flatMap afterBlank texts ++ bytes "\n"
 
 abbrev pub stringTexts : Match → List (List ℕ)
 stringTexts m = map (stringText 0) (m .includes) ++ map (stringText 1) (m .excludes)

@@ -7,12 +7,12 @@ ghost use Prim.Native.Nat.{_+_, _≤_};
 ghost use lib.ListN.{length};
 ghost use Rattle.store.specs.Put.{Put};
 ghost use Rattle.text.specs.Decoded.{LinesAt, StringsAt, matchesAt, textOf, textsAt};
-ghost use Rattle.text.specs.Printed.{behindBlank, lineOf};
+ghost use Rattle.text.specs.Printed.{afterBlank, lineOf};
 
 // A string after a blank.
 fn put_later_string(span: u32, tag: u32, text: &mut [u8], at: usize) -> usize
-    requires { ⌜ at + length (behindBlank (textOf span tag)) ≤ length (now text) ⌝ }
-    ensures { λ r. ⌜ Put (now (text .entry)) (now (text .exit)) at (behindBlank (textOf span tag)) r ⌝ }
+    requires { ⌜ at + length (afterBlank (textOf span tag)) ≤ length (now text) ⌝ }
+    ensures { λ r. ⌜ Put (now (text .entry)) (now (text .exit)) at (afterBlank (textOf span tag)) r ⌝ }
 {
     let first = put_byte(b' ', text, at);
     put_string(span, tag, text, first)
@@ -28,8 +28,8 @@ fn put_later_strings(
     at: usize,
 ) -> usize
     requires { ⌜ StringsAt (length (now buffer)) s t n ⌝ }
-    requires { ⌜ at + length (flatMap behindBlank (textsAt (now buffer) s t n)) ≤ length (now text) ⌝ }
-    ensures { λ r. ⌜ Put (now (text .entry)) (now (text .exit)) at (flatMap behindBlank (textsAt (now (buffer .entry)) s t n)) r ⌝ }
+    requires { ⌜ at + length (flatMap afterBlank (textsAt (now buffer) s t n)) ≤ length (now text) ⌝ }
+    ensures { λ r. ⌜ Put (now (text .entry)) (now (text .exit)) at (flatMap afterBlank (textsAt (now (buffer .entry)) s t n)) r ⌝ }
 {
     let mut q = at;
     let mut i = 0;

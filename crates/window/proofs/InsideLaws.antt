@@ -94,8 +94,8 @@ module _ {n last : ℕ} {mem₀ : List ℕ} {a e q : ℕ} (w : ExcludesAt n last
   unfolding strsOf Every
   here [] r f d h = absurd (omega arith)
   here (s ∷ ss) r f d h =
-      let behind = holds-tail _ r in
-      let two : Holds mem (i + 2) (strsOf 1 ss) = subst (λ k. Holds mem k (strsOf 1 ss)) (omega arith) (holds-tail _ behind) in
+      let rest = holds-tail _ r in
+      let two : Holds mem (i + 2) (strsOf 1 ss) = subst (λ k. Holds mem k (strsOf 1 ss)) (omega arith) (holds-tail _ rest) in
       let same : strOf (spanOf s) (tagOf 1 s) ≡ s = str-back 1 s (omega arith) (f .0) in
       record {
         first = s;
@@ -105,7 +105,7 @@ module _ {n last : ℕ} {mem₀ : List ℕ} {a e q : ℕ} (w : ExcludesAt n last
         valid = f .1;
         end-is = omega arith;
         row =
-            ap₂ (insideNumbers n last) (getD-head _ r) (getD-head _ behind)
+            ap₂ (insideNumbers n last) (getD-head _ r) (getD-head _ rest)
             ∙ ap (λ t. cond (insideWindow n last t) (spanOf s ∷ tagOf 1 s ∷ []) []) same;
       }
 

@@ -1,4 +1,4 @@
--- Invariant: no match passed that lies at `after` or after it overlaps both ranges. Measure: the numbers left.
+-- Invariant: no match passed that lies at `stop` or after it overlaps both ranges. Measure: the numbers left.
 use Prim.Native.Nat.{_-_}
 use native.Mathlib.Omega.{arith}
 use Rattle.store.specs.Stream.{Header, RemainingAt}
@@ -10,10 +10,10 @@ use Rattle.candidates.proofs.overlapping.end_of_overlapping.Statement.{
 use Rattle.candidates.proofs.overlapping.end_of_overlapping.Tie as tie
 
 abbrev Inv-loop : tie.InvT-loop
-Inv-loop mem from end ranges behind₀ at₀ behind at = (w : RemainingAt mem from end) → Ending (overlapBoth ranges) (w .list) mem behind at end
+Inv-loop mem from end ranges stop₀ at₀ stop at = (w : RemainingAt mem from end) → Ending (overlapBoth ranges) (w .list) mem stop at end
 
 abbrev μ-loop : tie.MeasureT-loop
-μ-loop mem from end ranges behind₀ at₀ behind at = end - at
+μ-loop mem from end ranges stop₀ at₀ stop at = end - at
 
 -- the header of the match in hand
 one : (c : tie.In-loop Inv-loop μ-loop) → Header (c .before .before .before .args .mem .now) (c .before .loop .at)
