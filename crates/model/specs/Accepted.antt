@@ -1,4 +1,4 @@
--- What the checks guarantee, as facts that callers cite. No part of the meaning.
+-- What the checks guarantee, as facts: words of the demands, and of callers' proofs.
 use Prim.Native.Nat.{ℕ, _+_, _*_, _≤_}
 use mathlib.Core.Bool.{true}
 use mathlib.Core.List.{List}

@@ -11,12 +11,13 @@ use Rattle.model.specs.Rules.{phraseList, orList, andList, notList, mild
 use Rattle.model.specs.Section.{Section}
 use Rattle.model.specs.Trees.{Tree, phrase, pair, change}
 
+-- kinds 2, 3 and 5
 abbrev pub pairList : Pair → List Match → List Match → List Match
 pairList Or = orList
 pairList And = andList
 pairList MildNot = mildNotList
 
--- what a filter gives of one match
+-- kinds 6 to 15: what a filter gives of one match
 abbrev pub filterMatch : Section → Filter → Match → List Match
 filterMatch s Ordered = kept ordered
 filterMatch s (Window n) = window n
@@ -32,6 +33,7 @@ filterMatch s EntireContent = kept (entireContent s)
 unfoldable pub filterList : Section → Filter → List Match → List Match
 filterList s f ms = flatMap (filterMatch s f) ms
 
+-- kind 4, and kinds 6 to 15
 abbrev pub changeList : Section → Change → List Match → List Match
 changeList s negated = notList
 changeList s (filtered f) = filterList s f

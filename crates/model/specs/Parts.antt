@@ -142,7 +142,7 @@ wellFormed codes = fitsAll codes 0 0 && isComplete (listsAll codes 0) (wordsAll 
 
 -- ---- the part that ends at a place
 
--- Walking back, n trees are still to be found. With none left the walk goes on over words, and stops after the first code that is none.
+-- Walking back, n trees are still to be found. With none left the walk goes on over words, and stops after the first code that is no word.
 abbrev pub stops : Shape → ℕ → Bool
 stops c n = not (isWord c) && eqb n 0
 

@@ -177,13 +177,13 @@ unitRange unit s = record { first = unit (s .start); last = unit (s .end) }
 abbrev pub inUnit : ℕ → UnitRange → Bool
 inUnit u r = not (eqb u 0) && eqb (r .first) u && eqb (r .last) u
 
--- the unit that a string is held to: the includes', or its own
+-- the unit that a string, include or exclude, is held to: that of the first include, which is that of all where the match is kept; or its own
 abbrev pub unitFor : (ℕ → ℕ) → List Str → Str → ℕ
-unitFor unit [] e = unit (e .start)
-unitFor unit (i ∷ is) e = unit (i .start)
+unitFor unit [] s = unit (s .start)
+unitFor unit (i ∷ is) s = unit (i .start)
 
 unfoldable pub inUnitFor : (ℕ → ℕ) → List Str → Str → Bool
-inUnitFor unit is e = inUnit (unitFor unit is e) (unitRange unit e)
+inUnitFor unit is s = inUnit (unitFor unit is s) (unitRange unit s)
 
 abbrev pub same : (ℕ → ℕ) → Keeping
 same unit = record { keeps = λ is. allOf (inUnitFor unit is) is; stays = inUnitFor unit; joins = false }

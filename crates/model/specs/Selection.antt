@@ -18,7 +18,38 @@ kindAt selection c = firstAt selection c
 abbrev pub operandAt : List ℕ → ℕ → ℕ
 operandAt selection c = secondAt selection c
 
--- The table of kinds: the kind number and the operand of each code.
+-- "Kinds 0 and 1 are words, 2 to 5 combine, 6 to 15 filter, 16 and up are unknown."
+abbrev pub combinationOf : ℕ → Code
+combinationOf kind =
+    cond (eqb kind 2) (Combine Or)
+    (cond (eqb kind 3) (Combine And)
+    (cond (eqb kind 4) Not (Combine MildNot)))
+
+abbrev pub filterOf : ℕ → ℕ → Filter
+filterOf kind operand =
+    cond (eqb kind 6) Ordered
+    (cond (eqb kind 7) (Window operand)
+    (cond (eqb kind 8) (Distance (operand / radix) (operand % radix))
+    (cond (eqb kind 9) SameSentence
+    (cond (eqb kind 10) SameParagraph
+    (cond (eqb kind 11) DifferentSentence
+    (cond (eqb kind 12) DifferentParagraph
+    (cond (eqb kind 13) AtStart
+    (cond (eqb kind 14) AtEnd EntireContent))))))))
+
+-- An unknown kind is refused before its code is asked for; an entire content stands for it here.
+abbrev pub codeOf : ℕ → ℕ → Code
+codeOf kind operand =
+    cond (eqb kind 0) (Word operand)
+    (cond (eqb kind 1) (Phrase operand)
+    (cond (leb kind 5) (combinationOf kind)
+    (cond (leb kind 15) (Filtered (filterOf kind operand))
+    (Filtered EntireContent))))
+
+abbrev pub codeAt : List ℕ → ℕ → Code
+codeAt selection c = codeOf (kindAt selection c) (operandAt selection c)
+
+-- And back: the kind number and the operand of each code, for laws and for whoever writes codes.
 abbrev pub filterKind : Filter → ℕ
 filterKind Ordered = 6
 filterKind (Window n) = 7
@@ -58,37 +89,6 @@ operandOf (Phrase k) = k
 operandOf (Combine k) = 0
 operandOf Not = 0
 operandOf (Filtered f) = filterOperand f
-
--- And back: "Kinds 0 and 1 are words, 2 to 5 combine, 6 to 15 filter, 16 and up are unknown."
-abbrev pub combinationOf : ℕ → Code
-combinationOf kind =
-    cond (eqb kind 2) (Combine Or)
-    (cond (eqb kind 3) (Combine And)
-    (cond (eqb kind 4) Not (Combine MildNot)))
-
-abbrev pub filterOf : ℕ → ℕ → Filter
-filterOf kind operand =
-    cond (eqb kind 6) Ordered
-    (cond (eqb kind 7) (Window operand)
-    (cond (eqb kind 8) (Distance (operand / radix) (operand % radix))
-    (cond (eqb kind 9) SameSentence
-    (cond (eqb kind 10) SameParagraph
-    (cond (eqb kind 11) DifferentSentence
-    (cond (eqb kind 12) DifferentParagraph
-    (cond (eqb kind 13) AtStart
-    (cond (eqb kind 14) AtEnd EntireContent))))))))
-
--- An unknown kind is refused before its code is asked for; an entire content stands for it here.
-abbrev pub codeOf : ℕ → ℕ → Code
-codeOf kind operand =
-    cond (eqb kind 0) (Word operand)
-    (cond (eqb kind 1) (Phrase operand)
-    (cond (leb kind 5) (combinationOf kind)
-    (cond (leb kind 15) (Filtered (filterOf kind operand))
-    (Filtered EntireContent))))
-
-abbrev pub codeAt : List ℕ → ℕ → Code
-codeAt selection c = codeOf (kindAt selection c) (operandAt selection c)
 
 -- the first n of a row
 unfoldable pub upTo : {A : Type 0} → (ℕ → A) → ℕ → List A

@@ -7,7 +7,7 @@ use Rattle.model.specs.declared.Pair.{Pair}
 pub data Tree : Type 0 where
   phrase : (place rank : ℕ) → (words : List ℕ) → Tree
   pair : Pair → (place : ℕ) → (left right : Tree) → Tree
-  change : Change → (place : ℕ) → (operand : Tree) → Tree
+  change : Change → (place : ℕ) → (below : Tree) → Tree
 
 -- the place of the code that ends the tree
 unfoldable pub placeOf : Tree → ℕ
@@ -33,7 +33,8 @@ unfoldable pub changeLast : Change → ℕ → List Tree → List Tree
 changeLast k c [] = []
 changeLast k c (t ∷ ts) = change k c t ∷ ts
 
--- one code read; "Its query position is its rank among the kind-1 codes, from 1"
+-- One code read; "Its query position is its rank among the kind-1 codes, from 1". Where it fits, a phrase's own words wait before it, and none before a
+-- pair or a change.
 unfoldable pub read : Shape → State → State
 read (aWord w) s = record { trees = s .trees; words = s .words ++ w ∷ []; place = s .place + 1; rank = s .rank }
 read (aPhrase k) s = record { trees = phrase (s .place) (s .rank) (s .words) ∷ s .trees; words = []; place = s .place + 1; rank = s .rank + 1 }
@@ -48,7 +49,7 @@ readAll (c ∷ cs) s = readAll cs (read c s)
 abbrev pub fresh : ℕ → ℕ → State
 fresh place rank = record { trees = []; words = []; place = place; rank = rank }
 
--- the last tree that waits. Of a selection that keeps the waiting rule it is the only one; the other case never meets such a selection
+-- the last tree that waits. Of a selection that keeps the waiting rule it is the only one, and `[]` never comes
 unfoldable pub topTree : List Tree → Tree
 topTree [] = phrase 0 0 []
 topTree (t ∷ ts) = t

@@ -14,7 +14,7 @@ fits (aPhrase k) w p = eqb p k && ltb w maxWaiting
 fits (aPair k) w p = eqb p 0 && leb 2 w
 fits (aChange k) w p = eqb p 0 && leb 1 w
 
--- The lists that wait after a code, the one that it makes in place of those that it takes: kind 1: ".. w grows by 1"; kinds 2, 3 and 5 ".. take one
+-- The lists that wait after a code that fits, the one that it makes in place of those that it takes: kind 1: ".. w grows by 1"; kinds 2, 3 and 5 ".. take one
 -- away".
 abbrev pub listsAfter : Shape → ℕ → ℕ
 listsAfter c w = cond (isWord c) w (w + 1 - arity c)

@@ -54,7 +54,7 @@ andWalk (Answered true n) (Answered answer k) = Answered answer (n + k + 1)
 andWalk (Answered true n) (Refused r) = Refused r
 andWalk (Refused r) right = Refused r
 
--- "a phrase is yes if its list isn't empty"
+-- "a phrase is yes if its list isn't empty"; "Limits on size hold only for lists built at or under kinds 5 to 15."
 unfoldable pub walk : Section → Tree → Quick
 walk s (phrase c rank ws) = Answered (not (isEmpty (phraseList s rank ws))) 1
 walk s (change negated c t) = turned (walk s t)

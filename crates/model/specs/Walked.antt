@@ -1,5 +1,5 @@
 -- What the quick answer's walk comes to, apart from each other: its answer, the codes that it builds and the codes that it reaches. Demand 3 is
--- stated by them; they are no part of the meaning. That the walk comes to them is a law (`walk-is`).
+-- stated by them. That the walk comes to them is a law (`walk-is`).
 use mathlib.Core.Bool.{Bool, not, _&&_, _||_, cond}
 use mathlib.Core.List.{List, [], _∷_, _++_}
 use Rattle.model.specs.declared.Pair.the-variants.{Or, And, MildNot}
