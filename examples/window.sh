@@ -81,6 +81,7 @@ echo "What ftlist prints:"
 echo
 bytes "${#words[@]}" "${words[@]}" "${places[@]}" "${#kinds[@]}" "${kinds[@]}" "${operands[@]}" | target/bin/ftlist | sed 's/^/  /'
 echo
-echo "How to read it: yes, 4 matches with 4 strings in all, then a line a match. +1-2 is a find from position 1 to position 2; q1 names"
-echo "the first phrase of the search, 10; c says that the words found cover the whole of it, n that they don't."
+echo "How to read it: yes, 4 matches with 4 strings in all, then a line a match. +1-2 is a find from position 1 to position 2: a window"
+echo "joins the words that it holds to one string. q1 is the phrase that the first of them was found for, here 10; c says here that the"
+echo "words found cover the whole of it, n that they don't (docs/REFERENCE.md has the full rule)."
 echo "1-2 is listed twice because two windows hold it: positions 0 to 2 (a window may begin before the section) and 1 to 3."

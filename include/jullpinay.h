@@ -1,8 +1,9 @@
-/* The engine's three calls. Each has an answer for every slice of every length: a result, or one refusal by number and place.
+/* The engine's three calls. Each has an answer for every slice of every length; the listing and the quick answer give a result, or one refusal by number
+ * and place.
  *
- * A slice is a pointer and a count of numbers. `section`, `selection` and `buffer` are laid out as docs/REFERENCE.md says; `work` is free to the call
- * and may end holding anything. Nothing that a call writes, `answer` included, may overlap anything else that is passed. No pointer may be null, also
- * where its count is 0. Nothing is kept between calls, and nothing else is touched.
+ * A slice is a pointer and a count of numbers. `section`, `selection` and `buffer` are laid out as docs/REFERENCE.md says; `work` may hold anything before
+ * the call, and after it. Nothing that a call writes, `answer` included, may overlap anything else that is passed. Every pointer is aligned for numbers of
+ * 32 bits, and none is null, also where its count is 0. Nothing is kept between calls, and nothing else is touched.
  *
  * Link with the archive that `rt staticlib jullpinay` writes, target/staticlib/libjullpinay.a. */
 #ifndef JULLPINAY_H
@@ -15,7 +16,7 @@
 extern "C" {
 #endif
 
-/* "working memory (at least 12,800 u32) and a listing buffer (at least 1,282 u32)" */
+/* How many numbers `work` and `buffer` have at least. */
 #define JULLPINAY_WORK 12800
 #define JULLPINAY_BUFFER 1282
 
