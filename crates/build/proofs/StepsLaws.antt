@@ -19,7 +19,7 @@ use Rattle.store.specs.declared.Built.the-variants.{Made, TooLong}
 use Rattle.store.specs.ValidStr.{ValidStr}
 use Rattle.store.specs.Layout.{scratch, slotAt, slotNumbers, slotSize}
 use Rattle.store.specs.Outcome.{Outcome}
-use Rattle.store.specs.Places.{SlotBelow}
+use Rattle.store.specs.Indices.{SlotBelow}
 use Rattle.store.specs.Slot.{SlotHolds, SlotAt, TwoSlots}
 use Rattle.store.specs.Stack.{Stack}
 use Rattle.store.proofs.SlotsLaws.{answer-made, outcome-put, outcome-slot}

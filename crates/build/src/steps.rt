@@ -16,7 +16,7 @@ ghost use Rattle.model.specs.Rules.{andList, mildNotList, notList, orList, phra
 ghost use Rattle.model.specs.Section.{sectionOf};
 ghost use Rattle.store.specs.Layout.{scratch};
 ghost use Rattle.store.specs.Outcome.{Outcome};
-ghost use Rattle.store.specs.Places.{SlotBelow};
+ghost use Rattle.store.specs.Indices.{SlotBelow};
 ghost use Rattle.store.specs.Slot.{SlotAt};
 ghost use Rattle.window.specs.Inside.{WindowSize};
 ghost use Rattle.build.specs.State.{AfterCode, WaitsAt};

@@ -64,7 +64,7 @@ pub fn first_overlapping(mem: &[u32], from: usize, end: usize, ranges: Ranges) -
     at
 }
 
-// The place after the last match of R, from the one at `from` on, that overlaps both ranges; `from` if none does.
+// The index after the last match of R, from the one at `from` on, that overlaps both ranges; `from` if none does.
 pub fn end_of_overlapping(mem: &[u32], from: usize, end: usize, ranges: Ranges) -> usize
     requires { ⌜ RemainingAt (now mem) from end ⌝ }
     ensures { λ r. ⌜ ((w : RemainingAt (now (mem .entry)) from end) → Remaining (upToLast (overlapBoth ranges) (w .list)) (now (mem .entry)) from r) ⌝ }

@@ -24,7 +24,7 @@ use Rattle.store.specs.Built.{Small}
 use Rattle.store.specs.Each.{OneAt}
 use Rattle.store.specs.ValidStr.{ValidStr}
 use Rattle.store.specs.Layout.{Holds, BoundsOf, headerBetween, matchesNumbers}
-use Rattle.store.specs.Places.{CopyUp, ClosingMatch}
+use Rattle.store.specs.Indices.{CopyUp, ClosingMatch}
 use Rattle.store.specs.Put.{Put}
 use Rattle.store.specs.Slot.{SlotHolds}
 use Rattle.store.proofs.DecodeLaws.{includes-held, excludes-held, length-held, includes-hold, excludes-hold, includes-within, includes-length, str-back}

@@ -9,7 +9,7 @@ ghost use Rattle.model.specs.Section.{sectionOf};
 ghost use Rattle.filter_rules.specs.declared.Rule.the-variants.{Keep};
 ghost use Rattle.filter_rules.specs.Keepers.{filterOf};
 ghost use Rattle.store.specs.Outcome.{Outcome};
-ghost use Rattle.store.specs.Places.{SlotBelow};
+ghost use Rattle.store.specs.Indices.{SlotBelow};
 ghost use Rattle.store.specs.Slot.{SlotAt};
 
 // Builds the list that a filter gives of the list in the slot at src.

@@ -10,11 +10,11 @@ ghost use Rattle.model.specs.Rules.{keptIf, mildNotList};
 ghost use Rattle.store.specs.Each.{OneAt};
 ghost use Rattle.store.specs.Layout.{matchesNumbers};
 ghost use Rattle.store.specs.Outcome.{Outcome};
-ghost use Rattle.store.specs.Places.{SlotBelow};
+ghost use Rattle.store.specs.Indices.{SlotBelow};
 ghost use Rattle.store.specs.Put.{Put};
 ghost use Rattle.store.specs.Slot.{TwoSlots};
 
-// Puts the match at p to q if it is kept; gives the place after it.
+// Puts the match at p to q if it is kept; gives the index after it.
 fn put_kept(mem: &mut [u32], p: usize, q: usize, kept: bool) -> usize
     requires { ⌜ OneAt (keptIf «kept») (now mem) p q ⌝ }
     ensures { λ next.

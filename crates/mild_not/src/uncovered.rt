@@ -75,8 +75,8 @@ fn cover_both(strs: &[u32], p: Position, q: Position) -> bool
     is_covered(strs, q)
 }
 
-// Skips the matches of R from the one at `from` on that have this header and whose includes don't cover both positions; gives the place of the first other
-// match, or the end. Equal headers mean equal lengths, so the place of the next match is known before its header is read.
+// Skips the matches of R from the one at `from` on that have this header and whose includes don't cover both positions; gives the index of the first other
+// match, or the end. Equal headers mean equal lengths, so the index of the next match is known before its header is read.
 fn skip_same_header(
     mem: &[u32],
     from: usize,

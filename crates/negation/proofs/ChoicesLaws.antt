@@ -16,7 +16,7 @@ use Rattle.store.specs.declared.Built.the-variants.{Made}
 use Rattle.store.specs.Built.{builtOf}
 use Rattle.store.specs.Layout.{headerBetween, matchNumbers, matchesNumbers}
 use Rattle.store.specs.Outcome.{Outcome}
-use Rattle.store.specs.Places.{ClosingMatch, SlotBelow}
+use Rattle.store.specs.Indices.{ClosingMatch, SlotBelow}
 use Rattle.store.specs.Put.{Put}
 use Rattle.store.specs.Slot.{SlotAt}
 use Rattle.store.proofs.LayoutLaws.{length-strsOf, length-match, length-matches}

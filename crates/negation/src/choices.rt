@@ -9,7 +9,7 @@ ghost use Rattle.store.specs.Put.{Put};
 ghost use Rattle.negation.specs.Chosen.{ChoiceAt, ChoicesAt, SideAt, TurnAt};
 ghost use Rattle.negation.specs.Turned.{sideNumbers, turnedNumbers};
 
-// Writes the string at a turned to a sort (0: include, 1: exclude), if it is of the other. Like every function here, returns the place after what it wrote.
+// Writes the string at a turned to a sort (0: include, 1: exclude), if it is of the other. Like every function here, returns the index after what it wrote.
 fn put_turned(mem: &mut [u32], a: usize, sort: u32, q: usize) -> usize
     requires { ⌜ TurnAt (now mem) a sort q ⌝ }
     ensures { λ r. ⌜ Put (now (mem .entry)) (now (mem .exit)) q (turnedNumbers sort (getD (now (mem .entry)) a 0) (getD (now (mem .entry)) (a + 1) 0)) r ⌝ }

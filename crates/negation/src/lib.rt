@@ -7,7 +7,7 @@ use store::Built;
 ghost use lib.ListN.{length};
 ghost use Rattle.model.specs.Rules.{notList};
 ghost use Rattle.store.specs.Outcome.{Outcome};
-ghost use Rattle.store.specs.Places.{SlotBelow};
+ghost use Rattle.store.specs.Indices.{SlotBelow};
 ghost use Rattle.store.specs.Slot.{SlotAt};
 
 // Not: of the list in the slot at src, in the slot at `at` above it.

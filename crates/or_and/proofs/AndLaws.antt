@@ -13,7 +13,7 @@ use Rattle.strings.specs.Strings.{strsOf}
 use Rattle.store.specs.declared.Bounds.{Bounds}
 use Rattle.store.specs.declared.Built.the-variants.{Made}
 use Rattle.store.specs.Built.{builtOf, sizedAs}
-use Rattle.store.specs.Places.{SlotBelow}
+use Rattle.store.specs.Indices.{SlotBelow}
 use Rattle.store.specs.Layout.{BoundsOf, Holds, headerOf, matchLength, matchNumbers, matchesNumbers, slotLength, slotSize}
 use Rattle.store.specs.Put.{Put}
 use Rattle.store.specs.Stream.{MatchHolds}

@@ -11,7 +11,7 @@ use Rattle.store.specs.declared.Built.the-variants.{Made}
 use Rattle.store.specs.Built.{builtOf, sizedAs}
 use Rattle.store.specs.Layout.{slotLength, slotSize}
 use Rattle.store.specs.Outcome.{Outcome}
-use Rattle.store.specs.Places.{CopyDown}
+use Rattle.store.specs.Indices.{CopyDown}
 use Rattle.store.specs.Put.{Put}
 use Rattle.store.proofs.LayoutLaws.{length-matches, matches-append}
 use Rattle.store.proofs.PutLaws.{put-copy, put-held}

@@ -9,12 +9,12 @@ ghost use Rattle.model.specs.Rules.{andList, joined};
 ghost use Rattle.store.specs.Built.{builtOf};
 ghost use Rattle.store.specs.Layout.{matchNumbers, matchesNumbers};
 ghost use Rattle.store.specs.Outcome.{Outcome};
-ghost use Rattle.store.specs.Places.{SlotBelow};
+ghost use Rattle.store.specs.Indices.{SlotBelow};
 ghost use Rattle.store.specs.Put.{Put};
 ghost use Rattle.store.specs.Slot.{TwoSlots};
 ghost use Rattle.or_and.specs.Joining.{CopyBoth, JoinableAt, RowAt};
 
-// Copies the numbers from a up to e, and after them those from b up to f, to a place above both; like the functions below it gives the place after.
+// Copies the numbers from a up to e, and after them those from b up to f, to an index above both; like the functions below it gives the index after.
 fn copy_both(mem: &mut [u32], a: usize, e: usize, b: usize, f: usize, to: usize) -> usize
     requires { ⌜ CopyBoth (length (now mem)) a e b f to ⌝ }
     ensures { λ r.

@@ -11,7 +11,7 @@ use borrow.Author.Tests.{lt-ltb, le-ltb}
 use Rattle.model.specs.Matches.{Match, strings}
 use Rattle.model.proofs.RulesLaws.{AtMostOne, strings-append}
 use Rattle.store.specs.Built.{Small}
-use Rattle.store.specs.Places.{SlotBelow}
+use Rattle.store.specs.Indices.{SlotBelow}
 use Rattle.store.specs.Each.{OneAt, Each}
 use Rattle.store.specs.Layout.{matchLength, matchesNumbers}
 use Rattle.store.specs.Put.{Put, PutMatches}

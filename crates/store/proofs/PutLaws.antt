@@ -12,7 +12,7 @@ use Rattle.model.specs.Matches.{Match, stringsIn}
 use Rattle.model.specs.Rules.{keptIf}
 use Rattle.strings.specs.Strings.{strsOf}
 use Rattle.store.specs.Layout.{Holds, headerBetween, headerOf, matchLength, matchNumbers, matchesNumbers}
-use Rattle.store.specs.Places.{ClosingMatch, Counts}
+use Rattle.store.specs.Indices.{ClosingMatch, Counts}
 use Rattle.store.specs.Put.{Put}
 use Rattle.store.specs.Stream.{MatchHolds}
 use Rattle.store.proofs.MemoryLaws.{sets-append, sets-front, sets-held, holds-written, holds-other, holds-part}

@@ -17,7 +17,7 @@ use Rattle.model.proofs.TestsLaws.{both-false}
 use Rattle.store.specs.declared.Built.{Built}
 use Rattle.store.specs.declared.Built.the-variants.{Made, TooLong}
 use Rattle.store.specs.Built.{builtOf, Small}
-use Rattle.store.specs.Places.{Closing}
+use Rattle.store.specs.Indices.{Closing}
 use Rattle.store.specs.ValidStr.{ValidStr}
 use Rattle.store.specs.Layout.{Holds, matchesNumbers, slotLength, slotNumbers, slotSize, stringsBefore}
 use Rattle.store.specs.Outcome.{Outcome, Closed}
@@ -142,7 +142,7 @@ module _ {ms : List Match} {entry exit : List ℕ} {at : ℕ} where
       record { wrote = e ∙ ap₂ (λ x y. sets E at (x ∷ y ∷ [])) (sym (z .matches-are)) (sym (z .strings-are)); next-is = refl } in
       record { answered = b; written = λ f. put-front v front .wrote }
 
-  -- .. by the number of its matches and the place after them
+  -- .. by the number of its matches and the index after them
   pub closed : {E : List ℕ} {next matches : ℕ} {built : Built} → Small ms → PutMatches entry E (at + 2) ms next matches
       → Closed E exit at next matches built → Outcome ms entry exit at built
   closed {next = next} {matches} h v c =

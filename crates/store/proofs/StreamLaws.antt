@@ -1,5 +1,5 @@
 -- A loop over the matches of a list, by what is left of them: the first of those left lies here, and the others after it, at the length that its header says. A
--- loop tells by the place or by a count whether any is left. Stores above the matches leave them.
+-- loop tells by the index or by a count whether any is left. Stores above the matches leave them.
 use Prim.Native.Nat.{ℕ, suc, _+_, _≤_, _<_}
 use native.Mathlib.Omega.{arith}
 use mathlib.Core.Path.{_≡_, refl, sym, ap, _∙_, subst}
@@ -51,7 +51,7 @@ next (m ∷ ms) {mem} {p} {end} l h =
     }
 
 module _ {todo : List Match} {mem : List ℕ} {p end : ℕ} (l : Remaining todo mem p end) where
-  -- by the place
+  -- by the index
   pub next-at : p < end → Next todo mem p end
   next-at h = next todo l (some todo (l .up-to))
     where

@@ -1,4 +1,4 @@
--- A rule that goes over a list match by match and writes what it makes of each, F, from a place above the list on.
+-- A rule that goes over a list match by match and writes what it makes of each, F, from an index above the list on.
 use Prim.Native.Nat.{ℕ, _+_, _≤_}
 use mathlib.Core.List.{List, flatMap}
 use mathlib.Core.Path.{_≡_}

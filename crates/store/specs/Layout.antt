@@ -46,7 +46,7 @@ slotNumbers ms = length ms ∷ strings ms ∷ matchesNumbers ms
 abbrev pub slotLength : List ℕ → ℕ → ℕ
 slotLength mem at = 2 + getD mem at 0 + 2 * getD mem (at + 1) 0
 
--- how many strings the matches of the slot at `at` have, by their number and the place after them
+-- how many strings the matches of the slot at `at` have, by their number and the index after them
 abbrev pub stringsBefore : ℕ → ℕ → ℕ → ℕ
 stringsBefore next at matches = (next - (at + 2) - matches) / 2
 

@@ -9,4 +9,4 @@ pub mod Put
 pub mod Built
 pub mod Outcome
 pub mod Each
-pub mod Places
+pub mod Indices

@@ -13,7 +13,7 @@ ghost use lib.Seq.{sets};
 ghost use Rattle.model.specs.Limits.{maxMatches};
 ghost use Rattle.model.specs.Matches.{isYes};
 ghost use Rattle.store.specs.Built.{sizedAs};
-ghost use Rattle.store.specs.Places.{Closing, ClosingMatch, Copy, CopyDown, CopyUp, Counts};
+ghost use Rattle.store.specs.Indices.{Closing, ClosingMatch, Copy, CopyDown, CopyUp, Counts};
 ghost use Rattle.store.specs.Layout.{BoundsOf, excludesIn, headerBetween, headerOf, includesIn, matchLength, slotLength, slotNumbers, slotSize};
 ghost use Rattle.store.specs.Outcome.{Closed};
 ghost use Rattle.store.specs.Put.{Put};
@@ -50,7 +50,7 @@ pub fn sized(matches: u32, strings: u32) -> Built
     Built::Made { matches, strings }
 }
 
-// Copies n numbers to a place that they do not meet.
+// Copies n numbers to indices that they do not meet.
 fn copy(mem: &mut [u32], from: usize, n: usize, to: usize)
     requires { ⌜ Copy (length (now mem)) from n to ⌝ }
     ensures { λ _. ⌜ now (mem .exit) ≡ sets (now (mem .entry)) to (take n (drop from (now (mem .entry)))) ⌝ }
@@ -62,7 +62,7 @@ fn copy(mem: &mut [u32], from: usize, n: usize, to: usize)
     }
 }
 
-// Copies n numbers to a place above them.
+// Copies n numbers to an index above them.
 pub fn copy_up(mem: &mut [u32], from: usize, n: usize, to: usize)
     requires { ⌜ CopyUp (length (now mem)) from n to ⌝ }
     ensures { λ _. ⌜ now (mem .exit) ≡ sets (now (mem .entry)) to (take n (drop from (now (mem .entry)))) ⌝ }
@@ -70,7 +70,7 @@ pub fn copy_up(mem: &mut [u32], from: usize, n: usize, to: usize)
     copy(mem, from, n, to);
 }
 
-// Copies n numbers to a place below them.
+// Copies n numbers to an index below them.
 pub fn copy_down(mem: &mut [u32], from: usize, n: usize, to: usize)
     requires { ⌜ CopyDown (length (now mem)) from n to ⌝ }
     ensures { λ _. ⌜ now (mem .exit) ≡ sets (now (mem .entry)) to (take n (drop from (now (mem .entry)))) ⌝ }
@@ -144,7 +144,7 @@ pub fn bounds_at(mem: &[u32], p: usize) -> Bounds
     bounds_by(mem[p], p)
 }
 
-// The place after the list in a slot, by its two counts.
+// The index after the list in a slot, by its two counts.
 pub fn slot_end(mem: &[u32], at: usize) -> usize
     requires { ⌜ SlotHeader (now mem) at ⌝ }
     ensures { λ r. ⌜ r ≡ at + slotLength (now (mem .entry)) at ⌝ }
@@ -164,7 +164,7 @@ pub fn copy_slot_down(mem: &mut [u32], from: usize, to: usize)
     copy_down(mem, from, end - from, to);
 }
 
-// Puts a string; gives the place after it.
+// Puts a string; gives the index after it.
 pub fn put_string(mem: &mut [u32], q: usize, span: u32, tag: u32) -> usize
     requires { ⌜ q + 2 ≤ length (now mem) ⌝ }
     ensures { λ r. ⌜ Put (now (mem .entry)) (now (mem .exit)) q (span ∷ tag ∷ []) r ⌝ }

@@ -15,7 +15,7 @@ use Rattle.strings.specs.Strings.{strsAt, strsOf}
 use Rattle.store.specs.declared.Bounds.{Bounds}
 use Rattle.store.specs.Each.{OneAt}
 use Rattle.store.specs.Layout.{BoundsOf, headerBetween, matchNumbers, matchesNumbers}
-use Rattle.store.specs.Places.{ClosingMatch}
+use Rattle.store.specs.Indices.{ClosingMatch}
 use Rattle.store.specs.Put.{Put}
 use Rattle.store.proofs.DecodeLaws.{excludes-held, excludes-hold}
 use Rattle.store.proofs.LayoutLaws.{length-match, length-strsOf, matches-map, matches-none}

@@ -20,7 +20,7 @@ fn is_inside(n: u32, last: Position, span: u32) -> bool
     strings::end_of(span).0 <= last.0
 }
 
-// Puts the string at i to q if it lies inside the window; gives the place after it.
+// Puts the string at i to q if it lies inside the window; gives the index after it.
 fn put_if_inside(mem: &mut [u32], n: u32, last: Position, i: usize, q: usize) -> usize
     requires { ⌜ StringAt n (last .0) (now mem) i q ⌝ }
     ensures { λ r. ⌜ Put (now (mem .entry)) (now (mem .exit)) q (insideNumbers n (last .0) (getD (now (mem .entry)) i 0) (getD (now (mem .entry)) (i + 1) 0)) r ⌝ }
@@ -33,7 +33,7 @@ fn put_if_inside(mem: &mut [u32], n: u32, last: Position, i: usize, q: usize) ->
     store::put_string(mem, q, span, tag)
 }
 
-// Puts those strings from a to e that lie inside the window, from q on; gives the place after them.
+// Puts those strings from a to e that lie inside the window, from q on; gives the index after them.
 pub fn put_inside(mem: &mut [u32], n: u32, last: Position, a: usize, e: usize, q: usize) -> usize
     requires { ⌜ ExcludesAt n (last .0) (now mem) a e q ⌝ }
     ensures { λ r.

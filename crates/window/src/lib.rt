@@ -15,13 +15,13 @@ ghost use Rattle.model.specs.Rules.{window, windowTo};
 ghost use Rattle.store.specs.Each.{OneAt};
 ghost use Rattle.store.specs.Layout.{matchNumbers, matchesNumbers};
 ghost use Rattle.store.specs.Outcome.{Outcome};
-ghost use Rattle.store.specs.Places.{SlotBelow};
+ghost use Rattle.store.specs.Indices.{SlotBelow};
 ghost use Rattle.store.specs.Put.{Put};
 ghost use Rattle.store.specs.Slot.{SlotAt};
 ghost use Rattle.window.specs.Inside.{WindowSize};
 ghost use Rattle.window.specs.Windows.{WindowAt, WindowsAt};
 
-// "one match: the join, and the excludes inside W to W + N − 1", of the excludes from x to e, put to q; like the functions below it gives the place after.
+// "one match: the join, and the excludes inside W to W + N − 1", of the excludes from x to e, put to q; like the functions below it gives the index after.
 fn put_window(
     mem: &mut [u32],
     n: u32,

@@ -1,4 +1,4 @@
--- Invariant: the first i numbers are copied, and memory has kept its length. The places do not meet, so each number is read as it was. Measure: n - i.
+-- Invariant: the first i numbers are copied, and memory has kept its length. The indices do not meet, so each number is read as it was. Measure: n - i.
 use Prim.Native.Nat.{_≤_, _-_}
 use native.Mathlib.Omega.{arith}
 use borrow.Author.Needs.{needs}

@@ -1,4 +1,4 @@
--- The new place is below the old: so they do not meet.
+-- The new indices are below the old: so they do not meet.
 use native.Mathlib.Omega.{arith}
 use mathlib.Core.Logic.{inl}
 use borrow.Author.Needs.{needs}

@@ -1,4 +1,4 @@
--- The new place is above the old: so they do not meet.
+-- The new indices are above the old: so they do not meet.
 use native.Mathlib.Omega.{arith}
 use mathlib.Core.Logic.{inr}
 use borrow.Author.Needs.{needs}

@@ -1,10 +1,10 @@
--- What the functions require of places in memory, as plain numbers.
+-- What the functions require of indices in memory, as plain numbers.
 use Prim.Native.Nat.{ℕ, _+_, _-_, _/_, _≤_, _<_}
 use mathlib.Core.Logic.{_⊎_}
 use Rattle.model.specs.Limits.{radix}
 use Rattle.store.specs.Layout.{slotSize}
 
--- in a memory of so many numbers, n numbers at from do not meet their new place ..
+-- in a memory of so many numbers, n numbers at from do not meet their new indices ..
 pub record Copy (size from n to : ℕ) : Type 0 where
   pub apart : (to + n ≤ from) ⊎ (from + n ≤ to)
   pub reads : from + n ≤ size
