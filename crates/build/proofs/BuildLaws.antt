@@ -54,7 +54,7 @@ module _ {section sel mem₀ : List ℕ} {lo hi rank : ℕ} (w : Buildable secti
     pub stack : Stack mem (map (allMatches (sectionOf section)) (waitsAfter n .trees))
     pub count : lists ≡ length (waitsAfter n .trees)
     pub rank-is : next ≡ waitsAfter n .rank
-    pub fine : firstTooLong (sectionOf section) (waitingParts (waitsAfter n .trees)) ≡ none
+    pub valid : firstTooLong (sectionOf section) (waitingParts (waitsAfter n .trees)) ≡ none
 
   fits-next : (n : ℕ) → n < hi - lo → Fits (shapeAt sel (lo + suc n)) (waitsAfter n)
   fits-next = built-fits (shapeAt sel) hi lo (w .part) (w .lo-is) (part-formed sel (w .in-selection) hi (w .part) (w .up-to))
@@ -65,7 +65,7 @@ module _ {section sel mem₀ : List ℕ} {lo hi rank : ℕ} (w : Buildable secti
   pub start : Going mem₀ 0 rank lo
   unfolding stateAt Stack firstTooLong first waitingParts
   start =
-      record { n = 0; here = omega arith; up-to = lo-le; long = refl; stack = tt; count = refl; rank-is = w .rank-is; fine = refl }
+      record { n = 0; here = omega arith; up-to = lo-le; long = refl; stack = tt; count = refl; rank-is = w .rank-is; valid = refl }
 
   module _ {mem : List ℕ} {lists next c : ℕ} (g : Going mem lists next c) where
     -- no rank is out of range
@@ -147,7 +147,7 @@ module _ {section sel mem₀ : List ℕ} {lo hi rank : ℕ} (w : Buildable secti
             let s = waitsAfter (g .n) in
             let x = shapeAt sel (lo + suc (g .n)) in
             let more = step x (s .trees) (s .words) (s .place) (s .rank) (fits-next (g .n) inside .here) .adds in
-            ap (firstTooLong S) more ∙ firstTooLong-append S (waitingParts (s .trees)) (partEndedBy x (read x s .trees)) ∙ ap₂ orElse (g .fine) q
+            ap (firstTooLong S) more ∙ firstTooLong-append S (waitingParts (s .trees)) (partEndedBy x (read x s .trees)) ∙ ap₂ orElse (g .valid) q
 
         -- its list is too long: the first that is
         pub refuse : built ≡ TooLong → firstTooLong (sectionOf section) (parts (w .part .tree)) ≡ some c'
@@ -173,7 +173,7 @@ module _ {section sel mem₀ : List ℕ} {lo hi rank : ℕ} (w : Buildable secti
               stack = after .stack m s b;
               count = i ∙ ap₂ listsAfter shape-next (g .count) ∙ sym (more .lists);
               rank-is = j ∙ ap₂ (λ (k : ℕ) (y : Shape). k + phrasesEnded y) (g .rank-is) shape-next ∙ sym (rank-read x z);
-              fine = found none (after .fine m s b);
+              valid = found none (after .valid m s b);
             }
 
     -- after the last code the part's tree waits alone
@@ -190,7 +190,7 @@ module _ {section sel mem₀ : List ℕ} {lo hi rank : ℕ} (w : Buildable secti
 
       pub end-fine : firstTooLong (sectionOf section) (parts (w .part .tree)) ≡ none
       unfolding waitingParts
-      end-fine = ap (λ (ts : List Tree). firstTooLong (sectionOf section) (waitingParts ts)) (sym state-end) ∙ g .fine
+      end-fine = ap (λ (ts : List Tree). firstTooLong (sectionOf section) (waitingParts ts)) (sym state-end) ∙ g .valid
 
 -- ---- PartList
 
@@ -199,9 +199,9 @@ module _ {s : Section} {t : Tree} {mem : List ℕ} where
   part-long {place} e =
       record {
         slot = λ b. absurd (let z : _≡_ {A = ℕ} 0 1 = cc in omega arith);
-        fine = λ b. absurd (let z : _≡_ {A = ℕ} 0 1 = cc in omega arith);
+        valid = λ b. absurd (let z : _≡_ {A = ℕ} 0 1 = cc in omega arith);
         refused = λ r b. let z : refusal 9 place ≡ r = cc in ap (Option·map (refusal 9)) e ∙ ap some z;
       }
 
   pub part-built : SlotHolds mem 0 (allMatches s t) → firstTooLong s (parts t) ≡ none → PartList s t mem part.Built
-  part-built h e = record { slot = λ b. h; fine = λ b. e; refused = λ r b. absurd (let z : _≡_ {A = ℕ} 0 1 = cc in omega arith) }
+  part-built h e = record { slot = λ b. h; valid = λ b. e; refused = λ r b. absurd (let z : _≡_ {A = ℕ} 0 1 = cc in omega arith) }

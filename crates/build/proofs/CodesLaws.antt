@@ -45,7 +45,7 @@ unfolding first
 grown {s} t ts p a =
     record {
       long = λ e. first-one s t true (answer-long (allMatches s t) (sym e ∙ a .answered)) ∙ ap some (sym p);
-      fine = λ m n e. first-one s t false (answer-made (allMatches s t) (sym e ∙ a .answered) .fits);
+      valid = λ m n e. first-one s t false (answer-made (allMatches s t) (sym e ∙ a .answered) .fits);
       stack = a .waits;
     }
 
@@ -54,11 +54,11 @@ abbrev leaf : State → Tree
 leaf s = phrase (s .place) (s .rank) (s .words)
 
 module _ {section mem : List ℕ} {place rank lists : ℕ} where
-  -- every string of the list of the tree that waits as the last after a code is fine
-  fine-last : {shape : Shape} {s : State} (t : Tree) (ts : List Tree) → read shape s .trees ≡ t ∷ ts
+  -- every string of the list of the tree that waits as the last after a code is valid
+  valid-last : {shape : Shape} {s : State} (t : Tree) (ts : List Tree) → read shape s .trees ≡ t ∷ ts
       → Waits section mem shape s place rank lists → AllList ValidStr (allMatches (sectionOf section) t)
   unfolding Every
-  fine-last t ts e w = valid-matches (sectionOf section) t (w .accepted .few) (subst (Every (RanksUpTo maxPhrases)) e (w .ranks) .0)
+  valid-last t ts e w = valid-matches (sectionOf section) t (w .accepted .few) (subst (Every (RanksUpTo maxPhrases)) e (w .ranks) .0)
 
   -- ---- aPhrase
 
@@ -92,7 +92,7 @@ module _ {section mem : List ℕ} {place rank lists : ℕ} where
           count = w .count ∙ sym (length-map (s .trees) (allMatches (sectionOf section)));
           few = omega (arith, w .count, leaf-fits);
           room = w .room;
-          fine = subst (AllList ValidStr) (sym leaf-list) (fine-last (leaf s) (s .trees) leaf-last w);
+          valid = subst (AllList ValidStr) (sym leaf-list) (valid-last (leaf s) (s .trees) leaf-last w);
         }
 
     -- what its rule wants, and what that leaves
@@ -123,7 +123,7 @@ module _ {section mem : List ℕ} {place rank lists : ℕ} where
             count = omega (arith, w .count, length-map ts (allMatches (sectionOf section)));
             few = omega (arith, w .count, w .few-trees);
             room = w .room;
-            fine = fine-last (pair k p t u) ts refl w;
+            valid = valid-last (pair k p t u) ts refl w;
           }
 
       two-after : {mem' : List ℕ} {built : Built} → ((v : TwoTaken (pairList k) mem lists) → Pushed (pairList k (v .lefts) (v .rights)) (v .rest) mem' built)
@@ -169,7 +169,7 @@ module _ {section mem : List ℕ} {place rank lists : ℕ} where
             count = omega (arith, w .count, length-map ts (allMatches (sectionOf section)));
             few = omega (arith, w .count, w .few-trees);
             room = w .room;
-            fine = fine-last (change k p t) ts refl w;
+            valid = valid-last (change k p t) ts refl w;
           }
 
       one-after : {mem' : List ℕ} {built : Built} → ((v : OneTaken (changeList (sectionOf section) k) mem lists) → Pushed (changeList (sectionOf section) k (v .list)) (v .rest) mem' built)
@@ -207,5 +207,5 @@ module _ {section mem : List ℕ} {place rank lists : ℕ} where
   unfolding read firstTooLong first
   word-after {shape} {s} {m} {n} v e w =
       let b : AfterCode (sectionOf section) (aWord v) s place mem (Made m n) =
-      record { long = λ t. absurd (let z : _≡_ {A = ℕ} 0 1 = cc in omega arith); fine = λ i j q. refl; stack = λ i j q. w .stack } in
+      record { long = λ t. absurd (let z : _≡_ {A = ℕ} 0 1 = cc in omega arith); valid = λ i j q. refl; stack = λ i j q. w .stack } in
       subst (λ (x : Shape). AfterCode (sectionOf section) x s place mem (Made m n)) (sym e) b

@@ -43,7 +43,7 @@ pushed ms rest few room f st o =
 module _ {mem : List ℕ} {at : ℕ} {built : Built} (w : InScratch mem at built) where
   -- where the list is made, it lies in the slot to build in ..
   unfoldable pub scratch-slot : {m s : ℕ} → built ≡ Made m s → SlotAt mem scratch
-  scratch-slot e = record { list = w .list; slot = outcome-slot (w .outcome) e (w .fine) (omega (arith, w .room)) }
+  scratch-slot e = record { list = w .list; slot = outcome-slot (w .outcome) e (w .valid) (omega (arith, w .room)) }
 
   pub scratch-below : at + slotSize ≤ scratch
   scratch-below = omega (arith, w .place, w .few)
@@ -53,7 +53,7 @@ module _ {mem : List ℕ} {at : ℕ} {built : Built} (w : InScratch mem at built
   unfolding scratch-slot
   scratch-copied {mem'} e copied =
       let c : mem' ≡ sets mem (slotAt (length (w .rest))) (slotNumbers (w .list)) = copied (scratch-slot e) ∙ ap (λ (i : ℕ). sets mem i (slotNumbers (w .list))) (w .place) in
-      record { answered = w .outcome .answered; waits = λ m s e'. stack-built (w .list) (w .rest) (w .few) (w .room) (w .fine) (w .outcome) e c (w .stack) }
+      record { answered = w .outcome .answered; waits = λ m s e'. stack-built (w .list) (w .rest) (w .few) (w .room) (w .valid) (w .outcome) e c (w .stack) }
 
   pub scratch-long : {mem' : List ℕ} → built ≡ TooLong → Pushed (w .list) (w .rest) mem' built
   scratch-long t = record { answered = w .outcome .answered; waits = λ m s e. absurd (let z : _≡_ {A = ℕ} 0 1 = cc in omega arith) }
@@ -67,7 +67,7 @@ module _ {new : List Match} {mem : List ℕ} {lists : ℕ} (w : NoneTaken new me
   pub none-pushed : {mem' : List ℕ} {built : Built} → Outcome new mem mem' (lists * slotSize) built → Pushed new (w .rest) mem' built
   none-pushed {mem'} {built} o =
       let at : lists * slotSize ≡ slotAt (length (w .rest)) = omega (arith, w .count) in
-      pushed new (w .rest) (omega (arith, w .count, w .few)) (w .room) (w .fine) (w .stack) (subst (λ (i : ℕ). Outcome new mem mem' i built) at o)
+      pushed new (w .rest) (omega (arith, w .count, w .few)) (w .room) (w .valid) (w .stack) (subst (λ (i : ℕ). Outcome new mem mem' i built) at o)
 
 -- ---- a rule that takes the last list
 
@@ -93,7 +93,7 @@ module _ {rule : List Match → List Match} {mem : List ℕ} {lists : ℕ} (w : 
           place = omega (arith, w .count);
           few = omega (arith, w .count, w .few);
           room = w .room;
-          fine = w .fine;
+          valid = w .valid;
         }
 
     pub one-moved : {mem'' : List ℕ} {b : Built} → ((v : InScratch mem' ((lists - 1) * slotSize) built) → Pushed (v .list) (v .rest) mem'' b) → Pushed (rule (w .list)) (w .rest) mem'' b
@@ -132,7 +132,7 @@ module _ {rule : List Match → List Match → List Match} {mem : List ℕ} {lis
   two-pushed {mem'} {built} o =
       let list = rule (w .lefts) (w .rights) in
       let l : (lists - 2) * slotSize ≡ slotAt (length (w .rest)) = omega (arith, w .count) in
-      pushed list (w .rest) (omega (arith, w .count, w .few)) (w .room) (w .fine) two-rest (subst (λ (i : ℕ). Outcome list mem mem' i built) l (o two-slots))
+      pushed list (w .rest) (omega (arith, w .count, w .few)) (w .room) (w .valid) two-rest (subst (λ (i : ℕ). Outcome list mem mem' i built) l (o two-slots))
 
   module _ {mem' : List ℕ} {built : Built} (o : (v : TwoSlots mem ((lists - 2) * slotSize) ((lists - 1) * slotSize)) → Outcome (rule (v .lefts) (v .rights)) mem mem' scratch built) where
     unfoldable pub two-in-scratch : InScratch mem' ((lists - 2) * slotSize) built
@@ -147,7 +147,7 @@ module _ {rule : List Match → List Match → List Match} {mem : List ℕ} {lis
           place = omega (arith, w .count);
           few = omega (arith, w .count, w .few);
           room = w .room;
-          fine = w .fine;
+          valid = w .valid;
         }
 
     pub two-moved : {mem'' : List ℕ} {b : Built} → ((v : InScratch mem' ((lists - 2) * slotSize) built) → Pushed (v .list) (v .rest) mem'' b)
@@ -167,7 +167,7 @@ module _ {k j : Pair} {mem : List ℕ} {lists : ℕ} (e : k ≡ j) (w : TwoTaken
         count = w .count;
         few = w .few;
         room = w .room;
-        fine = subst (λ (i : Pair). AllList ValidStr (pairList i (w .lefts) (w .rights))) e (w .fine);
+        valid = subst (λ (i : Pair). AllList ValidStr (pairList i (w .lefts) (w .rights))) e (w .valid);
       }
 
   pub pair-pushed : {mem' : List ℕ} {built : Built} → ((v : TwoTaken (pairList j) mem lists) → Pushed (pairList j (v .lefts) (v .rights)) (v .rest) mem' built)

@@ -15,5 +15,5 @@ use Rattle.build.specs.declared.Part.the-variants.{Built, Refused}
 
 pub record PartList (s : Section) (t : Tree) (mem : List ℕ) (part : Part) : Type 0 where
   pub slot : part ≡ Built → SlotHolds mem 0 (allMatches s t)
-  pub fine : part ≡ Built → firstTooLong s (parts t) ≡ none
+  pub valid : part ≡ Built → firstTooLong s (parts t) ≡ none
   pub refused : (r : Refusal) → part ≡ Refused r → Option·map (refusal 9) (firstTooLong s (parts t)) ≡ some r

@@ -57,7 +57,7 @@ pub record WaitsAt (section selection mem : List ℕ) (code : Code) (place rank 
 -- After the code: either the list of the part that it ends is too long, or the lists of the trees that then wait lie in memory.
 pub record After (s : Section) (new trees : List Tree) (place : ℕ) (mem : List ℕ) (built : Built) : Type 0 where
   pub long : built ≡ TooLong → firstTooLong s new ≡ some place
-  pub fine : (m n : ℕ) → built ≡ Made m n → firstTooLong s new ≡ none
+  pub valid : (m n : ℕ) → built ≡ Made m n → firstTooLong s new ≡ none
   pub stack : (m n : ℕ) → built ≡ Made m n → Stack mem (map (allMatches s) trees)
 
 abbrev pub AfterCode : Section → Shape → State → ℕ → List ℕ → Built → Type 0

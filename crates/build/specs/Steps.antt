@@ -21,7 +21,7 @@ pub record NoneTaken (new : List Match) (mem : List ℕ) (lists : ℕ) : Type 0 
   pub count : lists ≡ length rest
   pub few : lists < maxWaiting
   pub room : workLength ≤ length mem
-  pub fine : AllList ValidStr new
+  pub valid : AllList ValidStr new
 
 -- so many lists wait, and a rule takes the last
 pub record OneTaken (rule : List Match → List Match) (mem : List ℕ) (lists : ℕ) : Type 0 where
@@ -31,7 +31,7 @@ pub record OneTaken (rule : List Match → List Match) (mem : List ℕ) (lists :
   pub count : lists ≡ 1 + length rest
   pub few : lists ≤ maxWaiting
   pub room : workLength ≤ length mem
-  pub fine : AllList ValidStr (rule list)
+  pub valid : AllList ValidStr (rule list)
 
 -- so many lists wait, and a rule takes the last two
 pub record TwoTaken (rule : List Match → List Match → List Match) (mem : List ℕ) (lists : ℕ) : Type 0 where
@@ -42,7 +42,7 @@ pub record TwoTaken (rule : List Match → List Match → List Match) (mem : Lis
   pub count : lists ≡ 2 + length rest
   pub few : lists ≤ maxWaiting
   pub room : workLength ≤ length mem
-  pub fine : AllList ValidStr (rule lefts rights)
+  pub valid : AllList ValidStr (rule lefts rights)
 
 -- a rule has answered for a list that it built in the slot for that; it is to wait at `at`, after the rest
 pub record InScratch (mem : List ℕ) (at : ℕ) (built : Built) : Type 0 where
@@ -54,7 +54,7 @@ pub record InScratch (mem : List ℕ) (at : ℕ) (built : Built) : Type 0 where
   pub place : at ≡ slotAt (length rest)
   pub few : length rest < maxWaiting
   pub room : workLength ≤ length before
-  pub fine : AllList ValidStr list
+  pub valid : AllList ValidStr list
 
 -- a list is answered for; where it is made, it waits after the rest
 pub record Pushed (list : List Match) (rest : List (List Match)) (exit : List ℕ) (built : Built) : Type 0 where

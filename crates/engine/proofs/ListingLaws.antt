@@ -106,4 +106,4 @@ module _ (section selection : List ℕ) (work : ℕ) (buffer : List ℕ) where
           → (answer ≡ listingAnswer section selection work (length buffer)) × (buffer' ≡ listingBuffer section selection work buffer)
       built-lists t ea eb =
           let at : SlotAt mem' 0 = record { list = completeList section selection; slot = slot t } in
-          lists (refusal-is ∙ ap (Option·map (refusal 9)) (built .fine t)) (ea at) (eb at)
+          lists (refusal-is ∙ ap (Option·map (refusal 9)) (built .valid t)) (ea at) (eb at)

@@ -91,7 +91,7 @@ fn skip_same_header(
         ⌜ ((w : RemainingAt (now (mem .entry)) from end)
         → SearchInvariant (fromFirst (coverBoth (p .0) (q .0)) (w .list)) (fromFirst (coverBoth (p .0) (q .0))) (now (mem .entry)) r end) ⌝ }
 {
-    // not by `bounds_by` in each turn: that made the search up to a tenth dearer
+    // not by `bounds_by` in each turn, which made the dearest search a tenth dearer
     let size = 2 * store::includes_in(header);
     let length = store::match_length(header);
     let mut at = from;

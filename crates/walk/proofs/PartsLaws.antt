@@ -115,4 +115,4 @@ module _ {section sel mem : List ℕ} {hi : ℕ} (w : Walkable section sel mem h
   build-answers {mem'} {part} {lo} {n} {answer} b e l y h =
       let list = allMatches (sectionOf section) (w .part .tree) in
       let all : n ≡ length (parts (w .part .tree)) = omega (arith, part-count (shapeAt sel) hi lo (w .part) l) in
-      rw (b .fine e, y (record { list = list; slot = b .slot e }), all)
+      rw (b .valid e, y (record { list = list; slot = b .slot e }), all)
