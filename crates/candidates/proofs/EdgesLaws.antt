@@ -165,10 +165,10 @@ module _ {list : List Match} {before ranges : Ranges} {mem : List ℕ} {n at i :
     abbrev pub widening-at : MatchAt mem at
     widening-at = record { item = here .first; held = here .held }
 
-    pub widening-next : {ranges' : Ranges} {len : ℕ} → ((i ≡ ahead) → ⊥) → ranges' ≡ withMatch ranges (widening-at .item) → len ≡ matchLength (getD mem at 0)
-        → Widening list before mem n (at + len) (i + 1) ranges'
+    pub widening-next : {ranges' : Ranges} {at' : ℕ} → ((i ≡ ahead) → ⊥) → ranges' ≡ withMatch ranges (widening-at .item) → at' ≡ at + matchLength (getD mem at 0)
+        → Widening list before mem n at' (i + 1) ranges'
     unfolding withMatches
-    widening-next {ranges'} {len} k e f =
+    widening-next {ranges'} k e f =
         let N = here in
         let less : i < ahead = at-most (eqb i ahead) refl in
         let one : ahead - i ≡ suc (ahead - (i + 1)) = omega arith in
@@ -176,7 +176,7 @@ module _ {list : List Match} {before ranges : Ranges} {mem : List ℕ} {n at i :
         record {
           todo = N .rest;
           end = g .end;
-          left = N .after _ (ap (λ k. at + k) f);
+          left = N .after _ f;
           count = omega (arith, g .count, N .one-less);
           few = omega arith;
           same = ap (λ r. withMatches r (take (ahead - (i + 1)) (N .rest))) e ∙ ap (withMatches ranges) (sym split) ∙ g .same;

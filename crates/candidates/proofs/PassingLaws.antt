@@ -13,7 +13,7 @@ use Rattle.model.proofs.ListsLaws.{any-append}
 use Rattle.model.proofs.RulesLaws.{strings-append}
 use Rattle.model.proofs.TestsLaws.{both-false}
 use Rattle.strings.specs.Strings.{strsAt}
-use Rattle.store.specs.declared.Bounds.{Bounds}
+use Rattle.store.specs.declared.matches.Bounds.{Bounds}
 use Rattle.store.specs.Stream.{Remaining, RemainingAt, SearchInvariant}
 use Rattle.store.specs.ValidStr.{ValidStr}
 use Rattle.store.specs.Layout.{BoundsOf, Holds, matchLength, matchNumbers, matchesNumbers}

@@ -130,7 +130,7 @@ pub fn ranges_ahead(mem: &[u32], p: usize, n: usize, edges: Edges) -> Ranges
             return ranges;
         }
         ranges = with_match(mem, at, ranges);
-        at += store::match_length(mem[at]);
+        at = store::match_end(mem, at);
         i += 1;
     }
     ranges

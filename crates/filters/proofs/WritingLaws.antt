@@ -19,7 +19,7 @@ use Rattle.strings.specs.Strings.{strOf, strsOf, strsAt}
 use Rattle.strings.proofs.StringsLaws.{length-strsAt, strsAt-none}
 use Rattle.join.specs.Joined.{joined}
 use Rattle.join.proofs.JoinLaws.{strsOf-join}
-use Rattle.store.specs.declared.Bounds.{Bounds}
+use Rattle.store.specs.declared.matches.Bounds.{Bounds}
 use Rattle.store.specs.Built.{Small}
 use Rattle.store.specs.Each.{OneAt}
 use Rattle.store.specs.ValidStr.{ValidStr}

@@ -5,7 +5,7 @@ use mathlib.Core.List.{List, [], _∷_}
 use lib.ListN.{length, take, drop, getD}
 use Rattle.model.specs.Matches.{Str, Match}
 use Rattle.model.specs.Rules.{Keeping, join, keptMatch}
-use Rattle.store.specs.declared.Bounds.{Bounds}
+use Rattle.store.specs.declared.matches.Bounds.{Bounds}
 use Rattle.store.specs.Each.{OneAt}
 use Rattle.store.specs.Layout.{BoundsOf, matchNumbers, matchesNumbers}
 use Rattle.store.specs.Put.{Put}

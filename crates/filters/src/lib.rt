@@ -18,17 +18,17 @@ pub fn filter_list(section: &[u32], keeper: Keeper, mem: &mut [u32], src: usize,
     requires { ⌜ SlotBelow (length (now mem)) src at ⌝ }
     ensures { λ r. ⌜ ((w : SlotAt (now (mem .entry)) src) → Outcome (filterList (sectionOf (now (section .entry))) (filterOf (Keep keeper)) (w .list)) (now (mem .entry)) (now (mem .exit)) at r) ⌝ }
 {
-    let n = mem[src] as usize;
+    let n = store::slot_matches(mem, src) as usize;
     let mut p = src + store::FIRST_MATCH;
     let mut q = at + store::FIRST_MATCH;
     let mut matches = 0;
     let mut i = 0;
     while i < n {
-        let length = store::match_length(mem[p]);
+        let end = store::match_end(mem, p);
         let next = writing::put_filtered(section, keeper, mem, p, q);
         matches = store::count_one(matches, q, next);
         q = next;
-        p += length;
+        p = end;
         i += 1;
     }
     store::close_slot(mem, at, q, matches)

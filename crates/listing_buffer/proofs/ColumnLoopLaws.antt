@@ -7,7 +7,7 @@ use lib.ListN.{length, getD, set}
 use lib.Seq.{sets}
 use Rattle.model.specs.Limits.{maxStrings}
 use Rattle.model.specs.Matches.{Match, stringsIn, strings}
-use Rattle.store.specs.declared.Bounds.{Bounds}
+use Rattle.store.specs.declared.matches.Bounds.{Bounds}
 use Rattle.store.specs.Layout.{BoundsOf, includesIn, excludesIn, matchLength}
 use Rattle.store.specs.Put.{Put}
 use Rattle.store.specs.Stream.{Remaining}

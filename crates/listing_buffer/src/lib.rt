@@ -65,8 +65,8 @@ pub fn put_listing(mem: &[u32], src: usize, buffer: &mut [u32])
     requires { ⌜ bufferLength ≤ length (now buffer) ⌝ }
     ensures { λ _. ⌜ ((w : SlotAt (now (mem .entry)) src) → now (buffer .exit) ≡ sets (now (buffer .entry)) 0 (listingNumbers (w .list))) ⌝ }
 {
-    let matches = mem[src];
-    let strings = mem[src + 1];
+    let matches = store::slot_matches(mem, src);
+    let strings = store::slot_strings(mem, src);
     let first = src + store::FIRST_MATCH;
     let n = matches as usize;
     let spans = 2 + n;

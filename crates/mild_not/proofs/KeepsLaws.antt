@@ -14,10 +14,10 @@ use Rattle.model.specs.declared.Position.{Position}
 use Rattle.model.specs.Rules.{covered, keptIf, mildNotList, hasUncovered}
 use Rattle.model.proofs.RulesLaws.{length-none}
 use Rattle.strings.specs.Strings.{strsAt}
-use Rattle.store.specs.declared.Bounds.{Bounds}
+use Rattle.store.specs.declared.matches.Bounds.{Bounds}
 use Rattle.store.specs.declared.Built.{Built}
 use Rattle.store.specs.Each.{OneAt}
-use Rattle.store.specs.Layout.{BoundsOf, includesIn, matchLength, matchesNumbers, slotSize}
+use Rattle.store.specs.Layout.{BoundsOf, includesIn, matchesAt, matchLength, matchesNumbers, slotSize}
 use Rattle.store.specs.Outcome.{Closed, Outcome}
 use Rattle.store.specs.Put.{Put}
 use Rattle.store.specs.Slot.{SlotHolds}
@@ -110,10 +110,10 @@ none-uncovered l e (r ∷ rs) =
     some ∙ sym within
 
 module _ {mem : List ℕ} {p n r : ℕ} {known : Candidates} (w : CandidatesAt mem p n r known) where
-  pub without-includes : {m : ℕ} {b : Bool} → m ≡ includesIn (getD mem p 0) → m ≡ 0 → b ≡ eqb (getD mem r 0) 0 → KeptIs (w .item) (w .rights) mem r (record { kept = b; candidates = known })
+  pub without-includes : {m k : ℕ} → m ≡ includesIn (getD mem p 0) → m ≡ 0 → k ≡ matchesAt mem r → KeptIs (w .item) (w .rights) mem r (record { kept = eqb k 0; candidates = known })
   without-includes e f g =
       let none = length-none (w .item .includes) (omega (arith, includes-held (w .held))) in
-      record { kept = g ∙ ap (λ n. eqb n 0) (matches-held (w .slot)) ∙ none-uncovered (w .item) none (w .rights); candidates = w .candidates }
+      record { kept = ap (λ n. eqb n 0) (g ∙ matches-held (w .slot)) ∙ none-uncovered (w .item) none (w .rights); candidates = w .candidates }
 
   module _ (some : 0 < includesIn (getD mem p 0)) {candidates : Candidates} (g : CandidatesAre (w .rights) mem r candidates) where
     abbrev pub search-at : SearchAt mem p (candidates .from) (candidates .end)
@@ -151,10 +151,10 @@ module _ (rights : List Match) {lefts : List Match} {mem₀ mem : List ℕ} {n a
         let o = item (g .going) h in
         record { item = o .item; one = record { held = o .one .held; below = o .one .below; room = kept-room } }
 
-    pub keep-next : {mem' : List ℕ} {next len matches' : ℕ} → Put mem mem' q (matchesNumbers (keptIf b (item (g .going) h .item))) next
-        → len ≡ matchLength (getD mem p 0) → matches' ≡ matches + cond (ltb q next) 1 0 → Counting (mildNot rights) lefts mem₀ n at mem' (p + len) next (i + 1) matches'
+    pub keep-next : {mem' : List ℕ} {p' next matches' : ℕ} → Put mem mem' q (matchesNumbers (keptIf b (item (g .going) h .item))) next
+        → p' ≡ p + matchLength (getD mem p 0) → matches' ≡ matches + cond (ltb q next) 1 0 → Counting (mildNot rights) lefts mem₀ n at mem' p' next (i + 1) matches'
     unfolding mildNot
-    keep-next {mem'} {next} v e' f =
+    keep-next {mem'} {next = next} v e' f =
         count-one g h (subst (λ t. Put mem mem' q (matchesNumbers (keptIf t (item (g .going) h .item))) next) e v) e' (one-at-most rights _ .matches) f
 
 -- all of L gone through, and the slot closed

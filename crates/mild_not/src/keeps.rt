@@ -58,7 +58,7 @@ pub fn is_kept(mem: &[u32], p: usize, n: usize, r: usize, known: Candidates) -> 
 {
     if store::includes_in(mem[p]) == 0 {
         return Kept {
-            kept: mem[r] == 0,
+            kept: store::slot_matches(mem, r) == 0,
             candidates: known,
         };
     }

@@ -24,7 +24,7 @@ fn put_kept(mem: &mut [u32], p: usize, q: usize, kept: bool) -> usize
     if !kept {
         return q;
     }
-    let n = store::match_length(mem[p]);
+    let n = store::match_end(mem, p) - p;
     store::copy_up(mem, p, n, q);
     q + n
 }
@@ -36,20 +36,20 @@ pub fn mild_not_list(mem: &mut [u32], l: usize, r: usize, at: usize) -> Built
     requires { ⌜ SlotBelow (length (now mem)) r at ⌝ }
     ensures { λ b. ⌜ ((w : TwoSlots (now (mem .entry)) l r) → Outcome (mildNotList (w .lefts) (w .rights)) (now (mem .entry)) (now (mem .exit)) at b) ⌝ }
 {
-    let n = mem[l] as usize;
+    let n = store::slot_matches(mem, l) as usize;
     let mut p = l + store::FIRST_MATCH;
     let mut q = at + store::FIRST_MATCH;
     let mut matches = 0;
     let mut candidates = all_of(mem, r);
     let mut i = 0;
     while i < n {
-        let length = store::match_length(mem[p]);
+        let end = store::match_end(mem, p);
         let answer = is_kept(mem, p, n - i, r, candidates);
         let next = put_kept(mem, p, q, answer.kept);
         matches = store::count_one(matches, q, next);
         candidates = answer.candidates;
         q = next;
-        p += length;
+        p = end;
         i += 1;
     }
     store::close_slot(mem, at, q, matches)

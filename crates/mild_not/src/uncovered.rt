@@ -91,17 +91,18 @@ fn skip_same_header(
         ⌜ ((w : RemainingAt (now (mem .entry)) from end)
         → SearchInvariant (fromFirst (coverBoth (p .0) (q .0)) (w .list)) (fromFirst (coverBoth (p .0) (q .0))) (now (mem .entry)) r end) ⌝ }
 {
-    // not by `bounds_by` in each turn, which made the dearest search a tenth dearer
-    let size = 2 * store::includes_in(header);
-    let length = store::match_length(header);
+    // of a match with this header, counted from its own index
+    let Bounds {
+        includes,
+        excludes,
+        end: length,
+    } = store::bounds_by(header, 0);
     let mut at = from;
     while at < end {
         if mem[at] != header {
             return at;
         }
-        let includes = at + store::FIRST_STRING;
-        let excludes = includes + size;
-        if cover_both(&mem[includes..excludes], p, q) {
+        if cover_both(&mem[at + includes..at + excludes], p, q) {
             return at;
         }
         at += length;

@@ -12,8 +12,8 @@ use Rattle.model.specs.Matches.{Match, stringsIn}
 use Rattle.model.specs.Rules.{joined, noStrings}
 use Rattle.model.proofs.RulesLaws.{weight-some, digit-less}
 use Rattle.strings.specs.Strings.{strsOf}
-use Rattle.store.specs.declared.Bounds.{Bounds}
-use Rattle.store.specs.Layout.{BoundsOf, includesIn, excludesIn}
+use Rattle.store.specs.declared.matches.Bounds.{Bounds}
+use Rattle.store.specs.Layout.{BoundsOf, includesIn, excludesIn, matchesAt}
 use Rattle.store.specs.Put.{Put}
 use Rattle.store.specs.Stream.{Remaining}
 use Rattle.store.proofs.DecodeLaws.{strings-counted}
@@ -81,9 +81,9 @@ pub record Going (list : List Match) (mem₀ : List ℕ) (n c sort at : ℕ) (me
   pub room : at + length (flatMap (sideNumbers sort) (chosen list c)) ≤ length mem₀
   pub sort-is : sort ≤ 1
 
-pub start : {mem : List ℕ} {src total c sort at : ℕ} (w : SideAt mem src total c sort at)
-    → Going (w .list) mem (getD mem src 0) c sort at mem (src + 2) at c total 0
-start {mem} {c = c} {sort} {at} w =
+pub start : {mem : List ℕ} {src total c sort at : ℕ} (w : SideAt mem src total c sort at) {n : ℕ} → n ≡ matchesAt mem src
+    → Going (w .list) mem n c sort at mem (src + 2) at c total 0
+start {mem} {c = c} {sort} {at} w e =
     let s = w .source .slot in
     record {
       todo = w .list;

@@ -16,7 +16,7 @@ use Rattle.model.specs.Matches.{Match, strings}
 use Rattle.model.specs.Rules.{notList}
 use Rattle.model.proofs.RulesLaws.{length-not, strings-not}
 use Rattle.store.specs.Built.{builtOf, sizedAs}
-use Rattle.store.specs.Layout.{includesIn, excludesIn, matchLength, slotLength}
+use Rattle.store.specs.Layout.{includesIn, excludesIn, matchesAt, matchLength, slotLength}
 use Rattle.store.specs.Slot.{SlotAt}
 use Rattle.store.specs.Stream.{SearchInvariant}
 use Rattle.store.proofs.DecodeLaws.{strings-counted}
@@ -41,8 +41,8 @@ pub record Counting (list : List Match) (mem : List ℕ) (p end total i n : ℕ)
   pub search : SearchInvariant (capped (choices list)) (λ ms. capped (total * choices ms)) mem p end
   pub count : i + length (search .todo) ≡ n
 
-pub start : {mem : List ℕ} {src : ℕ} (w : SlotAt mem src) → Counting (w .list) mem (src + 2) (src + slotLength mem src) 1 0 (getD mem src 0)
-start w =
+pub start : {mem : List ℕ} {src : ℕ} (w : SlotAt mem src) {n : ℕ} → n ≡ matchesAt mem src → Counting (w .list) mem (src + 2) (src + slotLength mem src) 1 0 n
+start w e =
     record {
       search = record { todo = w .list; left = slot-stream (w .slot) _ _ refl refl; same = ap capped (omega arith) };
       count = omega (arith, matches-held (w .slot));
@@ -75,14 +75,14 @@ module _ {list : List Match} {mem : List ℕ} {p end total i n : ℕ} (g : Count
 
 module _ {mem : List ℕ} {src matches : ℕ} (w : SlotAt mem src) (e : matches ≡ capped (choices (w .list))) where
   -- up to the limit the count is exact; above it, the list is too long
-  pub not-sized : sizedAs matches (matches * getD mem src 0) ≡ builtOf (notList (w .list))
+  pub not-sized : sizedAs matches (matches * matchesAt mem src) ≡ builtOf (notList (w .list))
   not-sized = at (leb matches maxMatches) refl
     where
-      at : (b : Bool) → leb matches maxMatches ≡ b → sizedAs matches (matches * getD mem src 0) ≡ builtOf (notList (w .list))
+      at : (b : Bool) → leb matches maxMatches ≡ b → sizedAs matches (matches * matchesAt mem src) ≡ builtOf (notList (w .list))
       at true f =
           let matches-are : length (notList (w .list)) ≡ matches = omega (arith, length-not (w .list), leb-true) in
-          let strings-are : strings (notList (w .list)) ≡ matches * getD mem src 0 =
-          strings-not (w .list) ∙ ap₂ _*_ (sym (matches-held (w .slot))) matches-are ∙ mul-comm (getD mem src 0) matches in
+          let strings-are : strings (notList (w .list)) ≡ matches * matchesAt mem src =
+          strings-not (w .list) ∙ ap₂ _*_ (sym (matches-held (w .slot))) matches-are ∙ mul-comm (matchesAt mem src) matches in
           ap₂ (λ m s. sizedAs m s) (sym matches-are) (sym strings-are)
       at false f =
           let over : maxMatches < matches = omega (arith, leb-false) in

@@ -28,7 +28,7 @@ fn put_side(mem: &mut [u32], src: usize, total: usize, c: usize, sort: u32, at: 
     ensures { λ r. ⌜ ((w : SideAt (now (mem .entry)) src total c sort at) →
         Put (now (mem .entry)) (now (mem .exit)) at (sideNumbers sort (choice (w .list) c)) r) ⌝ }
 {
-    let n = mem[src];
+    let n = store::slot_matches(mem, src);
     let mut p = src + store::FIRST_MATCH;
     let mut q = at;
     let mut rest = c;

@@ -28,7 +28,7 @@ fn count_choices(mem: &[u32], src: usize) -> u32
     requires { ⌜ SlotAt (now mem) src ⌝ }
     ensures { λ r. ⌜ ((w : SlotAt (now (mem .entry)) src) → r ≡ capped (choices (w .list))) ⌝ }
 {
-    let n = mem[src];
+    let n = store::slot_matches(mem, src);
     let mut p = src + store::FIRST_MATCH;
     let mut total = 1;
     let mut i = 0;
@@ -47,5 +47,5 @@ pub fn not_size(mem: &[u32], src: usize) -> Built
     ensures { λ r. ⌜ ((w : SlotAt (now (mem .entry)) src) → r ≡ builtOf (notList (w .list))) ⌝ }
 {
     let matches = count_choices(mem, src);
-    store::sized(matches, matches * mem[src])
+    store::sized(matches, matches * store::slot_matches(mem, src))
 }

@@ -1,4 +1,4 @@
--- And, step by step: two copies are one; the includes of two matches and then their excludes, after the sum of their headers, are the joined match; a left
+-- And, step by step: two copies are one; the includes of two matches and then their excludes, with a header before them, are the joined match; a left
 -- match joined with each right one is a row, and the rows of the left matches are the product.
 use Prim.Native.Nat.{ℕ, _+_, _-_, _*_, _≤_, _<_}
 use native.Mathlib.Omega.{arith}
@@ -10,17 +10,17 @@ use Rattle.model.specs.Matches.{Match}
 use Rattle.model.specs.Rules.{joined, andList}
 use Rattle.model.proofs.RulesLaws.{strings-joined, length-and, strings-and}
 use Rattle.strings.specs.Strings.{strsOf}
-use Rattle.store.specs.declared.Bounds.{Bounds}
+use Rattle.store.specs.declared.matches.Bounds.{Bounds}
 use Rattle.store.specs.declared.Built.the-variants.{Made}
 use Rattle.store.specs.Built.{builtOf, sizedAs}
-use Rattle.store.specs.Indices.{SlotBelow}
-use Rattle.store.specs.Layout.{BoundsOf, Holds, headerOf, matchLength, matchNumbers, matchesNumbers, slotLength, slotSize}
+use Rattle.store.specs.Indices.{ClosingMatch, SlotBelow}
+use Rattle.store.specs.Layout.{BoundsOf, Holds, headerBetween, matchesAt, stringsAt, matchLength, matchNumbers, matchesNumbers, slotLength, slotSize}
 use Rattle.store.specs.Put.{Put}
 use Rattle.store.specs.Stream.{MatchHolds}
 use Rattle.store.proofs.MemoryLaws.{holds-part}
 use Rattle.store.proofs.LayoutLaws.{strsOf-append, length-strsOf, length-match, matches-one}
-use Rattle.store.proofs.PutLaws.{put-copy, put-append, holds-below, length-put}
-use Rattle.store.proofs.DecodeLaws.{includes-held, excludes-held, length-held, includes-hold, excludes-hold, includes-length, excludes-length}
+use Rattle.store.proofs.PutLaws.{put-copy, put-append, holds-below, length-put, closing-match, closed-match}
+use Rattle.store.proofs.DecodeLaws.{length-held, includes-hold, excludes-hold, includes-length, excludes-length}
 use Rattle.store.proofs.StreamLaws.{match-below, remaining-below}
 use Rattle.store.proofs.SlotsLaws.{matches-held, strings-held, slot-stream, answer-made}
 use Rattle.store.proofs.RowsLaws.{map-flatMap}
@@ -48,76 +48,58 @@ copied-both E {a = a} {e} {b} {f} {to} h g i =
 
 -- ---- joined
 
-module _ {mem : List ℕ} {pl pr q : ℕ} (w : JoinableAt mem pl pr q) where
-  -- the sum of two headers does not carry
-  header-sum : getD mem pl 0 + getD mem pr 0 ≡ headerOf (length (w .left .includes ++ w .right .includes)) (length (w .left .excludes ++ w .right .excludes))
-  header-sum =
-      let l = w .pair .held-left in
-      let r = w .pair .held-right in
-      let includes = length-append (w .left .includes) (w .right .includes) in
-      let excludes = length-append (w .left .excludes) (w .right .excludes) in
-      omega (arith, includes-held l, excludes-held l, includes-held r, excludes-held r)
+module _ {mem : List ℕ} {pl pr q : ℕ} (w : JoinableAt mem pl pr q) {L R : Bounds} (l : BoundsOf (getD mem pl 0) pl L) (r : BoundsOf (getD mem pr 0) pr R) where
+  -- both lie below, with room there for the includes after a header
+  pub includes-fit : CopyBoth (length mem) (L .includes) (L .excludes) (R .includes) (R .excludes) (q + 1)
+  includes-fit = omega (arith, l, r, w .pair .below-left, w .pair .below-right, w .pair .room)
 
-  -- .. and fits in 32 bits
-  pub header-fits : getD mem pl 0 + getD mem pr 0 < 4294967296
-  header-fits = omega (arith, w .pair .held-left .header .few, w .pair .held-right .header .few)
+  module _ {E₁ : List ℕ} {x : ℕ}
+      (v : Put mem E₁ (q + 1) (take (L .excludes - L .includes) (drop (L .includes) mem) ++ take (R .excludes - R .includes) (drop (R .includes) mem)) x) where
+    includes-put : Put mem E₁ (q + 1) (strsOf 0 (w .left .includes ++ w .right .includes)) x
+    includes-put =
+        let hl = w .pair .held-left in
+        let hr = w .pair .held-right in
+        let a = holds-part _ (includes-length hl l) (includes-hold hl (L .includes) (l .includes)) in
+        let b = holds-part _ (includes-length hr r) (includes-hold hr (R .includes) (r .includes)) in
+        subst (λ xs. Put mem E₁ (q + 1) xs x) (ap₂ _++_ a b ∙ sym (strsOf-append 0 (w .left .includes) (w .right .includes))) v
 
-  -- the header put, then the includes of both copied after it, then the excludes of both
-  abbrev headed : List ℕ
-  headed = set mem q (getD mem pl 0 + getD mem pr 0)
+    -- the excludes lie below what is written
+    pub excludes-fit : CopyBoth (length E₁) (L .excludes) (L .end) (R .excludes) (R .end) x
+    excludes-fit =
+        omega (
+          arith,
+          l,
+          r,
+          w .pair .below-left,
+          w .pair .below-right,
+          w .pair .room,
+          includes-length (w .pair .held-left) l,
+          includes-length (w .pair .held-right) r,
+          includes-put .next-is,
+          length-put v,
+          length-strsOf 0 (w .left .includes ++ w .right .includes),
+          length-append (w .left .includes) (w .right .includes),
+          length-strsOf 0 (w .left .includes),
+          length-strsOf 0 (w .right .includes),
+        )
 
-  header-put : Put mem headed q ((getD mem pl 0 + getD mem pr 0) ∷ []) (q + 1)
-  header-put = record { wrote = refl; next-is = refl }
-
-  module _ {L R : Bounds} (l : BoundsOf (getD mem pl 0) pl L) (r : BoundsOf (getD mem pr 0) pr R) where
-    -- both lie below, with room there for the includes
-    pub includes-fit : CopyBoth (length headed) (L .includes) (L .excludes) (R .includes) (R .excludes) (q + 1)
-    includes-fit = omega (arith, l, r, w .pair .below-left, w .pair .below-right, w .pair .room, length-put header-put)
-
-    module _ {E₁ : List ℕ} {x : ℕ}
-        (v : Put headed E₁ (q + 1) (take (L .excludes - L .includes) (drop (L .includes) headed) ++ take (R .excludes - R .includes) (drop (R .includes) headed)) x) where
-      includes-put : Put headed E₁ (q + 1) (strsOf 0 (w .left .includes ++ w .right .includes)) x
-      includes-put =
+    module _ {E₂ : List ℕ} {e : ℕ} (u : Put E₁ E₂ x (take (L .end - L .excludes) (drop (L .excludes) E₁) ++ take (R .end - R .excludes) (drop (R .excludes) E₁)) e) where
+      excludes-put : Put E₁ E₂ x (strsOf 1 (w .left .excludes ++ w .right .excludes)) e
+      excludes-put =
           let hl = w .pair .held-left in
           let hr = w .pair .held-right in
-          let a = holds-part _ (includes-length hl l) (holds-below header-put (omega (arith, l, w .pair .below-left, includes-length hl l)) (includes-hold hl (L .includes) (l .includes))) in
-          let b = holds-part _ (includes-length hr r) (holds-below header-put (omega (arith, r, w .pair .below-right, includes-length hr r)) (includes-hold hr (R .includes) (r .includes))) in
-          subst (λ xs. Put headed E₁ (q + 1) xs x) (ap₂ _++_ a b ∙ sym (strsOf-append 0 (w .left .includes) (w .right .includes))) v
+          let a = holds-part _ (excludes-length hl l) (holds-below v (omega (arith, l, w .pair .below-left, excludes-length hl l)) (excludes-hold hl (L .excludes) (omega (arith, l)))) in
+          let b = holds-part _ (excludes-length hr r) (holds-below v (omega (arith, r, w .pair .below-right, excludes-length hr r)) (excludes-hold hr (R .excludes) (omega (arith, r)))) in
+          subst (λ xs. Put E₁ E₂ x xs e) (ap₂ _++_ a b ∙ sym (strsOf-append 1 (w .left .excludes) (w .right .excludes))) u
 
-      -- the excludes lie below what is written
-      pub excludes-fit : CopyBoth (length E₁) (L .excludes) (L .end) (R .excludes) (R .end) x
-      excludes-fit =
-          omega (
-            arith,
-            l,
-            r,
-            w .pair .below-left,
-            w .pair .below-right,
-            w .pair .room,
-            includes-length (w .pair .held-left) l,
-            includes-length (w .pair .held-right) r,
-            includes-put .next-is,
-            length-put v,
-            length-put header-put,
-            length-strsOf 0 (w .left .includes ++ w .right .includes),
-            length-append (w .left .includes) (w .right .includes),
-            length-strsOf 0 (w .left .includes),
-            length-strsOf 0 (w .right .includes),
-          )
+      -- a header holds both counts
+      pub joined-ends : ClosingMatch (length E₂) q x e
+      joined-ends =
+          closing-match q (joined (w .left) (w .right)) includes-put excludes-put
+          (omega (arith, strings-joined (w .left) (w .right), w .pair .held-left .few, w .pair .held-right .few)) (omega (arith, w .pair .room))
 
-      pub put-joined : {E₂ : List ℕ} {e : ℕ} → Put E₁ E₂ x (take (L .end - L .excludes) (drop (L .excludes) E₁) ++ take (R .end - R .excludes) (drop (R .excludes) E₁)) e
-          → Put mem E₂ q (matchNumbers (joined (w .left) (w .right))) e
-      unfolding matchNumbers
-      put-joined {E₂} {e} u =
-          let hl = w .pair .held-left in
-          let hr = w .pair .held-right in
-          let low-left = holds-below header-put (omega (arith, l, w .pair .below-left, excludes-length hl l)) (excludes-hold hl (L .excludes) (omega (arith, l))) in
-          let low-right = holds-below header-put (omega (arith, r, w .pair .below-right, excludes-length hr r)) (excludes-hold hr (R .excludes) (omega (arith, r))) in
-          let a = holds-part _ (excludes-length hl l) (holds-below v (omega (arith, l, w .pair .below-left, excludes-length hl l)) low-left) in
-          let b = holds-part _ (excludes-length hr r) (holds-below v (omega (arith, r, w .pair .below-right, excludes-length hr r)) low-right) in
-          let excludes-put = subst (λ xs. Put E₁ E₂ x xs e) (ap₂ _++_ a b ∙ sym (strsOf-append 1 (w .left .excludes) (w .right .excludes))) u in
-          let strs = strsOf 0 (w .left .includes ++ w .right .includes) ++ strsOf 1 (w .left .excludes ++ w .right .excludes) in
-          subst (λ h. Put mem E₂ q (h ∷ strs) e) header-sum (put-append header-put (put-append includes-put excludes-put))
+      pub put-joined : {exit : List ℕ} → exit ≡ set E₂ q (headerBetween q x e) → Put mem exit q (matchNumbers (joined (w .left) (w .right))) e
+      put-joined h = closed-match q (joined (w .left) (w .right)) includes-put excludes-put h
 
 -- ---- a row
 
@@ -152,10 +134,10 @@ module _ {left : Match} {rights : List Match} {mem₀ mem : List ℕ} {pl pr n a
         };
       }
 
-  pub row-step : (h : j < n) {mem' : List ℕ} {q' len : ℕ} → Put mem mem' q (matchNumbers (joined (row-item h .left) (row-item h .right))) q'
-      → len ≡ matchLength (getD mem p 0) → Going (joinedOne left) rights mem₀ n at mem' (p + len) q' (j + 1)
+  pub row-step : (h : j < n) {mem' : List ℕ} {p' q' : ℕ} → Put mem mem' q (matchNumbers (joined (row-item h .left) (row-item h .right))) q'
+      → p' ≡ p + matchLength (getD mem p 0) → Going (joinedOne left) rights mem₀ n at mem' p' q' (j + 1)
   unfolding row-item
-  row-step h {mem'} {q'} v e = step g h (subst (λ xs. Put mem mem' q xs q') (sym (matches-one (joined left (item g h .item)))) v) e
+  row-step h {mem'} {q' = q'} v e = step g h (subst (λ xs. Put mem mem' q xs q') (sym (matches-one (joined left (item g h .item)))) v) e
 
   pub row-finish : n ≤ j → Put mem₀ mem at (matchesNumbers (map (joined left) rights)) q
   row-finish h = subst (λ ms. Put mem₀ mem at (matchesNumbers ms) q) (sym (map-flatMap (joined left) rights)) (finish g h)
@@ -168,21 +150,21 @@ rowOf rights l = map (joined l) rights
 
 module _ {mem₀ : List ℕ} {l r : ℕ} (w : TwoSlots mem₀ l r) where
   -- its sizes by the headers of the two slots
-  pub and-sizes : sizedAs (getD mem₀ l 0 * getD mem₀ r 0) (getD mem₀ r 0 * getD mem₀ (l + 1) 0 + getD mem₀ l 0 * getD mem₀ (r + 1) 0)
-      ≡ builtOf (andList (w .lefts) (w .rights))
-  and-sizes =
-      let ml = matches-held (w .left) in
-      let mr = matches-held (w .right) in
+  pub and-sizes : {m n left right : ℕ} → m ≡ matchesAt mem₀ l → n ≡ matchesAt mem₀ r → left ≡ stringsAt mem₀ l → right ≡ stringsAt mem₀ r
+      → sizedAs (m * n) (n * left + m * right) ≡ builtOf (andList (w .lefts) (w .rights))
+  and-sizes a b c d =
+      let ml = a ∙ matches-held (w .left) in
+      let mr = b ∙ matches-held (w .right) in
       ap₂ (λ m s. sizedAs m s) (ap₂ _*_ ml mr ∙ sym (length-and (w .lefts) (w .rights)))
-      (ap₂ _+_ (ap₂ _*_ mr (strings-held (w .left))) (ap₂ _*_ ml (strings-held (w .right))) ∙ sym (strings-and (w .lefts) (w .rights)))
+      (ap₂ _+_ (ap₂ _*_ mr (c ∙ strings-held (w .left))) (ap₂ _*_ ml (d ∙ strings-held (w .right))) ∙ sym (strings-and (w .lefts) (w .rights)))
 
-  pub and-start : {m s at k : ℕ} → Made m s ≡ builtOf (andList (w .lefts) (w .rights)) → SlotBelow (length mem₀) l at → k ≡ getD mem₀ l 0
+  pub and-start : {m s at k : ℕ} → Made m s ≡ builtOf (andList (w .lefts) (w .rights)) → SlotBelow (length mem₀) l at → k ≡ matchesAt mem₀ l
       → Going (rowOf (w .rights)) (w .lefts) mem₀ k (at + 2) mem₀ (l + 2) (at + 2) 0
   unfolding andList
   and-start {k = k} e u f = start (slot-each (w .left) u (answer-made (andList (w .lefts) (w .rights)) e .small) k f)
 
   module _ {mem : List ℕ} {m at p q i : ℕ} (g : Going (rowOf (w .rights)) (w .lefts) mem₀ m at mem p q i) where
-    module _ {n : ℕ} (below : r + slotSize ≤ at) (e : n ≡ getD mem₀ r 0) (h : i < m) where
+    module _ {n : ℕ} (below : r + slotSize ≤ at) (e : n ≡ matchesAt mem₀ r) (h : i < m) where
       -- the left match in hand, and the right list
       pub and-item : RowAt mem p (r + 2) n q
       and-item =
@@ -201,8 +183,8 @@ module _ {mem₀ : List ℕ} {l r : ℕ} (w : TwoSlots mem₀ l r) where
             };
           }
 
-      pub and-step : {mem' : List ℕ} {q' len : ℕ} → Put mem mem' q (matchesNumbers (map (joined (and-item .left)) (and-item .rights))) q'
-          → len ≡ matchLength (getD mem p 0) → Going (rowOf (w .rights)) (w .lefts) mem₀ m at mem' (p + len) q' (i + 1)
+      pub and-step : {mem' : List ℕ} {p' q' : ℕ} → Put mem mem' q (matchesNumbers (map (joined (and-item .left)) (and-item .rights))) q'
+          → p' ≡ p + matchLength (getD mem p 0) → Going (rowOf (w .rights)) (w .lefts) mem₀ m at mem' p' q' (i + 1)
       unfolding and-item
       and-step v f = step g h v f
 

@@ -3,13 +3,13 @@ use Prim.Native.Nat.{ℕ, _+_, _-_, _≤_}
 use native.Mathlib.Omega.{arith}
 use mathlib.Core.Path.{_≡_, refl, sym, ap₂, _∙_, subst}
 use mathlib.Core.List.{List, [], _∷_}
-use lib.ListN.{length, take, drop, getD}
+use lib.ListN.{length, take, drop}
 use lib.Seq.{sets}
 use Rattle.model.specs.Rules.{orList}
 use Rattle.model.proofs.RulesLaws.{length-or, strings-or}
 use Rattle.store.specs.declared.Built.the-variants.{Made}
 use Rattle.store.specs.Built.{builtOf, sizedAs}
-use Rattle.store.specs.Layout.{slotLength, slotSize}
+use Rattle.store.specs.Layout.{matchesAt, stringsAt, slotLength, slotSize}
 use Rattle.store.specs.Outcome.{Outcome}
 use Rattle.store.specs.Indices.{CopyDown}
 use Rattle.store.specs.Put.{Put}
@@ -20,10 +20,11 @@ use Rattle.store.specs.Slot.{TwoSlots}
 
 module _ {mem : List ℕ} {l r : ℕ} (w : TwoSlots mem l r) where
   -- its sizes by the headers of the two slots
-  pub or-sizes : sizedAs (getD mem l 0 + getD mem r 0) (getD mem (l + 1) 0 + getD mem (r + 1) 0) ≡ builtOf (orList (w .lefts) (w .rights))
-  or-sizes =
-      ap₂ (λ m s. sizedAs m s) (ap₂ _+_ (matches-held (w .left)) (matches-held (w .right)) ∙ sym (length-or (w .lefts) (w .rights)))
-      (ap₂ _+_ (strings-held (w .left)) (strings-held (w .right)) ∙ sym (strings-or (w .lefts) (w .rights)))
+  pub or-sizes : {ml mr sl sr : ℕ} → ml ≡ matchesAt mem l → mr ≡ matchesAt mem r → sl ≡ stringsAt mem l → sr ≡ stringsAt mem r
+      → sizedAs (ml + mr) (sl + sr) ≡ builtOf (orList (w .lefts) (w .rights))
+  or-sizes a b c d =
+      ap₂ (λ m s. sizedAs m s) (ap₂ _+_ (a ∙ matches-held (w .left)) (b ∙ matches-held (w .right)) ∙ sym (length-or (w .lefts) (w .rights)))
+      (ap₂ _+_ (c ∙ strings-held (w .left)) (d ∙ strings-held (w .right)) ∙ sym (strings-or (w .lefts) (w .rights)))
 
   -- where the sums are within the limits, the right list's matches move down
   pub or-copy : {to n m s : ℕ} → Made m s ≡ builtOf (orList (w .lefts) (w .rights)) → l + slotSize ≤ r → to ≡ l + slotLength mem l → n ≡ r + slotLength mem r - (r + 2)

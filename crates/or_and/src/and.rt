@@ -26,16 +26,13 @@ fn copy_both(mem: &mut [u32], a: usize, e: usize, b: usize, f: usize, to: usize)
     middle + (f - b)
 }
 
-// "includes joined left then right, excludes likewise": puts the matches at pl and pr as one at q. Its header is the sum of theirs.
+// "includes joined left then right, excludes likewise": puts the matches at pl and pr as one at q.
 fn put_joined(mem: &mut [u32], pl: usize, pr: usize, q: usize) -> usize
     requires { ⌜ JoinableAt (now mem) pl pr q ⌝ }
     ensures { λ r. ⌜ ((w : JoinableAt (now (mem .entry)) pl pr q) → Put (now (mem .entry)) (now (mem .exit)) q (matchNumbers (joined (w .left) (w .right))) r) ⌝ }
 {
-    let left = mem[pl];
-    let right = mem[pr];
-    let l = store::bounds_by(left, pl);
-    let r = store::bounds_by(right, pr);
-    mem[q] = left + right;
+    let l = store::bounds_at(mem, pl);
+    let r = store::bounds_at(mem, pr);
     let includes = q + store::FIRST_STRING;
     let excludes = copy_both(
         mem,
@@ -45,7 +42,9 @@ fn put_joined(mem: &mut [u32], pl: usize, pr: usize, q: usize) -> usize
         r.excludes,
         includes,
     );
-    copy_both(mem, l.excludes, l.end, r.excludes, r.end, excludes)
+    let end = copy_both(mem, l.excludes, l.end, r.excludes, r.end, excludes);
+    store::close_match(mem, q, excludes, end);
+    end
 }
 
 // "for each of R": puts the match at pl joined with each of the n matches from pr on.
@@ -57,9 +56,9 @@ fn put_row(mem: &mut [u32], pl: usize, pr: usize, n: usize, at: usize) -> usize
     let mut q = at;
     let mut j = 0;
     while j < n {
-        let length = store::match_length(mem[p]);
+        let end = store::match_end(mem, p);
         q = put_joined(mem, pl, p, q);
-        p += length;
+        p = end;
         j += 1;
     }
     q
@@ -70,9 +69,11 @@ fn and_size(mem: &[u32], l: usize, r: usize) -> Built
     requires { ⌜ TwoSlots (now mem) l r ⌝ }
     ensures { λ b. ⌜ ((w : TwoSlots (now (mem .entry)) l r) → b ≡ builtOf (andList (w .lefts) (w .rights))) ⌝ }
 {
-    let m = mem[l];
-    let n = mem[r];
-    store::sized(m * n, n * mem[l + 1] + m * mem[r + 1])
+    let m = store::slot_matches(mem, l);
+    let n = store::slot_matches(mem, r);
+    let left = store::slot_strings(mem, l);
+    let right = store::slot_strings(mem, r);
+    store::sized(m * n, n * left + m * right)
 }
 
 // "for each of L": the product of the lists in the slots at l and r, in the slot at `at` above them.
@@ -86,15 +87,15 @@ pub fn and_list(mem: &mut [u32], l: usize, r: usize, at: usize) -> Built
     let Built::Made { matches, strings } = size else {
         return size;
     };
-    let m = mem[l] as usize;
-    let n = mem[r] as usize;
+    let m = store::slot_matches(mem, l) as usize;
+    let n = store::slot_matches(mem, r) as usize;
     let mut p = l + FIRST_MATCH;
     let mut q = at + FIRST_MATCH;
     let mut i = 0;
     while i < m {
-        let length = store::match_length(mem[p]);
+        let end = store::match_end(mem, p);
         q = put_row(mem, p, r + FIRST_MATCH, n, q);
-        p += length;
+        p = end;
         i += 1;
     }
     store::put_slot_header(mem, at, matches, strings);

@@ -12,7 +12,9 @@ pub fn or_list(mem: &mut [u32], l: usize, r: usize) -> Built
     requires { ⌜ l + slotSize ≤ r ⌝ }
     ensures { λ b. ⌜ ((w : TwoSlots (now (mem .entry)) l r) → Outcome (orList (w .lefts) (w .rights)) (now (mem .entry)) (now (mem .exit)) l b) ⌝ }
 {
-    let size = store::sized(mem[l] + mem[r], mem[l + 1] + mem[r + 1]);
+    let matches = store::slot_matches(mem, l) + store::slot_matches(mem, r);
+    let strings = store::slot_strings(mem, l) + store::slot_strings(mem, r);
+    let size = store::sized(matches, strings);
     let Built::Made { matches, strings } = size else {
         return size;
     };

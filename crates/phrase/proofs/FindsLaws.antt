@@ -14,11 +14,12 @@ use Rattle.model.specs.Section.{Section}
 use Rattle.model.proofs.RulesLaws.{strings-phrase}
 use Rattle.strings.specs.Strings.{strsOf}
 use Rattle.store.specs.declared.Built.the-variants.{Made, TooLong}
-use Rattle.store.specs.Layout.{headerOf, matchNumbers, matchesNumbers}
+use Rattle.store.specs.Indices.{ClosingMatch}
+use Rattle.store.specs.Layout.{headerBetween, matchNumbers, matchesNumbers}
 use Rattle.store.specs.Outcome.{Outcome}
 use Rattle.store.specs.Put.{Put}
 use Rattle.store.proofs.LayoutLaws.{length-match, matches-map}
-use Rattle.store.proofs.PutLaws.{put-match}
+use Rattle.store.proofs.PutLaws.{put-none, closing-match, closed-match}
 use Rattle.store.proofs.RowsLaws.{Rows, rows-start, rows-step, rows-finish}
 use Rattle.store.proofs.SlotsLaws.{built-made, built-long, refused, filled}
 use Rattle.phrase.specs.Starts.{startsFrom, FirstStart}
@@ -26,11 +27,21 @@ use Rattle.phrase.proofs.StartsLaws.{starts-none, starts-here}
 
 -- ---- a find in memory
 
--- its string, and its header in front
-pub put-found : (q p k rank : ℕ) {mem b : List ℕ} {header span tag next : ℕ} → span ≡ p * radix + (p + k - 1) → tag ≡ rank * 4 + 2 + 0
-    → Put mem b (q + 1) (span ∷ tag ∷ []) next → header ≡ headerOf 1 0 → Put mem (set b q header) q (matchNumbers (found rank k p)) next
-unfolding strsOf
-put-found q p k rank {mem} {b} {next = next} e f v h = put-match (found rank k p) (subst (λ xs. Put mem b (q + 1) xs next) (ap₂ (λ s t. s ∷ t ∷ []) e f) v) h
+-- its one include put, no exclude after it, and then its header
+module _ (q p k rank : ℕ) {mem b : List ℕ} {span tag next : ℕ} (e : span ≡ p * radix + (p + k - 1)) (f : tag ≡ rank * 4 + 2 + 0) (v : Put mem b (q + 1) (span ∷ tag ∷ []) next) where
+  include-put : Put mem b (q + 1) (strsOf 0 (found rank k p .includes)) next
+  unfolding strsOf
+  include-put = subst (λ xs. Put mem b (q + 1) xs next) (ap₂ (λ s t. s ∷ t ∷ []) e f) v
+
+  no-exclude-put : Put b b next (strsOf 1 (found rank k p .excludes)) next
+  unfolding strsOf
+  no-exclude-put = put-none b next
+
+  pub found-ends : q < length mem → ClosingMatch (length b) q next next
+  found-ends h = closing-match q (found rank k p) include-put no-exclude-put (omega arith) h
+
+  pub put-found : {exit : List ℕ} → exit ≡ set b q (headerBetween q next next) → Put mem exit q (matchNumbers (found rank k p)) next
+  put-found h = closed-match q (found rank k p) include-put no-exclude-put h
 
 -- ---- the list
 

@@ -86,7 +86,7 @@ fn put_found(mem: &mut [u32], q: usize, p: usize, k: usize, rank: u32) -> usize
     let span = span_of(Position(p as u32), Position(end as u32));
     let tag = tag_of(rank, true, 0);
     let next = store::put_string(mem, q + store::FIRST_STRING, span, tag);
-    mem[q] = store::header(1, 0);
+    store::close_match(mem, q, next, next);
     next
 }
 

@@ -13,7 +13,7 @@ use Rattle.model.specs.Limits.{radix, maxStrings}
 use Rattle.model.specs.Matches.{Str, Match, stringsIn}
 use Rattle.strings.specs.Strings.{strsOf, strOf, strsAt}
 use Rattle.store.specs.ValidStr.{ValidStr}
-use Rattle.store.specs.declared.Bounds.{Bounds}
+use Rattle.store.specs.declared.matches.Bounds.{Bounds}
 use Rattle.store.specs.Layout.{BoundsOf, Holds, headerOf, includesIn, excludesIn, matchLength, matchNumbers}
 use Rattle.store.specs.Stream.{Header, MatchHolds}
 use Rattle.store.proofs.MemoryLaws.{getD-head, holds-tail, holds-left, holds-right, holds-part}

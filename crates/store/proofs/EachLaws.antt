@@ -13,7 +13,7 @@ use Rattle.model.proofs.RulesLaws.{AtMostOne, strings-append}
 use Rattle.store.specs.Built.{Small}
 use Rattle.store.specs.Indices.{SlotBelow}
 use Rattle.store.specs.Each.{OneAt, Each}
-use Rattle.store.specs.Layout.{matchLength, matchesNumbers}
+use Rattle.store.specs.Layout.{matchesAt, matchLength, matchesNumbers}
 use Rattle.store.specs.Put.{Put, PutMatches}
 use Rattle.store.specs.Slot.{SlotHolds}
 use Rattle.store.specs.Stream.{Remaining}
@@ -26,7 +26,7 @@ use Rattle.store.proofs.RowsLaws.{Rows, rows-start, rows-room, rows-ste
 
 -- a rule begins with a list in a slot below its own, where what it makes of the list is within the limits
 pub slot-each : {F : Match → List Match} {mem : List ℕ} {src at : ℕ} {list : List Match} → SlotHolds mem src list → SlotBelow (length mem) src at
-    → Small (flatMap F list) → (n : ℕ) → n ≡ getD mem src 0 → Each F list mem (src + 2) n (at + 2)
+    → Small (flatMap F list) → (n : ℕ) → n ≡ matchesAt mem src → Each F list mem (src + 2) n (at + 2)
 slot-each {F} {src = src} {list = list} s u h n e =
     record {
       end = _;
@@ -67,14 +67,14 @@ module _ {F : Match → List Match} {list : List Match} {mem₀ : List ℕ} {n a
           };
         }
 
-    pub step : {mem' : List ℕ} {q' len : ℕ} → Put mem mem' q (matchesNumbers (F (item .item))) q' → len ≡ matchLength (getD mem p 0)
-        → Going F list mem₀ n at mem' (p + len) q' (i + 1)
+    pub step : {mem' : List ℕ} {p' q' : ℕ} → Put mem mem' q (matchesNumbers (F (item .item))) q' → p' ≡ p + matchLength (getD mem p 0)
+        → Going F list mem₀ n at mem' p' q' (i + 1)
     unfolding item
-    step {len = len} v e =
+    step {p' = p'} v e =
         record {
           todo = here .rest;
           end = g .end;
-          left = remaining-below v (omega (arith, g .below, g .rows .put .next-is)) (here .after (p + len) (ap (λ k. p + k) e));
+          left = remaining-below v (omega (arith, g .below, g .rows .put .next-is)) (here .after p' e);
           count = omega (arith, g .count, here .one-less);
           rows = rows-step (g .rows) (here .is) v;
           below = g .below;
@@ -105,8 +105,8 @@ module _ {F : Match → List Match} {list : List Match} {mem₀ : List ℕ} {n a
   pub count-most : matches ≤ length (flatMap F list)
   count-most = omega (arith, c .count)
 
-  pub count-step : (h : i < n) {mem' : List ℕ} {q' len matches' : ℕ} → Put mem mem' q (matchesNumbers (F (item (c .going) h .item))) q' → len ≡ matchLength (getD mem p 0)
-      → matches' ≡ matches + length (F (item (c .going) h .item)) → Counting F list mem₀ n at mem' (p + len) q' (i + 1) matches'
+  pub count-step : (h : i < n) {mem' : List ℕ} {p' q' matches' : ℕ} → Put mem mem' q (matchesNumbers (F (item (c .going) h .item))) q' → p' ≡ p + matchLength (getD mem p 0)
+      → matches' ≡ matches + length (F (item (c .going) h .item)) → Counting F list mem₀ n at mem' p' q' (i + 1) matches'
   unfolding item step flatMap
   count-step h {matches' = matches'} v e m =
       let N = here (c .going) h in
@@ -117,8 +117,8 @@ module _ {F : Match → List Match} {list : List Match} {mem₀ : List ℕ} {n a
       record { going = step (c .going) h v e; count = so-far }
 
   -- .. where one match at most is made of each: anything written is one more
-  pub count-one : (h : i < n) {mem' : List ℕ} {q' len matches' : ℕ} → Put mem mem' q (matchesNumbers (F (item (c .going) h .item))) q' → len ≡ matchLength (getD mem p 0)
-      → length (F (item (c .going) h .item)) ≤ 1 → matches' ≡ matches + cond (ltb q q') 1 0 → Counting F list mem₀ n at mem' (p + len) q' (i + 1) matches'
+  pub count-one : (h : i < n) {mem' : List ℕ} {p' q' matches' : ℕ} → Put mem mem' q (matchesNumbers (F (item (c .going) h .item))) q' → p' ≡ p + matchLength (getD mem p 0)
+      → length (F (item (c .going) h .item)) ≤ 1 → matches' ≡ matches + cond (ltb q q') 1 0 → Counting F list mem₀ n at mem' p' q' (i + 1) matches'
   count-one h v e k f = count-step h v e (f ∙ ap (λ x. matches + x) (sym (one-put (F (item (c .going) h .item)) v k)))
 
   pub count-finish : n ≤ i → PutMatches mem₀ mem at (flatMap F list) q matches

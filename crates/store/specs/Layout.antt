@@ -7,7 +7,7 @@ use lib.ListN.{length, take, drop, getD}
 use Rattle.model.specs.Limits.{radix}
 use Rattle.model.specs.Matches.{Match, strings}
 use Rattle.strings.specs.Strings.{strsOf}
-use Rattle.store.specs.declared.Bounds.{Bounds}
+use Rattle.store.specs.declared.matches.Bounds.{Bounds}
 
 -- a header, and its two counts back
 abbrev pub headerOf : ℕ → ℕ → ℕ
@@ -42,9 +42,16 @@ matchesNumbers ms = flatMap matchNumbers ms
 unfoldable pub slotNumbers : List Match → List ℕ
 slotNumbers ms = length ms ∷ strings ms ∷ matchesNumbers ms
 
--- how many numbers the list in the slot at `at` takes, by its two counts
+-- the two numbers of a slot's header: how many matches its list has, and how many strings
+abbrev pub matchesAt : List ℕ → ℕ → ℕ
+matchesAt mem at = getD mem at 0
+
+abbrev pub stringsAt : List ℕ → ℕ → ℕ
+stringsAt mem at = getD mem (at + 1) 0
+
+-- how many numbers the list in the slot at `at` takes
 abbrev pub slotLength : List ℕ → ℕ → ℕ
-slotLength mem at = 2 + getD mem at 0 + 2 * getD mem (at + 1) 0
+slotLength mem at = 2 + matchesAt mem at + 2 * stringsAt mem at
 
 -- how many strings the matches of the slot at `at` have, by their number and the index after them
 abbrev pub stringsBefore : ℕ → ℕ → ℕ → ℕ

@@ -16,7 +16,7 @@ use Rattle.strings.specs.Strings.{strsAt, strsOf}
 use Rattle.join.specs.Joined.{joined}
 use Rattle.join.proofs.JoinLaws.{end-bound, join-some, strsOf-join}
 use Rattle.store.specs.ValidStr.{ValidStr}
-use Rattle.store.specs.declared.Bounds.{Bounds}
+use Rattle.store.specs.declared.matches.Bounds.{Bounds}
 use Rattle.store.specs.Layout.{BoundsOf}
 use Rattle.store.specs.Stream.{MatchHolds}
 use Rattle.store.proofs.DecodeLaws.{includes-held, includes-within}

@@ -17,11 +17,11 @@ use Rattle.model.proofs.RulesLaws.{strings-append}
 use Rattle.join.specs.Joined.{joined}
 use Rattle.strings.specs.Strings.{strsAt}
 use Rattle.strings.proofs.StringsLaws.{Left as StringsLeft, left-next, left-none, length-strsAt}
-use Rattle.store.specs.declared.Bounds.{Bounds}
+use Rattle.store.specs.declared.matches.Bounds.{Bounds}
 use Rattle.store.specs.declared.Built.{Built}
 use Rattle.store.specs.declared.Built.the-variants.{Made, TooLong}
 use Rattle.store.specs.Built.{sizedAs, builtOf, Small}
-use Rattle.store.specs.Layout.{BoundsOf, matchLength}
+use Rattle.store.specs.Layout.{BoundsOf, matchesAt, matchLength}
 use Rattle.store.specs.Slot.{SlotHolds}
 use Rattle.store.specs.Stream.{Remaining}
 use Rattle.store.proofs.DecodeLaws.{excludes-within}
@@ -164,9 +164,9 @@ pub record Sizing (n : ℕ) (list : List Match) (mem : List ℕ) (count p matche
   pub split : flatMap (window n) list ≡ done ++ flatMap (window n) todo
   pub made : Made matches strs ≡ builtOf done
 
-pub size-start : (n : ℕ) {mem : List ℕ} {src : ℕ} {list : List Match} → SlotHolds mem src list → Sizing n list mem (getD mem src 0) (src + 2) 0 0 0
+pub size-start : (n : ℕ) {mem : List ℕ} {src : ℕ} {list : List Match} → SlotHolds mem src list → {count : ℕ} → count ≡ matchesAt mem src → Sizing n list mem count (src + 2) 0 0 0
 unfolding strings
-size-start n {mem} {src} {list} s =
+size-start n {mem} {src} {list} s e =
     record {
       todo = list;
       end = _;
@@ -207,13 +207,13 @@ module _ {n : ℕ} {list : List Match} {mem : List ℕ} {count p matches strs i 
           }
 
       module _ {built : Built} (e : built ≡ builtOf (size-item .list ++ window n (size-item .item))) where
-        pub size-next : {m s len : ℕ} → built ≡ Made m s → len ≡ matchLength (getD mem p 0) → Sizing n list mem count (p + len) m s (i + 1)
+        pub size-next : {m s p' : ℕ} → built ≡ Made m s → p' ≡ p + matchLength (getD mem p 0) → Sizing n list mem count p' m s (i + 1)
         unfolding size-item
         size-next f l =
             record {
               todo = here .rest;
               end = g .end;
-              left = here .after _ (ap (λ k. p + k) l);
+              left = here .after _ l;
               count-is = omega (arith, g .count-is, here .one-less);
               done = g .done ++ window n (here .first);
               split = split-next;

@@ -12,7 +12,7 @@ use Rattle.model.specs.Rules.{insideWindow, join, window, windowEnds, windowTo}
 use Rattle.model.proofs.ListsLaws.{length-keep, range-cons, range-empty}
 use Rattle.join.specs.Joined.{joined}
 use Rattle.strings.specs.Strings.{strsAt, strsOf}
-use Rattle.store.specs.declared.Bounds.{Bounds}
+use Rattle.store.specs.declared.matches.Bounds.{Bounds}
 use Rattle.store.specs.Each.{OneAt}
 use Rattle.store.specs.Layout.{BoundsOf, headerBetween, matchNumbers, matchesNumbers}
 use Rattle.store.specs.Indices.{ClosingMatch}

@@ -98,14 +98,14 @@ pub fn window_list(mem: &mut [u32], n: u32, src: usize, at: usize) -> Built
     let Built::Made { matches, strings } = size else {
         return size;
     };
-    let count = mem[src];
+    let count = store::slot_matches(mem, src);
     let mut p = src + store::FIRST_MATCH;
     let mut q = at + store::FIRST_MATCH;
     let mut i = 0;
     while i < count {
-        let length = store::match_length(mem[p]);
+        let end = store::match_end(mem, p);
         q = put_windows(mem, n, p, q);
-        p += length;
+        p = end;
         i += 1;
     }
     store::put_slot_header(mem, at, matches, strings);

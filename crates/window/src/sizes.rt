@@ -110,7 +110,7 @@ pub fn window_size(mem: &[u32], n: u32, src: usize) -> Built
     requires { ⌜ SlotAt (now mem) src ⌝ }
     ensures { λ r. ⌜ ((w : SlotAt (now (mem .entry)) src) → r ≡ builtOf (flatMap (window n) (w .list))) ⌝ }
 {
-    let count = mem[src];
+    let count = store::slot_matches(mem, src);
     let mut p = src + store::FIRST_MATCH;
     let mut matches = 0;
     let mut strings = 0;
@@ -126,7 +126,7 @@ pub fn window_size(mem: &[u32], n: u32, src: usize) -> Built
         };
         matches = m;
         strings = s;
-        p += store::match_length(mem[p]);
+        p = store::match_end(mem, p);
         i += 1;
     }
     Built::Made { matches, strings }

@@ -28,15 +28,12 @@ abbrev μ-loop : tie.MeasureT-loop
 
 -- the match in hand
 one : (c : tie.In-loop Inv-loop μ-loop)
-    → let a = c .before .before .before .before .before .args in
+    → let a = c .before .before .before .before .before .before .args in
     OneAt (kept (keepingOf (sectionOf (a .section .now)) (a .keeper))) (c .before .loop .mem) (c .before .loop .p) (c .before .loop .q)
-one c = item (c .before .loop .inv .2 (c .before .before .before .before .before .pre .0) .going) (c .loop-test .taken)
+one c = item (c .before .loop .inv .2 (c .before .before .before .before .before .before .pre .0) .going) (c .loop-test .taken)
 
-mul-n : tie.Need-mul-n Inv-loop μ-loop
-mul-n c = search needs
-
-slice-read-n : tie.Need-slice-read-n Inv-loop μ-loop
-slice-read-n c = search needs
+slot-matches-requires : tie.Need-slot-matches-requires Inv-loop μ-loop
+slot-matches-requires c κs = search needs
 
 cast-n : tie.Need-cast-n Inv-loop μ-loop
 cast-n c = search needs
@@ -49,17 +46,11 @@ add-q c = search needs
 
 loop-holds : tie.Need-loop-holds Inv-loop μ-loop
 loop-holds c =
-    let s = c .before .before .before in
-    (search needs, refl, λ w. count-start (slot-each (w .slot) (s .pre .1) (small-kept (keepingOf (sectionOf (s .args .section .now)) (s .args .keeper)) (w .slot)) _ refl))
+    let s = c .before .before .before .before in
+    (search needs, refl, λ w. count-start (slot-each (w .slot) (s .pre .1) (small-kept (keepingOf (sectionOf (s .args .section .now)) (s .args .keeper)) (w .slot)) _ (c .slot-matches .ensures)))
 
-mul-match-length : tie.Need-mul-match-length Inv-loop μ-loop
-mul-match-length c = omega (arith, one c .one .held .header)
-
-slice-read-match-length : tie.Need-slice-read-match-length Inv-loop μ-loop
-slice-read-match-length c = omega (arith, one (c .before) .one .held .header)
-
-match-length-requires : tie.Need-match-length-requires Inv-loop μ-loop
-match-length-requires c κs = search needs
+match-end-requires : tie.Need-match-end-requires Inv-loop μ-loop
+match-end-requires c κs = one (c .before) .one .held .header
 
 put-filtered-requires : tie.Need-put-filtered-requires Inv-loop μ-loop
 put-filtered-requires c κs = one (c .before .before .before)
@@ -67,14 +58,9 @@ put-filtered-requires c κs = one (c .before .before .before)
 count-one-requires : tie.Need-count-one-requires Inv-loop μ-loop
 count-one-requires c κs =
     let l = c .before .before .before .before .before .before .before in
-    let s = l .before .before .before .before in
+    let s = l .before .before .before .before .before in
     let w = s .pre .0 in
     omega (arith, count-most (l .loop .inv .2 w), small-kept (keepingOf (sectionOf (s .args .section .now)) (s .args .keeper)) (w .slot))
-
-add-p-2 : tie.Need-add-p-2 Inv-loop μ-loop
-add-p-2 c =
-    let k = c .before .before .before .before .before in
-    omega (arith, one (k .before .before) .one .held .header, k .match-length .ensures)
 
 add-i : tie.Need-add-i Inv-loop μ-loop
 add-i c = search needs
@@ -91,13 +77,13 @@ loop-again c =
       search needs,
       search needs,
       λ w. count-one (g w) (l .loop-test .taken) (r .put-filtered .ensures (item (g w .going) (l .loop-test .taken)))
-          (k .match-length .ensures) (size-kept _ _ .matches) (c .count-one .ensures),
+          (k .match-end .ensures) (size-kept _ _ .matches) (c .count-one .ensures),
     )
 
 close-slot-requires : tie.Need-close-slot-requires Inv-loop μ-loop
 close-slot-requires c κs =
     let l = c .before .before in
-    let s = l .before .before .before .before in
+    let s = l .before .before .before .before .before in
     let w = s .pre .0 in
     let small = small-kept (keepingOf (sectionOf (s .args .section .now)) (s .args .keeper)) (w .slot) in
     closing small (count-finish (l .loop .inv .2 w) (c .before .loop-test .left)) (s .pre .1 .room)
@@ -108,7 +94,7 @@ same-length c = search needs
 returns : tie.Need-returns Inv-loop μ-loop
 returns c w =
     let l = c .before .before .before .before in
-    let s = l .before .before .before .before .before in
+    let s = l .before .before .before .before .before .before in
     let S = sectionOf (s .args .section .now) in
     rw (← keeper-list S (s .args .keeper) (w .list))
     (closed (small-kept (keepingOf S (s .args .keeper)) (w .slot)) (count-finish (l .before .loop .inv .2 w) (l .loop-test .left)) (c .before .before .close-slot .ensures))
@@ -119,18 +105,14 @@ filter-list-spec =
     (tie.spec
     Inv-loop
     μ-loop
-    mul-n
-    slice-read-n
+    slot-matches-requires
     cast-n
     add-p
     add-q
     loop-holds
-    mul-match-length
-    slice-read-match-length
-    match-length-requires
+    match-end-requires
     put-filtered-requires
     count-one-requires
-    add-p-2
     add-i
     loop-less
     loop-again

@@ -4,7 +4,7 @@ use native.Mathlib.Omega.{arith}
 use mathlib.Core.Path.{_∙_}
 use lib.ListN.{length, length-set}
 use Rattle.model.specs.Limits.{bufferLength}
-use Rattle.listing_buffer.proofs.ListingLaws.{counts-given, column-given, listed}
+use Rattle.listing_buffer.proofs.ListingLaws.{CountsAre, counts-given, column-given, listed}
 use borrow.Author.Needs.{needs}
 use Rattle.listing_buffer.proofs.put_listing.Statement.{statement}
 use Rattle.listing_buffer.proofs.put_listing.Tie as tie
@@ -16,20 +16,15 @@ long c = omega (arith, simp length-set at (c .put-counts .kept .1 .1 .1 .0))
 longer : (c : tie.After-put-column) → bufferLength ≤ length (c .put-column .last .1 .1 .1 .1 .0)
 longer c = omega (arith, long (c .before .before .before .before), c .put-column .kept .1 .1 .1 .1 .0)
 
-mul-matches : tie.Need-mul-matches
-mul-matches c = search needs
+-- the two counts
+counts : (c : tie.After-slot-strings) → CountsAre (c .before .before .before .before .args .mem .now) (c .before .before .before .before .args .src) (c .before .slot-matches .result) (c .slot-strings .result)
+counts c = record { matches-are = c .before .slot-matches .ensures; strings-are = c .slot-strings .ensures }
 
-shared-slice-read-matches : tie.Need-shared-slice-read-matches
-shared-slice-read-matches c = search needs
+slot-matches-requires : tie.Need-slot-matches-requires
+slot-matches-requires c κs = search needs
 
-add-strings : tie.Need-add-strings
-add-strings c = search needs
-
-mul-strings : tie.Need-mul-strings
-mul-strings c = search needs
-
-shared-slice-read-strings : tie.Need-shared-slice-read-strings
-shared-slice-read-strings c = search needs
+slot-strings-requires : tie.Need-slot-strings-requires
+slot-strings-requires c κs = search needs
 
 add-first : tie.Need-add-first
 add-first c = search needs
@@ -53,18 +48,13 @@ slice-write-buffer-2 : tie.Need-slice-write-buffer-2
 slice-write-buffer-2 c = simp length-set (omega arith)
 
 put-counts-requires : tie.Need-put-counts-requires
-put-counts-requires c κs = (counts-given (c .before .before .before .before .before .pre .0 .slot), simp length-set (omega arith))
+put-counts-requires c κs = (counts-given (c .before .before .before .before .before .pre .0 .slot) (counts (c .before)), simp length-set (omega arith))
 
 put-column-requires : tie.Need-put-column-requires
-put-column-requires c κs =
-    let k = c .before .before .before in
-    (column-given (k .before .before .before .before .before .before .pre .0 .slot) _ (omega arith) (long k), omega arith)
+put-column-requires c κs = (column-given (c .before .before .before .before .before .before .before .before .before .pre .0 .slot) (counts (c .before .before .before .before .before)) _ (omega arith) (long (c .before .before .before)), omega arith)
 
 put-column-requires-2 : tie.Need-put-column-requires-2
-put-column-requires-2 c κs =
-    let p = c .before .before .before in
-    let k = p .before .before .before .before in
-    (column-given (k .before .before .before .before .before .before .pre .0 .slot) _ (omega arith) (longer p), omega arith)
+put-column-requires-2 c κs = (column-given (c .before .before .before .before .before .before .before .before .before .before .before .before .before .pre .0 .slot) (counts (c .before .before .before .before .before .before .before .before .before)) _ (omega arith) (longer (c .before .before .before)), omega arith)
 
 same-length : tie.Need-same-length
 same-length c =
@@ -74,20 +64,19 @@ same-length c =
 
 returns : tie.Need-returns
 returns c w =
+    let s = w .slot in
+    let k = counts (c .before .before .before .before .before .before .before .before .before .before .before .before) in
     let p = c .before .before .before .before .before .before in
-    let q = p .before .before .before .before in
-    listed (w .slot) _ (q .put-counts .ensures (counts-given (w .slot))) (p .put-column .ensures (column-given (w .slot) _ (omega arith) (long q)))
-    (c .before .before .put-column2 .ensures (column-given (w .slot) _ (omega arith) (longer p)))
+    let q = c .before .before .before .before .before .before .before .before .before .before in
+    listed s k _ (q .put-counts .ensures (counts-given s k)) (p .put-column .ensures (column-given s k _ (omega arith) (long q)))
+    (c .before .before .put-column2 .ensures (column-given s k _ (omega arith) (longer p)))
 
 pub put-listing-spec : {M : Type 1} → statement M
 put-listing-spec =
     tie.close
     (tie.spec
-    mul-matches
-    shared-slice-read-matches
-    add-strings
-    mul-strings
-    shared-slice-read-strings
+    slot-matches-requires
+    slot-strings-requires
     add-first
     cast-n
     add-spans

@@ -3,7 +3,7 @@
 use Prim.Native.Nat.{_+_, _-_, _≤_}
 use native.Mathlib.Omega.{arith}
 use mathlib.Core.Path.{_≡_, refl}
-use lib.ListN.{getD, length}
+use lib.ListN.{length}
 use Rattle.store.specs.Slot.{TwoSlots}
 use Rattle.store.proofs.EachLaws.{Counting, slot-each, count-start, count-most, count-finish}
 use Rattle.store.proofs.SlotsLaws.{closing}
@@ -26,17 +26,14 @@ abbrev μ-loop : tie.MeasureT-loop
 
 -- the match of L in hand, with what is known of R
 abbrev one : (c : tie.In-loop Inv-loop μ-loop)
-    → CandidatesAt (c .before .loop .mem) (c .before .loop .p) (getD (c .before .before .before .before .before .before .args .mem .now) (c .before .before .before .before .before .before .args .l) 0 - c .before .loop .i) (c .before .before .before .before .before .before .args .r) (c .before .loop .candidates)
+    → CandidatesAt (c .before .loop .mem) (c .before .loop .p) (c .before .before .before .before .slot-matches .result - c .before .loop .i) (c .before .before .before .before .before .before .before .args .r) (c .before .loop .candidates)
 one c =
-    let w = c .before .before .before .before .before .before .pre .0 in
+    let w = c .before .before .before .before .before .before .before .pre .0 in
     let g = c .before .loop .inv .2 w in
-    answer-at (w .rights) (g .0) (c .loop-test .taken) (w .right) (omega (arith, c .before .before .before .before .before .before .pre .1 .1 .below)) (g .1) refl
+    answer-at (w .rights) (g .0) (c .loop-test .taken) (w .right) (omega (arith, c .before .before .before .before .before .before .before .pre .1 .1 .below)) (g .1) refl
 
-mul-n : tie.Need-mul-n Inv-loop μ-loop
-mul-n c = search needs
-
-slice-read-n : tie.Need-slice-read-n Inv-loop μ-loop
-slice-read-n c = search needs
+slot-matches-requires : tie.Need-slot-matches-requires Inv-loop μ-loop
+slot-matches-requires c κs = search needs
 
 cast-n : tie.Need-cast-n Inv-loop μ-loop
 cast-n c = search needs
@@ -48,26 +45,20 @@ add-q : tie.Need-add-q Inv-loop μ-loop
 add-q c = search needs
 
 all-of-requires : tie.Need-all-of-requires Inv-loop μ-loop
-all-of-requires c κs = record { list = c .before .before .before .pre .0 .rights; slot = c .before .before .before .pre .0 .right }
+all-of-requires c κs = record { list = c .before .before .before .before .pre .0 .rights; slot = c .before .before .before .before .pre .0 .right }
 
 loop-holds : tie.Need-loop-holds Inv-loop μ-loop
 loop-holds c = (
   search needs,
   refl,
   λ w. (
-    count-start (slot-each (w .left) (c .before .before .before .before .pre .1 .0) (mildNot-small (w .rights) (w .left)) _ refl),
+    count-start (slot-each (w .left) (c .before .before .before .before .before .pre .1 .0) (mildNot-small (w .rights) (w .left)) _ (c .before .before .slot-matches .ensures)),
     c .all-of .ensures (record { list = w .rights; slot = w .right }),
   ),
 )
 
-mul-match-length : tie.Need-mul-match-length Inv-loop μ-loop
-mul-match-length c = omega (arith, one (c) .held .header)
-
-slice-read-match-length : tie.Need-slice-read-match-length Inv-loop μ-loop
-slice-read-match-length c = omega (arith, one (c .before) .held .header)
-
-match-length-requires : tie.Need-match-length-requires Inv-loop μ-loop
-match-length-requires c κs = search needs
+match-end-requires : tie.Need-match-end-requires Inv-loop μ-loop
+match-end-requires c κs = one (c .before) .held .header
 
 sub-is-kept : tie.Need-sub-is-kept Inv-loop μ-loop
 sub-is-kept c = search needs
@@ -77,19 +68,16 @@ is-kept-requires c κs = one (c .before .before .before)
 
 put-kept-requires : tie.Need-put-kept-requires Inv-loop μ-loop
 put-kept-requires c κs =
-    let w = c .before .before .before .before .before .before .before .before .before .before .before .pre .0 in
+    let w = c .before .before .before .before .before .before .before .before .before .before .before .before .pre .0 in
     kept-at (w .rights) (c .before .before .before .before .before .before .loop .inv .2 w .0) (c .before .before .before .before .before .loop-test .taken) (c .before .is-kept .ensures (one (c .before .before .before .before .before)) .kept)
 
 count-one-requires : tie.Need-count-one-requires Inv-loop μ-loop
 count-one-requires c κs =
-    let w = c .before .before .before .before .before .before .before .before .before .before .before .before .before .before .pre .0 in
+    let w = c .before .before .before .before .before .before .before .before .before .before .before .before .before .before .before .pre .0 in
     omega (arith, count-most (c .before .before .before .before .before .before .before .before .before .loop .inv .2 w .0), mildNot-small (w .rights) (w .left))
 
-add-p-2 : tie.Need-add-p-2 Inv-loop μ-loop
-add-p-2 c = omega (arith, one (c .before .before .before .before .before .before .before .before .before .before) .held .header, c .before .before .before .before .before .before .before .before .match-length .ensures)
-
 add-i : tie.Need-add-i Inv-loop μ-loop
-add-i c = omega (arith, c .before .before .before .before .before .before .before .before .before .before .loop-test .taken, c .before .before .before .before .before .before .before .before .before .before .before .before .before .before .before .before .pre .0 .left .header)
+add-i c = omega (arith, c .before .before .before .before .before .before .before .before .before .before .loop-test .taken, c .before .before .before .before .before .before .before .before .before .before .before .before .before .before .before .before .before .pre .0 .left .header)
 
 loop-less : tie.Need-loop-less Inv-loop μ-loop
 loop-less c = search needs
@@ -97,22 +85,22 @@ loop-less c = search needs
 loop-again : tie.Need-loop-again Inv-loop μ-loop
 loop-again c =
     let t = c .before .before .before .before .before .before .before .before .before .before in
-    let low = c .before .before .before .before .before .before .before .before .before .before .before .before .before .before .before .before .pre .1 .1 .below in (
+    let low = c .before .before .before .before .before .before .before .before .before .before .before .before .before .before .before .before .before .pre .1 .1 .below in (
       search needs,
       search needs,
       λ w.
           let g = t .before .loop .inv .2 w in
           let answer = c .before .before .before .before .before .before .is-kept .ensures (answer-at (w .rights) (g .0) (t .loop-test .taken) (w .right) (omega arith) (g .1) refl) in
           let put = c .before .before .before .before .put-kept .ensures (kept-at (w .rights) (g .0) (t .loop-test .taken) (answer .kept)) in (
-            keep-next (w .rights) (g .0) (t .loop-test .taken) (answer .kept) put (c .before .before .before .before .before .before .before .before .match-length .ensures) (c .before .count-one .ensures),
+            keep-next (w .rights) (g .0) (t .loop-test .taken) (answer .kept) put (c .before .before .before .before .before .before .before .before .match-end .ensures) (c .before .count-one .ensures),
             candidates-below put (omega (arith, low, g .0 .going .rows .put .next-is)) (answer .candidates),
           ),
     )
 
 close-slot-requires : tie.Need-close-slot-requires Inv-loop μ-loop
 close-slot-requires c κs =
-    let w = c .before .before .before .before .before .before .before .pre .0 in
-    closing (mildNot-small (w .rights) (w .left)) (count-finish (c .before .before .loop .inv .2 w .0) (c .before .loop-test .left)) (c .before .before .before .before .before .before .before .pre .1 .0 .room)
+    let w = c .before .before .before .before .before .before .before .before .pre .0 in
+    closing (mildNot-small (w .rights) (w .left)) (count-finish (c .before .before .loop .inv .2 w .0) (c .before .loop-test .left)) (c .before .before .before .before .before .before .before .before .pre .1 .0 .room)
 
 same-length : tie.Need-same-length Inv-loop μ-loop
 same-length c = search needs
@@ -126,21 +114,17 @@ mild-not-list-spec =
     (tie.spec
     Inv-loop
     μ-loop
-    mul-n
-    slice-read-n
+    slot-matches-requires
     cast-n
     add-p
     add-q
     all-of-requires
     loop-holds
-    mul-match-length
-    slice-read-match-length
-    match-length-requires
+    match-end-requires
     sub-is-kept
     is-kept-requires
     put-kept-requires
     count-one-requires
-    add-p-2
     add-i
     loop-less
     loop-again

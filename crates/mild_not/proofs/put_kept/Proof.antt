@@ -9,14 +9,11 @@ use Rattle.store.proofs.PutLaws.{length-kept, put-copied, put-kept, put-dropped
 returns : tie.Need-returns
 returns c w = put-dropped {test = c .before .before .args .kept} (w .item) _ _ (not-true _ (c .if1 .taken))
 
-mul-match-length : tie.Need-mul-match-length
-mul-match-length c = search needs
+match-end-requires : tie.Need-match-end-requires
+match-end-requires c κs = search needs
 
-slice-read-match-length : tie.Need-slice-read-match-length
-slice-read-match-length c = search needs
-
-match-length-requires : tie.Need-match-length-requires
-match-length-requires c κs = search needs
+sub-n : tie.Need-sub-n
+sub-n c = search needs
 
 copy-up-requires : tie.Need-copy-up-requires
 copy-up-requires c κs =
@@ -34,16 +31,15 @@ returns-2 : tie.Need-returns-2
 returns-2 c w =
     let k = c .before .before .before .before in
     let e = k .before .before in
-    put-kept {test = e .before .before .args .kept} (w .item) (not-false _ (e .if1 .left)) (put-copied _ _ (w .one .held) (k .match-length .ensures) (c .before .before .copy-up .ensures))
+    put-kept {test = e .before .before .args .kept} (w .item) (not-false _ (e .if1 .left)) (put-copied _ _ (w .one .held) (omega (arith, k .match-end .ensures)) (c .before .before .copy-up .ensures))
 
 pub put-kept-spec : {M : Type 1} → statement M
 put-kept-spec =
     tie.close
     (tie.spec
     returns
-    mul-match-length
-    slice-read-match-length
-    match-length-requires
+    match-end-requires
+    sub-n
     copy-up-requires
     add-result
     same-length

@@ -21,8 +21,8 @@ abbrev μ-loop : tie.MeasureT-loop
 μ-loop mem₀ n src at size matches strings count p₀ q₀ i₀ mem p q i = count - i
 
 -- the match in hand
-here : (c : tie.In-loop Inv-loop μ-loop) → OneAt (window (c .before .before .before .before .before .before .before .before .before .args .n)) (c .before .loop .mem) (c .before .loop .p) (c .before .loop .q)
-here c = item (c .before .loop .inv .2 (c .before .before .before .before .before .before .before .before .before .pre .1 .0)) (c .loop-test .taken)
+here : (c : tie.In-loop Inv-loop μ-loop) → OneAt (window (c .before .before .before .before .before .before .before .before .before .before .args .n)) (c .before .loop .mem) (c .before .loop .p) (c .before .loop .q)
+here c = item (c .before .loop .inv .2 (c .before .before .before .before .before .before .before .before .before .before .pre .1 .0)) (c .loop-test .taken)
 
 window-size-requires : tie.Need-window-size-requires Inv-loop μ-loop
 window-size-requires c κs = search needs
@@ -39,11 +39,8 @@ same-length c = search needs
 returns : tie.Need-returns Inv-loop μ-loop
 returns c w = refused (c .before .before .window-size .ensures w) (c .enum-told .given .1)
 
-mul-count : tie.Need-mul-count Inv-loop μ-loop
-mul-count c = search needs
-
-slice-read-count : tie.Need-slice-read-count Inv-loop μ-loop
-slice-read-count c = search needs
+slot-matches-requires : tie.Need-slot-matches-requires Inv-loop μ-loop
+slot-matches-requires c κs = search needs
 
 add-p : tie.Need-add-p Inv-loop μ-loop
 add-p c = search needs
@@ -53,29 +50,18 @@ add-q c = search needs
 
 loop-holds : tie.Need-loop-holds Inv-loop μ-loop
 loop-holds c =
-    let k = c .before .before in
+    let k = c .before .before .before in
     let s = k .before .before in
     let under = s .before .before .before .pre .1 .1 in
-    (search needs, refl, λ w. start (slot-each (w .slot) under (answer-made _ (sym (k .size .given .1) ∙ s .window-size .ensures w) .small) _ refl))
+    (search needs, refl, λ w. start (slot-each (w .slot) under (answer-made _ (sym (k .size .given .1) ∙ s .window-size .ensures w) .small) _ (c .slot-matches .ensures)))
 
-mul-match-length : tie.Need-mul-match-length Inv-loop μ-loop
-mul-match-length c = omega (arith, here c .one .held .header)
-
-slice-read-match-length : tie.Need-slice-read-match-length Inv-loop μ-loop
-slice-read-match-length c = omega (arith, here (c .before) .one .held .header)
-
-match-length-requires : tie.Need-match-length-requires Inv-loop μ-loop
-match-length-requires c κs = search needs
+match-end-requires : tie.Need-match-end-requires Inv-loop μ-loop
+match-end-requires c κs = here (c .before) .one .held .header
 
 put-windows-requires : tie.Need-put-windows-requires Inv-loop μ-loop
 put-windows-requires c κs =
     let t = c .before .before .before in
-    (t .before .before .before .before .before .before .before .before .before .pre .0, here t)
-
-add-p-2 : tie.Need-add-p-2 Inv-loop μ-loop
-add-p-2 c =
-    let l = c .before .before .before .before in
-    omega (arith, here (l .before .before) .one .held .header, l .match-length .ensures)
+    (t .before .before .before .before .before .before .before .before .before .before .pre .0, here t)
 
 add-i : tie.Need-add-i Inv-loop μ-loop
 add-i c = search needs
@@ -92,7 +78,7 @@ loop-again c =
       search needs,
       λ w.
           let g = t .before .loop .inv .2 w in
-          step g (t .loop-test .taken) (k .put-windows .ensures (item g (t .loop-test .taken))) (l .match-length .ensures),
+          step g (t .loop-test .taken) (k .put-windows .ensures (item g (t .loop-test .taken))) (l .match-end .ensures),
     )
 
 put-slot-header-requires : tie.Need-put-slot-header-requires Inv-loop μ-loop
@@ -105,7 +91,7 @@ returns-2 : tie.Need-returns-2 Inv-loop μ-loop
 returns-2 c w =
     let h = c .before .before in
     let l = h .before .before in
-    let k = l .before .before .before .before in
+    let k = l .before .before .before .before .before in
     filled (sym (k .size .given .1) ∙ k .before .before .window-size .ensures w) (finish (l .before .loop .inv .2 w) (l .loop-test .left)) (h .put-slot-header .ensures)
 
 pub window-list-spec : {M : Type 1} → statement M
@@ -119,16 +105,12 @@ window-list-spec =
     enum-told
     same-length
     returns
-    mul-count
-    slice-read-count
+    slot-matches-requires
     add-p
     add-q
     loop-holds
-    mul-match-length
-    slice-read-match-length
-    match-length-requires
+    match-end-requires
     put-windows-requires
-    add-p-2
     add-i
     loop-less
     loop-again

@@ -27,17 +27,8 @@ returns c w = let t = c .before in widening-enough (t .before .loop .inv .1 w) (
 with-match-requires : tie.Need-with-match-requires Inv-loop μ-loop
 with-match-requires c κs = one (c .before)
 
-mul-match-length : tie.Need-mul-match-length Inv-loop μ-loop
-mul-match-length c = omega (arith, one (c .before .before) .held .header)
-
-shared-slice-read-match-length : tie.Need-shared-slice-read-match-length Inv-loop μ-loop
-shared-slice-read-match-length c = omega (arith, one (c .before .before .before) .held .header)
-
-match-length-requires : tie.Need-match-length-requires Inv-loop μ-loop
-match-length-requires c κs = search needs
-
-add-at : tie.Need-add-at Inv-loop μ-loop
-add-at c = omega (arith, one (c .before .before .before .before) .held .header, c .match-length .ensures)
+match-end-requires : tie.Need-match-end-requires Inv-loop μ-loop
+match-end-requires c κs = one (c .before .before) .held .header
 
 add-i : tie.Need-add-i Inv-loop μ-loop
 add-i c = search needs
@@ -47,14 +38,14 @@ loop-less c = search needs
 
 loop-again : tie.Need-loop-again Inv-loop μ-loop
 loop-again c =
-    let m = c .before .before in
+    let m = c .before in
     let e = m .before in
     let t = e .before in
     let l = t .before .loop in (
       omega arith,
       λ w.
           let g = l .inv .1 w in
-          widening-next g (t .loop-test .taken) (e .if1 .left) (m .with-match .ensures (widening-at g (t .loop-test .taken))) (c .match-length .ensures),
+          widening-next g (t .loop-test .taken) (e .if1 .left) (m .with-match .ensures (widening-at g (t .loop-test .taken))) (c .match-end .ensures),
     )
 
 returns-2 : tie.Need-returns-2 Inv-loop μ-loop
@@ -69,10 +60,7 @@ ranges-ahead-spec =
     loop-holds
     returns
     with-match-requires
-    mul-match-length
-    shared-slice-read-match-length
-    match-length-requires
-    add-at
+    match-end-requires
     add-i
     loop-less
     loop-again

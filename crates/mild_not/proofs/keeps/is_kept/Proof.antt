@@ -1,7 +1,6 @@
 -- Without includes it has no uncovered position. Else the part of R decides as all of R does.
 use Rattle.mild_not.proofs.KeepsLaws.{without-includes, search-at, by-search}
 use borrow.Author.Needs.{needs}
-use mathlib.Core.Path.{refl}
 use Prim.Native.Nat.{_<_}
 use native.Mathlib.Omega.{arith}
 use lib.ListN.{getD}
@@ -18,14 +17,11 @@ shared-slice-read-includes-in c = search needs
 includes-in-requires : tie.Need-includes-in-requires
 includes-in-requires c κs = search needs
 
-mul-t13 : tie.Need-mul-t13
-mul-t13 c = search needs
-
-shared-slice-read-t15 : tie.Need-shared-slice-read-t15
-shared-slice-read-t15 c = search needs
+slot-matches-requires : tie.Need-slot-matches-requires
+slot-matches-requires c κs = search needs
 
 returns : tie.Need-returns
-returns c w = without-includes w (c .before .before .includes-in .ensures) (c .before .if1 .taken) refl
+returns c w = without-includes w (c .before .before .includes-in .ensures) (c .before .if1 .taken) (c .slot-matches .ensures)
 
 candidates-for-requires : tie.Need-candidates-for-requires
 candidates-for-requires c κs =
@@ -53,8 +49,7 @@ is-kept-spec =
     mul-includes-in
     shared-slice-read-includes-in
     includes-in-requires
-    mul-t13
-    shared-slice-read-t15
+    slot-matches-requires
     returns
     candidates-for-requires
     search-requires

@@ -1,5 +1,5 @@
 -- Invariant: what is left from `at` on decides from where on both positions are covered. Measure: the numbers left. All matches skipped have one header.
-use Prim.Native.Nat.{_+_, _-_, _*_, _≤_}
+use Prim.Native.Nat.{_+_, _-_, _≤_}
 use native.Mathlib.Omega.{arith}
 use lib.ListN.{getD}
 use Rattle.store.specs.Layout.{BoundsOf}
@@ -14,38 +14,32 @@ use Rattle.mild_not.proofs.uncovered.skip_same_header.Statement.{statem
 use Rattle.mild_not.proofs.uncovered.skip_same_header.Tie as tie
 
 abbrev Inv-loop : tie.InvT-loop
-Inv-loop mem from end header p q size length at₀ at =
+Inv-loop mem from end header p q includes excludes length at₀ at =
     (from ≤ at)
     × ((w : RemainingAt mem from end) → SearchInvariant (fromFirst (coverBoth (p .0) (q .0)) (w .list)) (fromFirst (coverBoth (p .0) (q .0))) mem at end)
 
 abbrev μ-loop : tie.MeasureT-loop
-μ-loop mem from end header p q size length at₀ at = end - at
+μ-loop mem from end header p q includes excludes length at₀ at = end - at
 
 -- the header of the match in hand
-one : (c : tie.In-loop Inv-loop μ-loop) → Header (c .before .before .before .before .before .args .mem .now) (c .before .loop .at)
-one c = next-at (c .before .loop .inv .1 (c .before .before .before .before .before .pre) .left) (c .loop-test .taken) .held .header
+one : (c : tie.In-loop Inv-loop μ-loop) → Header (c .before .before .before .before .args .mem .now) (c .before .loop .at)
+one c = next-at (c .before .loop .inv .1 (c .before .before .before .before .pre) .left) (c .loop-test .taken) .held .header
 
 -- and its bounds, since its header is the one given
 own : (c : tie.Else1 Inv-loop μ-loop)
     → let at = c .before .before .before .loop .at in
-    BoundsOf (getD (c .before .before .before .before .before .before .before .args .mem .now) at 0) at
-    (record { includes = at + 1; excludes = at + 1 + 2 * c .before .before .before .before .before .includes-in .result; end = at + c .before .before .before .before .match-length .result })
-own c = omega (arith, c .if1 .left, c .before .before .before .before .before .includes-in .ensures, c .before .before .before .before .match-length .ensures)
+    let b = c .before .before .before .before .bounds-by .result in
+    BoundsOf (getD (c .before .before .before .before .before .before .args .mem .now) at 0) at (record { includes = at + b .includes; excludes = at + b .excludes; end = at + b .end })
+own c = omega (arith, c .if1 .left, c .before .before .before .before .bounds-by .ensures)
 
-includes-in-requires : tie.Need-includes-in-requires Inv-loop μ-loop
-includes-in-requires c κs = search needs
-
-mul-size : tie.Need-mul-size Inv-loop μ-loop
-mul-size c = search needs
-
-match-length-requires : tie.Need-match-length-requires Inv-loop μ-loop
-match-length-requires c κs = search needs
+bounds-by-requires : tie.Need-bounds-by-requires Inv-loop μ-loop
+bounds-by-requires c κs = search needs
 
 loop-holds : tie.Need-loop-holds Inv-loop μ-loop
 loop-holds c = (omega arith, λ w. search-start _ (w .stream))
 
 mul-if1 : tie.Need-mul-if1 Inv-loop μ-loop
-mul-if1 c = omega (arith, one (c))
+mul-if1 c = omega (arith, one c)
 
 shared-slice-read-if1 : tie.Need-shared-slice-read-if1 Inv-loop μ-loop
 shared-slice-read-if1 c = omega (arith, one (c .before))
@@ -53,26 +47,26 @@ shared-slice-read-if1 c = omega (arith, one (c .before))
 returns : tie.Need-returns Inv-loop μ-loop
 returns c = c .before .before .before .loop .inv
 
-add-includes : tie.Need-add-includes Inv-loop μ-loop
-add-includes c = omega (arith, one (c .before .before))
+add-cover-both : tie.Need-add-cover-both Inv-loop μ-loop
+add-cover-both c = omega (arith, one (c .before .before), own c)
 
-add-excludes : tie.Need-add-excludes Inv-loop μ-loop
-add-excludes c = omega (arith, one (c .before .before), own (c))
+add-cover-both-2 : tie.Need-add-cover-both-2 Inv-loop μ-loop
+add-cover-both-2 c = omega (arith, one (c .before .before), own c)
 
 mul-cover-both : tie.Need-mul-cover-both Inv-loop μ-loop
-mul-cover-both c = omega (arith, one (c .before .before), own (c))
+mul-cover-both c = omega (arith, one (c .before .before), own c)
 
 sub-cover-both : tie.Need-sub-cover-both Inv-loop μ-loop
-sub-cover-both c = omega (arith, one (c .before .before), own (c))
+sub-cover-both c = omega (arith, one (c .before .before), own c)
 
 part-cover-both-start : tie.Need-part-cover-both-start Inv-loop μ-loop
-part-cover-both-start c = omega (arith, one (c .before .before), own (c))
+part-cover-both-start c = omega (arith, one (c .before .before), own c)
 
 part-cover-both-end : tie.Need-part-cover-both-end Inv-loop μ-loop
-part-cover-both-end c = omega (arith, one (c .before .before), own (c))
+part-cover-both-end c = omega (arith, one (c .before .before), own c)
 
 cover-both-requires : tie.Need-cover-both-requires Inv-loop μ-loop
-cover-both-requires c κs = valid-within (next-at (c .before .before .before .before .loop .inv .1 (c .before .before .before .before .before .before .before .before .pre) .left) (c .before .before .before .loop-test .taken) .held) (own (c .before))
+cover-both-requires c κs = valid-within (next-at (c .before .before .before .before .loop .inv .1 (c .before .before .before .before .before .before .before .pre) .left) (c .before .before .before .loop-test .taken) .held) (own (c .before))
 
 returns-2 : tie.Need-returns-2 Inv-loop μ-loop
 returns-2 c = c .before .before .before .before .before .before .loop .inv
@@ -84,11 +78,13 @@ loop-less : tie.Need-loop-less Inv-loop μ-loop
 loop-less c = omega (arith, c .before .before .before .before .before .loop-test .taken, own (c .before .before .before))
 
 loop-again : tie.Need-loop-again Inv-loop μ-loop
-loop-again c = (
-  omega (arith, c .before .before .before .before .before .before .loop .inv .0),
-  λ w. passing-later (coverBoth (c .before .before .before .before .before .before .before .before .before .before .args .p .0) (c .before .before .before .before .before .before .before .before .before .before .args .q .0)) (c .before .before .before .before .before .before .loop .inv .1 w) (c .before .before .before .before .before .loop-test .taken) (own (c .before .before .before)) (c .before .cover-both .ensures) (c .if2 .left)
-      (own (c .before .before .before) .end),
-)
+loop-again c =
+    let l = c .before .before .before .before .before .before .loop in
+    let a = c .before .before .before .before .before .before .before .before .before .args in
+    let b = own (c .before .before .before) in (
+      omega (arith, l .inv .0),
+      λ w. passing-later (coverBoth (a .p .0) (a .q .0)) (l .inv .1 w) (c .before .before .before .before .before .loop-test .taken) b (c .before .cover-both .ensures) (c .if2 .left) (b .end),
+    )
 
 returns-3 : tie.Need-returns-3 Inv-loop μ-loop
 returns-3 c = c .before .loop .inv
@@ -99,15 +95,13 @@ skip-same-header-spec =
     (tie.spec
     Inv-loop
     μ-loop
-    includes-in-requires
-    mul-size
-    match-length-requires
+    bounds-by-requires
     loop-holds
     mul-if1
     shared-slice-read-if1
     returns
-    add-includes
-    add-excludes
+    add-cover-both
+    add-cover-both-2
     mul-cover-both
     sub-cover-both
     part-cover-both-start

@@ -20,24 +20,21 @@ abbrev μ-loop : tie.MeasureT-loop
 
 -- the header of the match in hand; and the turn's numbers, by its strings
 one : (c : tie.In-loop Inv-loop μ-loop) → Header (c .before .loop .mem) (c .before .loop .p)
-one c = here (c .before .loop .inv .2 (c .before .before .before .before .pre)) (c .loop-test .taken) .held .header
+one c = here (c .before .loop .inv .2 (c .before .before .before .before .before .pre)) (c .loop-test .taken) .held .header
 
 here-turn : (c : tie.After-strings-in Inv-loop μ-loop)
     → let a = c .before .before .before .before .before in
-    Turn (a .loop .mem) (c .before .before .before .before .before .before .before .before .args .sort) (c .before .before .bounds-at .result .includes) (a .loop .q) (a .loop .rest) (a .loop .weight) (c .strings-in .result)
-here-turn c = turn (c .before .before .before .before .before .loop .inv .2 (c .before .before .before .before .before .before .before .before .pre)) (c .before .before .before .before .loop-test .taken) (c .before .before .bounds-at .ensures) (c .strings-in .ensures)
+    Turn (a .loop .mem) (c .before .before .before .before .before .before .before .before .before .args .sort) (c .before .before .bounds-at .result .includes) (a .loop .q) (a .loop .rest) (a .loop .weight) (c .strings-in .result)
+here-turn c = turn (c .before .before .before .before .before .loop .inv .2 (c .before .before .before .before .before .before .before .before .before .pre)) (c .before .before .before .before .loop-test .taken) (c .before .before .bounds-at .ensures) (c .strings-in .ensures)
 
-mul-n : tie.Need-mul-n Inv-loop μ-loop
-mul-n c = search needs
-
-slice-read-n : tie.Need-slice-read-n Inv-loop μ-loop
-slice-read-n c = search needs
+slot-matches-requires : tie.Need-slot-matches-requires Inv-loop μ-loop
+slot-matches-requires c κs = search needs
 
 add-p : tie.Need-add-p Inv-loop μ-loop
 add-p c = search needs
 
 loop-holds : tie.Need-loop-holds Inv-loop μ-loop
-loop-holds c = (search needs, refl, λ w. start w)
+loop-holds c = (search needs, refl, λ w. start w (c .slot-matches .ensures))
 
 bounds-at-requires : tie.Need-bounds-at-requires Inv-loop μ-loop
 bounds-at-requires c κs = one (c .before)
@@ -94,8 +91,7 @@ put-side-spec =
     (tie.spec
     Inv-loop
     μ-loop
-    mul-n
-    slice-read-n
+    slot-matches-requires
     add-p
     loop-holds
     bounds-at-requires

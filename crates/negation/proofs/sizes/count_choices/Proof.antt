@@ -21,17 +21,14 @@ abbrev μ-loop : tie.MeasureT-loop
 one : (c : tie.In-loop Inv-loop μ-loop) → Header (c .before .before .before .before .args .mem .now) (c .before .loop .p)
 one c = here (c .before .loop .inv .2 (c .before .before .before .before .pre)) (c .loop-test .taken) .held .header
 
-mul-n : tie.Need-mul-n Inv-loop μ-loop
-mul-n c = search needs
-
-shared-slice-read-n : tie.Need-shared-slice-read-n Inv-loop μ-loop
-shared-slice-read-n c = search needs
+slot-matches-requires : tie.Need-slot-matches-requires Inv-loop μ-loop
+slot-matches-requires c κs = search needs
 
 add-p : tie.Need-add-p Inv-loop μ-loop
 add-p c = search needs
 
 loop-holds : tie.Need-loop-holds Inv-loop μ-loop
-loop-holds c = (search needs, search needs, λ w. start w)
+loop-holds c = (search needs, search needs, λ w. start w (c .slot-matches .ensures))
 
 mul-header : tie.Need-mul-header Inv-loop μ-loop
 mul-header c = omega (arith, one (c))
@@ -77,8 +74,7 @@ count-choices-spec =
     (tie.spec
     Inv-loop
     μ-loop
-    mul-n
-    shared-slice-read-n
+    slot-matches-requires
     add-p
     loop-holds
     mul-header

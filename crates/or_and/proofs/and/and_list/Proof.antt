@@ -23,7 +23,7 @@ abbrev μ-loop : tie.MeasureT-loop
 -- the header of the left match in hand
 one : (c : tie.In-loop Inv-loop μ-loop) → Header (c .before .loop .mem) (c .before .loop .p)
 one c =
-    let w = c .before .before .before .before .before .before .before .before .before .before .pre .0 in
+    let w = c .before .before .before .before .before .before .before .before .before .before .before .before .pre .0 in
     item (c .before .loop .inv .2 w) (c .loop-test .taken) .one .held .header
 
 and-size-requires : tie.Need-and-size-requires Inv-loop μ-loop
@@ -41,20 +41,14 @@ same-length c = search needs
 returns : tie.Need-returns Inv-loop μ-loop
 returns c w = refused (c .before .before .and-size .ensures w) (c .enum-told .given .1)
 
-mul-m : tie.Need-mul-m Inv-loop μ-loop
-mul-m c = search needs
-
-slice-read-m : tie.Need-slice-read-m Inv-loop μ-loop
-slice-read-m c = search needs
+slot-matches-requires : tie.Need-slot-matches-requires Inv-loop μ-loop
+slot-matches-requires c κs = search needs
 
 cast-m : tie.Need-cast-m Inv-loop μ-loop
 cast-m c = search needs
 
-mul-n : tie.Need-mul-n Inv-loop μ-loop
-mul-n c = search needs
-
-slice-read-n : tie.Need-slice-read-n Inv-loop μ-loop
-slice-read-n c = search needs
+slot-matches-requires-2 : tie.Need-slot-matches-requires-2 Inv-loop μ-loop
+slot-matches-requires-2 c κs = search needs
 
 cast-n : tie.Need-cast-n Inv-loop μ-loop
 cast-n c = search needs
@@ -67,18 +61,12 @@ add-q c = search needs
 
 loop-holds : tie.Need-loop-holds Inv-loop μ-loop
 loop-holds c =
-    let k = c .before .before .before in
+    let k = c .before .before .before .before .before in
     let s = k .before .before in
-    (search needs, refl, λ w. and-start w (sym (k .size .given .1) ∙ s .and-size .ensures w) (s .before .before .before .pre .1 .0) refl)
+    (search needs, refl, λ w. and-start w (sym (k .size .given .1) ∙ s .and-size .ensures w) (s .before .before .before .pre .1 .0) (c .before .before .slot-matches .ensures))
 
-mul-match-length : tie.Need-mul-match-length Inv-loop μ-loop
-mul-match-length c = omega (arith, one c)
-
-slice-read-match-length : tie.Need-slice-read-match-length Inv-loop μ-loop
-slice-read-match-length c = omega (arith, one (c .before))
-
-match-length-requires : tie.Need-match-length-requires Inv-loop μ-loop
-match-length-requires c κs = search needs
+match-end-requires : tie.Need-match-end-requires Inv-loop μ-loop
+match-end-requires c κs = one (c .before)
 
 add-put-row : tie.Need-add-put-row Inv-loop μ-loop
 add-put-row c = search needs
@@ -86,11 +74,8 @@ add-put-row c = search needs
 put-row-requires : tie.Need-put-row-requires Inv-loop μ-loop
 put-row-requires c κs =
     let i = c .before .before .before in
-    let w = i .before .before .before .before .before .before .before .before .before .before .pre in
-    and-item (w .0) (i .before .loop .inv .2 (w .0)) (omega (arith, w .1 .1)) refl (i .loop-test .taken)
-
-add-p-2 : tie.Need-add-p-2 Inv-loop μ-loop
-add-p-2 c = omega (arith, one (c .before .before .before .before .before .before), c .before .before .before .before .match-length .ensures)
+    let w = i .before .before .before .before .before .before .before .before .before .before .before .before .pre in
+    and-item (w .0) (i .before .loop .inv .2 (w .0)) (omega (arith, w .1 .1)) (i .before .before .slot-matches2 .ensures) (i .loop-test .taken)
 
 add-i : tie.Need-add-i Inv-loop μ-loop
 add-i c = search needs
@@ -103,11 +88,11 @@ loop-again c =
     let k = c .before .before in
     let l = k .before .before in
     let i = l .before .before in
-    let u = i .before .before .before .before .before .before .before .before .before .before .pre .1 .1 in (
+    let u = i .before .before .before .before .before .before .before .before .before .before .before .before .pre .1 .1 in (
       search needs,
       search needs,
-      λ w. and-step w (i .before .loop .inv .2 w) (omega (arith, u)) refl (i .loop-test .taken)
-          (k .put-row .ensures (and-item w (i .before .loop .inv .2 w) (omega (arith, u)) refl (i .loop-test .taken))) (l .match-length .ensures),
+      λ w. and-step w (i .before .loop .inv .2 w) (omega (arith, u)) (i .before .before .slot-matches2 .ensures) (i .loop-test .taken)
+          (k .put-row .ensures (and-item w (i .before .loop .inv .2 w) (omega (arith, u)) (i .before .before .slot-matches2 .ensures) (i .loop-test .taken))) (l .match-end .ensures),
     )
 
 put-slot-header-requires : tie.Need-put-slot-header-requires Inv-loop μ-loop
@@ -120,7 +105,7 @@ returns-2 : tie.Need-returns-2 Inv-loop μ-loop
 returns-2 c w =
     let h = c .before .before in
     let l = h .before .before in
-    let k = l .before .before .before .before .before in
+    let k = l .before .before .before .before .before .before .before in
     filled (sym (k .size .given .1) ∙ k .before .before .and-size .ensures w) (and-finish w (l .before .loop .inv .2 w) (l .loop-test .left)) (h .put-slot-header .ensures)
 
 pub and-list-spec : {M : Type 1} → statement M
@@ -134,21 +119,16 @@ and-list-spec =
     enum-told
     same-length
     returns
-    mul-m
-    slice-read-m
+    slot-matches-requires
     cast-m
-    mul-n
-    slice-read-n
+    slot-matches-requires-2
     cast-n
     add-p
     add-q
     loop-holds
-    mul-match-length
-    slice-read-match-length
-    match-length-requires
+    match-end-requires
     add-put-row
     put-row-requires
-    add-p-2
     add-i
     loop-less
     loop-again

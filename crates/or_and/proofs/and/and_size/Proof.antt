@@ -1,78 +1,71 @@
 -- The sizes of a product are the products of its sides' sizes (and-sizes); 256 × 256 and 2 × 256 × 512 fit.
-use Rattle.or_and.proofs.AndLaws.{and-sizes}
+use Prim.Native.Nat.{_≤_}
 use native.Mathlib.Nat.{mul-le-mul}
 use native.Mathlib.Omega.{arith}
 use mathlib.Core.Path.{_∙_}
+use Rattle.model.specs.Limits.{maxMatches, maxStrings}
+use Rattle.or_and.proofs.AndLaws.{and-sizes}
 use borrow.Author.Needs.{needs}
 use Rattle.or_and.proofs.and.and_size.Statement.{statement}
 use Rattle.or_and.proofs.and.and_size.Tie as tie
 
-mul-m : tie.Need-mul-m
-mul-m c = search needs
+-- the sides' sizes are within the limits
+few : (c : tie.After-slot-strings2)
+    → (c .before .before .before .slot-matches .result ≤ maxMatches) × (c .before .before .slot-matches2 .result ≤ maxMatches)
+    × (c .before .slot-strings .result ≤ maxStrings) × (c .slot-strings2 .result ≤ maxStrings)
+few c =
+    let w = c .before .before .before .before .before .pre in (
+      omega (arith, c .before .before .before .slot-matches .ensures, w .left .header),
+      omega (arith, c .before .before .slot-matches2 .ensures, w .right .header),
+      omega (arith, c .before .slot-strings .ensures, w .left .header),
+      omega (arith, c .slot-strings2 .ensures, w .right .header),
+    )
 
-shared-slice-read-m : tie.Need-shared-slice-read-m
-shared-slice-read-m c = search needs
+slot-matches-requires : tie.Need-slot-matches-requires
+slot-matches-requires c κs = search needs
 
-mul-n : tie.Need-mul-n
-mul-n c = search needs
+slot-matches-requires-2 : tie.Need-slot-matches-requires-2
+slot-matches-requires-2 c κs = search needs
 
-shared-slice-read-n : tie.Need-shared-slice-read-n
-shared-slice-read-n c = search needs
+slot-strings-requires : tie.Need-slot-strings-requires
+slot-strings-requires c κs = search needs
+
+slot-strings-requires-2 : tie.Need-slot-strings-requires-2
+slot-strings-requires-2 c κs = search needs
 
 mul-sized : tie.Need-mul-sized
-mul-sized c = let w = c .before .before .before .pre in omega (arith, mul-le-mul (w .left .header .few) (w .right .header .few))
-
-add-sized : tie.Need-add-sized
-add-sized c = search needs
+mul-sized c = omega (arith, mul-le-mul (few c .0) (few c .1))
 
 mul-sized-2 : tie.Need-mul-sized-2
-mul-sized-2 c = search needs
-
-shared-slice-read-sized : tie.Need-shared-slice-read-sized
-shared-slice-read-sized c = search needs
+mul-sized-2 c = omega (arith, mul-le-mul (few c .1) (few c .2))
 
 mul-sized-3 : tie.Need-mul-sized-3
-mul-sized-3 c = let w = c .before .before .before .before .pre in omega (arith, mul-le-mul (w .right .header .few) (w .left .header .strs))
+mul-sized-3 c = omega (arith, mul-le-mul (few c .0) (few c .3))
 
-add-sized-2 : tie.Need-add-sized-2
-add-sized-2 c = search needs
-
-mul-sized-4 : tie.Need-mul-sized-4
-mul-sized-4 c = search needs
-
-shared-slice-read-sized-2 : tie.Need-shared-slice-read-sized-2
-shared-slice-read-sized-2 c = search needs
-
-mul-sized-5 : tie.Need-mul-sized-5
-mul-sized-5 c = let w = c .before .before .before .before .before .pre in omega (arith, mul-le-mul (w .left .header .few) (w .right .header .strs))
-
-add-sized-3 : tie.Need-add-sized-3
-add-sized-3 c = let w = c .before .before .before .before .before .pre in
-    omega (arith, mul-le-mul (w .right .header .few) (w .left .header .strs), mul-le-mul (w .left .header .few) (w .right .header .strs))
+add-sized : tie.Need-add-sized
+add-sized c = omega (arith, mul-le-mul (few c .1) (few c .2), mul-le-mul (few c .0) (few c .3))
 
 sized-requires : tie.Need-sized-requires
 sized-requires c κs = search needs
 
 returns : tie.Need-returns
-returns c w = c .sized .ensures ∙ and-sizes w
+returns c w =
+    let r = c .before in
+    let l = r .before in
+    let n = l .before in
+    c .sized .ensures ∙ and-sizes w (n .before .slot-matches .ensures) (n .slot-matches2 .ensures) (l .slot-strings .ensures) (r .slot-strings2 .ensures)
 
 pub and-size-spec : {M : Type 1} → statement M
 and-size-spec =
     tie.close
     (tie.spec
-    mul-m
-    shared-slice-read-m
-    mul-n
-    shared-slice-read-n
+    slot-matches-requires
+    slot-matches-requires-2
+    slot-strings-requires
+    slot-strings-requires-2
     mul-sized
-    add-sized
     mul-sized-2
-    shared-slice-read-sized
     mul-sized-3
-    add-sized-2
-    mul-sized-4
-    shared-slice-read-sized-2
-    mul-sized-5
-    add-sized-3
+    add-sized
     sized-requires
     returns)

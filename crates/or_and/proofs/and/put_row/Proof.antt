@@ -25,20 +25,11 @@ one c = let w = c .before .before .before .pre in row-item (w .row) (c .before .
 loop-holds : tie.Need-loop-holds Inv-loop μ-loop
 loop-holds c = (search needs, refl, λ w. row-start (w .row))
 
-mul-match-length : tie.Need-mul-match-length Inv-loop μ-loop
-mul-match-length c = omega (arith, one c .pair .held-right .header)
-
-slice-read-match-length : tie.Need-slice-read-match-length Inv-loop μ-loop
-slice-read-match-length c = omega (arith, one (c .before) .pair .held-right .header)
-
-match-length-requires : tie.Need-match-length-requires Inv-loop μ-loop
-match-length-requires c κs = search needs
+match-end-requires : tie.Need-match-end-requires Inv-loop μ-loop
+match-end-requires c κs = one (c .before) .pair .held-right .header
 
 put-joined-requires : tie.Need-put-joined-requires Inv-loop μ-loop
 put-joined-requires c κs = one (c .before .before .before)
-
-add-p : tie.Need-add-p Inv-loop μ-loop
-add-p c = omega (arith, one (c .before .before .before .before .before .before) .pair .held-right .header, c .before .before .before .before .match-length .ensures)
 
 add-j : tie.Need-add-j Inv-loop μ-loop
 add-j c = search needs
@@ -54,7 +45,7 @@ loop-again c =
       search needs,
       search needs,
       λ w. let g = i .before .loop .inv .2 w in
-          row-step (w .row) g (i .loop-test .taken) (k .put-joined .ensures (row-item (w .row) g (i .loop-test .taken))) (l .match-length .ensures),
+          row-step (w .row) g (i .loop-test .taken) (k .put-joined .ensures (row-item (w .row) g (i .loop-test .taken))) (l .match-end .ensures),
     )
 
 same-length : tie.Need-same-length Inv-loop μ-loop
@@ -70,11 +61,8 @@ put-row-spec =
     Inv-loop
     μ-loop
     loop-holds
-    mul-match-length
-    slice-read-match-length
-    match-length-requires
+    match-end-requires
     put-joined-requires
-    add-p
     add-j
     loop-less
     loop-again

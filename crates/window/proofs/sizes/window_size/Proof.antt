@@ -21,17 +21,14 @@ one : (c : tie.In-loop Inv-loop μ-loop)
     (c .before .loop .strings)
 one c = let r = c .before .before .before .before .pre in size-item (c .before .loop .inv .1 (r .1)) (c .loop-test .taken) (r .0)
 
-mul-count : tie.Need-mul-count Inv-loop μ-loop
-mul-count c = search needs
-
-shared-slice-read-count : tie.Need-shared-slice-read-count Inv-loop μ-loop
-shared-slice-read-count c = search needs
+slot-matches-requires : tie.Need-slot-matches-requires Inv-loop μ-loop
+slot-matches-requires c κs = search needs
 
 add-p : tie.Need-add-p Inv-loop μ-loop
 add-p c = search needs
 
 loop-holds : tie.Need-loop-holds Inv-loop μ-loop
-loop-holds c = (search needs, λ w. size-start _ (w .slot))
+loop-holds c = (search needs, λ w. size-start _ (w .slot) (c .slot-matches .ensures))
 
 size-with-requires : tie.Need-size-with-requires Inv-loop μ-loop
 size-with-requires c κs = one c
@@ -50,17 +47,8 @@ returns c w =
     let g = t .before .loop .inv .1 w in
     size-over g (t .loop-test .taken) size (k .size-with .ensures (size-item g (t .loop-test .taken) size)) (c .enum-told .given .1)
 
-mul-match-length : tie.Need-mul-match-length Inv-loop μ-loop
-mul-match-length c = omega (arith, one (c .before .before .before .before) .held .header)
-
-shared-slice-read-match-length : tie.Need-shared-slice-read-match-length Inv-loop μ-loop
-shared-slice-read-match-length c = omega (arith, one (c .before .before .before .before .before) .held .header)
-
-match-length-requires : tie.Need-match-length-requires Inv-loop μ-loop
-match-length-requires c κs = search needs
-
-add-p-2 : tie.Need-add-p-2 Inv-loop μ-loop
-add-p-2 c = omega (arith, one (c .before .before .before .before .before .before) .held .header, c .match-length .ensures)
+match-end-requires : tie.Need-match-end-requires Inv-loop μ-loop
+match-end-requires c κs = one (c .before .before .before .before) .held .header
 
 add-i : tie.Need-add-i Inv-loop μ-loop
 add-i c = search needs
@@ -70,14 +58,14 @@ loop-less c = search needs
 
 loop-again : tie.Need-loop-again Inv-loop μ-loop
 loop-again c =
-    let a = c .before .before .before in
+    let a = c .before .before in
     let k = a .before .before in
     let t = k .before in
     let size = t .before .before .before .before .pre .0 in (
       search needs,
       λ w.
           let g = t .before .loop .inv .1 w in
-          size-next g (t .loop-test .taken) size (k .size-with .ensures (size-item g (t .loop-test .taken) size)) (a .size .given .1) (c .match-length .ensures),
+          size-next g (t .loop-test .taken) size (k .size-with .ensures (size-item g (t .loop-test .taken) size)) (a .size .given .1) (c .match-end .ensures),
     )
 
 returns-2 : tie.Need-returns-2 Inv-loop μ-loop
@@ -89,18 +77,14 @@ window-size-spec =
     (tie.spec
     Inv-loop
     μ-loop
-    mul-count
-    shared-slice-read-count
+    slot-matches-requires
     add-p
     loop-holds
     size-with-requires
     enum-known-size
     enum-told
     returns
-    mul-match-length
-    shared-slice-read-match-length
-    match-length-requires
-    add-p-2
+    match-end-requires
     add-i
     loop-less
     loop-again

@@ -4,8 +4,8 @@ use native.Mathlib.Omega.{arith}
 use mathlib.Core.Path.{refl}
 use borrow.Author.Needs.{needs}
 use lib.ListN.{length-set}
-use Rattle.store.proofs.put_string.Statement.{statement}
-use Rattle.store.proofs.put_string.Tie as tie
+use Rattle.store.proofs.matches.put_string.Statement.{statement}
+use Rattle.store.proofs.matches.put_string.Tie as tie
 
 mul-mem : tie.Need-mul-mem
 mul-mem c = search needs

@@ -9,8 +9,8 @@ use Rattle.store.proofs.IsYesLaws.{yes-here, yes-later, yes-none}
 use Rattle.store.proofs.SlotsLaws.{slot-stream}
 use Rattle.store.proofs.StreamLaws.{next-at, search-start}
 use borrow.Author.Needs.{needs}
-use Rattle.store.proofs.is_yes.Statement.{statement}
-use Rattle.store.proofs.is_yes.Tie as tie
+use Rattle.store.proofs.slots.is_yes.Statement.{statement}
+use Rattle.store.proofs.slots.is_yes.Tie as tie
 
 abbrev Inv-loop : tie.InvT-loop
 Inv-loop mem src end p₀ p = (w : SlotAt mem src) → SearchInvariant (isYes (w .list)) isYes mem p end

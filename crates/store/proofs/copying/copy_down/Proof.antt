@@ -2,8 +2,8 @@
 use native.Mathlib.Omega.{arith}
 use mathlib.Core.Logic.{inl}
 use borrow.Author.Needs.{needs}
-use Rattle.store.proofs.copy_down.Statement.{statement}
-use Rattle.store.proofs.copy_down.Tie as tie
+use Rattle.store.proofs.copying.copy_down.Statement.{statement}
+use Rattle.store.proofs.copying.copy_down.Tie as tie
 
 copy-requires : tie.Need-copy-requires
 copy-requires c κs = let r = c .before .before .pre in record { apart = inl (r .apart); reads = omega arith; writes = omega arith }

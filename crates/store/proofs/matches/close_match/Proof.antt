@@ -2,8 +2,8 @@
 use mathlib.Core.Path.{ap}
 use lib.ListN.{set}
 use borrow.Author.Needs.{needs}
-use Rattle.store.proofs.close_match.Statement.{statement}
-use Rattle.store.proofs.close_match.Tie as tie
+use Rattle.store.proofs.matches.close_match.Statement.{statement}
+use Rattle.store.proofs.matches.close_match.Tie as tie
 
 add-includes : tie.Need-add-includes
 add-includes c = search needs

@@ -3,8 +3,8 @@ use native.Mathlib.Numerals.{add-one}
 use native.Mathlib.Omega.{arith}
 use lib.ListN.{length-set}
 use borrow.Author.Needs.{needs}
-use Rattle.store.proofs.put_slot_header.Statement.{statement}
-use Rattle.store.proofs.put_slot_header.Tie as tie
+use Rattle.store.proofs.slots.put_slot_header.Statement.{statement}
+use Rattle.store.proofs.slots.put_slot_header.Tie as tie
 
 mul-mem : tie.Need-mul-mem
 mul-mem c = search needs

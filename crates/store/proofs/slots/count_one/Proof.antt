@@ -2,8 +2,8 @@
 use native.Mathlib.Omega.{arith}
 use borrow.Author.Tests.{lt-ltb, le-ltb}
 use borrow.Author.Needs.{needs}
-use Rattle.store.proofs.count_one.Statement.{statement}
-use Rattle.store.proofs.count_one.Tie as tie
+use Rattle.store.proofs.slots.count_one.Statement.{statement}
+use Rattle.store.proofs.slots.count_one.Tie as tie
 
 add-result : tie.Need-add-result
 add-result c = search needs

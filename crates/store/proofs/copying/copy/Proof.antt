@@ -6,8 +6,8 @@ use mathlib.Core.Path.{_≡_}
 use lib.ListN.{length, take, drop, length-set}
 use lib.Seq.{sets}
 use Rattle.store.proofs.MemoryLaws.{copy-more}
-use Rattle.store.proofs.copy.Statement.{statement}
-use Rattle.store.proofs.copy.Tie as tie
+use Rattle.store.proofs.copying.copy.Statement.{statement}
+use Rattle.store.proofs.copying.copy.Tie as tie
 
 abbrev Inv-loop : tie.InvT-loop
 Inv-loop mem₀ from n to i₀ mem i = (i ≤ n) × (mem ≡ sets mem₀ to (take i (drop from mem₀))) × (length mem ≡ length mem₀)

@@ -7,8 +7,8 @@ use Rattle.store.specs.Layout.{slotNumbers}
 use Rattle.store.proofs.PutLaws.{put-copy}
 use Rattle.store.proofs.SlotsLaws.{length-slot-held}
 use borrow.Author.Needs.{needs}
-use Rattle.store.proofs.copy_slot_down.Statement.{statement}
-use Rattle.store.proofs.copy_slot_down.Tie as tie
+use Rattle.store.proofs.slots.copy_slot_down.Statement.{statement}
+use Rattle.store.proofs.slots.copy_slot_down.Tie as tie
 
 slot-end-requires : tie.Need-slot-end-requires
 slot-end-requires c κs = search needs

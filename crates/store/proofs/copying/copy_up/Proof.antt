@@ -2,8 +2,8 @@
 use native.Mathlib.Omega.{arith}
 use mathlib.Core.Logic.{inr}
 use borrow.Author.Needs.{needs}
-use Rattle.store.proofs.copy_up.Statement.{statement}
-use Rattle.store.proofs.copy_up.Tie as tie
+use Rattle.store.proofs.copying.copy_up.Statement.{statement}
+use Rattle.store.proofs.copying.copy_up.Tie as tie
 
 copy-requires : tie.Need-copy-requires
 copy-requires c κs = let r = c .before .before .pre in record { apart = inr (r .apart); reads = omega arith; writes = omega arith }
