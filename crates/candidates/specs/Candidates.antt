@@ -20,11 +20,11 @@ pub record CandidatesAre (rights : List Match) (mem : List ℕ) (r : ℕ) (candi
   pub same : (p q : ℕ) → Within (candidates .ranges .start) p → Within (candidates .ranges .end) q → (l : Match) → covered (l .includes) p ≡ true → covered (l .includes) q ≡ true
       → allOf (hasUncovered l) part ≡ allOf (hasUncovered l) rights
 
--- a match at p, the first of n, R in the slot at r, and a part of it
-pub record CandidatesAt (mem : List ℕ) (p n r : ℕ) (known : Candidates) : Type 0 where
+-- a match at `left`, the first of n, R in the slot at r, and a part of it
+pub record CandidatesAt (mem : List ℕ) (left n r : ℕ) (known : Candidates) : Type 0 where
   pub item : Match
   pub rights : List Match
-  pub held : MatchHolds mem p item
-  pub ahead : StreamAt mem p n
+  pub held : MatchHolds mem left item
+  pub ahead : StreamAt mem left n
   pub slot : SlotHolds mem r rights
   pub candidates : CandidatesAre rights mem r known

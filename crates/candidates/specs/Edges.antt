@@ -66,6 +66,6 @@ ahead = 16
 
 -- ---- what is required
 
-pub record MatchAt (mem : List ℕ) (p : ℕ) : Type 0 where
+pub record MatchAt (mem : List ℕ) (at : ℕ) : Type 0 where
   pub item : Match
-  pub held : MatchHolds mem p item
+  pub held : MatchHolds mem at item

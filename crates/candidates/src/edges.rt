@@ -49,16 +49,16 @@ fn edges_of(strs: &[u32]) -> Edges
     }
 }
 
-// The edges of the match at p.
-pub fn edges_at(mem: &[u32], p: usize) -> Edges
-    requires { ⌜ MatchAt (now mem) p ⌝ }
-    ensures { λ r. ⌜ ((w : MatchAt (now (mem .entry)) p) → r ≡ edgesOf (w .item .includes)) ⌝ }
+// The edges of the match at `at`.
+pub fn edges_at(mem: &[u32], at: usize) -> Edges
+    requires { ⌜ MatchAt (now mem) at ⌝ }
+    ensures { λ r. ⌜ ((w : MatchAt (now (mem .entry)) at) → r ≡ edgesOf (w .item .includes)) ⌝ }
 {
     let Bounds {
         includes,
         excludes,
         ..
-    } = store::bounds_at(mem, p);
+    } = store::bounds_at(mem, at);
     edges_of(&mem[includes..excludes])
 }
 
@@ -94,25 +94,25 @@ fn widened(range: Range, p: Position) -> Range
     range
 }
 
-// The ranges, widened to the edges of the match at p, if it has includes.
-fn with_match(mem: &[u32], p: usize, ranges: Ranges) -> Ranges
-    requires { ⌜ MatchAt (now mem) p ⌝ }
-    ensures { λ r. ⌜ ((w : MatchAt (now (mem .entry)) p) → r ≡ withMatch ranges (w .item)) ⌝ }
+// The ranges, widened to the edges of the match at `at`, if it has includes.
+fn with_match(mem: &[u32], at: usize, ranges: Ranges) -> Ranges
+    requires { ⌜ MatchAt (now mem) at ⌝ }
+    ensures { λ r. ⌜ ((w : MatchAt (now (mem .entry)) at) → r ≡ withMatch ranges (w .item)) ⌝ }
 {
-    if store::includes_in(mem[p]) == 0 {
+    if store::includes_in(mem[at]) == 0 {
         return ranges;
     }
-    let edges = edges_at(mem, p);
+    let edges = edges_at(mem, at);
     Ranges {
         start: widened(ranges.start, edges.start),
         end: widened(ranges.end, edges.end),
     }
 }
 
-// The ranges of these edges and those of the matches of L from p on: of sixteen, or of n if there are no more.
-pub fn ranges_ahead(mem: &[u32], p: usize, n: usize, edges: Edges) -> Ranges
-    requires { ⌜ StreamAt (now mem) p n ⌝ }
-    ensures { λ r. ⌜ ((w : StreamAt (now (mem .entry)) p n) → r ≡ withMatches (rangesAt edges) (take ahead (w .list))) ⌝ }
+// The ranges of these edges and those of the matches of L from `from` on: of sixteen, or of n if there are no more.
+pub fn ranges_ahead(mem: &[u32], from: usize, n: usize, edges: Edges) -> Ranges
+    requires { ⌜ StreamAt (now mem) from n ⌝ }
+    ensures { λ r. ⌜ ((w : StreamAt (now (mem .entry)) from n) → r ≡ withMatches (rangesAt edges) (take ahead (w .list))) ⌝ }
 {
     let start = edges.start;
     let end = edges.end;
@@ -123,7 +123,7 @@ pub fn ranges_ahead(mem: &[u32], p: usize, n: usize, edges: Edges) -> Ranges
         },
         end: Range { lo: end, hi: end },
     };
-    let mut at = p;
+    let mut at = from;
     let mut i = 0;
     while i < n {
         if i == AHEAD {

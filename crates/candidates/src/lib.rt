@@ -43,18 +43,18 @@ pub fn all_of(mem: &[u32], r: usize) -> Candidates
     }
 }
 
-// The candidates for the match of L at p, the first of the n that are left: the known ones, if their ranges contain its edges, else new ones.
-pub fn candidates_for(mem: &[u32], p: usize, n: usize, r: usize, known: Candidates) -> Candidates
-    requires { ⌜ CandidatesAt (now mem) p n r known ⌝ }
+// The candidates for the match of L at `left`, the first of the n that are left: the known ones, if their ranges contain its edges, else new ones.
+pub fn candidates_for(mem: &[u32], left: usize, n: usize, r: usize, known: Candidates) -> Candidates
+    requires { ⌜ CandidatesAt (now mem) left n r known ⌝ }
     ensures { λ b.
-        ⌜ ((w : CandidatesAt (now (mem .entry)) p n r known)
+        ⌜ ((w : CandidatesAt (now (mem .entry)) left n r known)
         → CandidatesAre (w .rights) (now (mem .entry)) r b × Contains (b .ranges) (edgesOf (w .item .includes))) ⌝ }
 {
-    let edges = edges_at(mem, p);
+    let edges = edges_at(mem, left);
     if contain(known.ranges, edges) {
         return known;
     }
-    let ranges = ranges_ahead(mem, p, n, edges);
+    let ranges = ranges_ahead(mem, left, n, edges);
     let stop = store::slot_end(mem, r);
     let from = first_overlapping(mem, r + store::FIRST_MATCH, stop, ranges);
     let end = end_of_overlapping(mem, from, stop, ranges);

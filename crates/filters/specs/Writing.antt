@@ -42,9 +42,9 @@ pub record RoomAt (N : Match → List ℕ) (mem : List ℕ) (b : Bounds) (q : �
 abbrev pub PutOf : (Match → List ℕ) → List ℕ → List ℕ → Bounds → ℕ → ℕ → Type 0
 PutOf N entry exit b q next = (w : RoomAt N entry b q) → Put entry exit q (N (w .item)) next
 
--- the matches that F makes of the match at p put at q
+-- the matches that F makes of the match at `from` put at q
 abbrev pub PutOne : (Match → List Match) → List ℕ → List ℕ → ℕ → ℕ → ℕ → Type 0
-PutOne F entry exit p q next = (w : OneAt F entry p q) → Put entry exit q (matchesNumbers (F (w .item))) next
+PutOne F entry exit from q next = (w : OneAt F entry from q) → Put entry exit q (matchesNumbers (F (w .item))) next
 
 -- a slice, and room at q for the join of its strings
 pub record Join (size a e q : ℕ) : Type 0 where

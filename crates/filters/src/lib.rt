@@ -19,16 +19,16 @@ pub fn filter_list(section: &[u32], keeper: Keeper, mem: &mut [u32], src: usize,
     ensures { λ r. ⌜ ((w : SlotAt (now (mem .entry)) src) → Outcome (filterList (sectionOf (now (section .entry))) (filterOf (Keep keeper)) (w .list)) (now (mem .entry)) (now (mem .exit)) at r) ⌝ }
 {
     let n = store::slot_matches(mem, src) as usize;
-    let mut p = src + store::FIRST_MATCH;
+    let mut from = src + store::FIRST_MATCH;
     let mut q = at + store::FIRST_MATCH;
     let mut matches = 0;
     let mut i = 0;
     while i < n {
-        let end = store::match_end(mem, p);
-        let next = writing::put_filtered(section, keeper, mem, p, q);
+        let end = store::match_end(mem, from);
+        let next = writing::put_filtered(section, keeper, mem, from, q);
         matches = store::count_one(matches, q, next);
         q = next;
-        p = end;
+        from = end;
         i += 1;
     }
     store::close_slot(mem, at, q, matches)

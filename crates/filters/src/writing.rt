@@ -96,12 +96,18 @@ fn put_kept(section: &[u32], keeper: Keeper, mem: &mut [u32], bounds: Bounds, q:
     end
 }
 
-// Writes what a filter makes of the match at p: the match that is kept, or nothing.
-pub fn put_filtered(section: &[u32], keeper: Keeper, mem: &mut [u32], p: usize, q: usize) -> usize
-    requires { ⌜ OneAt (kept (keepingOf (sectionOf (now section)) keeper)) (now mem) p q ⌝ }
-    ensures { λ r. ⌜ PutOne (kept (keepingOf (sectionOf (now (section .entry))) keeper)) (now (mem .entry)) (now (mem .exit)) p q r ⌝ }
+// Writes what a filter makes of the match at `from`: the match that is kept, or nothing.
+pub fn put_filtered(
+    section: &[u32],
+    keeper: Keeper,
+    mem: &mut [u32],
+    from: usize,
+    q: usize,
+) -> usize
+    requires { ⌜ OneAt (kept (keepingOf (sectionOf (now section)) keeper)) (now mem) from q ⌝ }
+    ensures { λ r. ⌜ PutOne (kept (keepingOf (sectionOf (now (section .entry))) keeper)) (now (mem .entry)) (now (mem .exit)) from q r ⌝ }
 {
-    let bounds = store::bounds_at(mem, p);
+    let bounds = store::bounds_at(mem, from);
     let includes = bounds.includes;
     let excludes = bounds.excludes;
     if !filter_rules::keeps(section, keeper, &mem[includes..excludes]) {

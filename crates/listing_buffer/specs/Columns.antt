@@ -7,19 +7,19 @@ use Rattle.model.specs.Matches.{Match, stringsIn, strings}
 use Rattle.strings.specs.Strings.{strsOf}
 use Rattle.store.specs.Stream.{Remaining}
 
--- every second of the numbers from p on, n of them
+-- every second of the numbers from `from` on, n of them
 unfoldable pub everySecond : List ℕ → ℕ → ℕ → List ℕ
-everySecond l p zero = []
-everySecond l p (suc n) = getD l p 0 ∷ everySecond l (p + 2) n
+everySecond l from zero = []
+everySecond l from (suc n) = getD l from 0 ∷ everySecond l (from + 2) n
 
 -- a number of each string of a match: its span for 0, its tag for 1
 unfoldable pub columnIn : ℕ → Match → List ℕ
 columnIn column m = everySecond (strsOf 0 (m .includes) ++ strsOf 1 (m .excludes)) column (stringsIn m)
 
--- n matches from p on, and room for a number of each of their strings from `at` on, in a buffer of so many numbers
-pub record ColumnAt (mem : List ℕ) (p n size at : ℕ) : Type 0 where
+-- n matches from `from` on, and room for a number of each of their strings from `at` on, in a buffer of so many numbers
+pub record ColumnAt (mem : List ℕ) (from n size at : ℕ) : Type 0 where
   pub list : List Match
   pub end : ℕ
-  pub stream : Remaining list mem p end
+  pub stream : Remaining list mem from end
   pub count : length list ≡ n
   pub room : at + strings list ≤ size

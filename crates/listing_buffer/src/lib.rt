@@ -11,14 +11,14 @@ ghost use Rattle.store.specs.Slot.{SlotAt};
 ghost use Rattle.store.specs.Stream.{StreamAt};
 ghost use Rattle.listing_buffer.specs.Columns.{ColumnAt, columnIn, everySecond};
 
-// Copies every second of the numbers from p on, n of them, to the buffer from q on.
-fn copy_every_second(mem: &[u32], p: usize, n: usize, buffer: &mut [u32], q: usize)
-    requires { ⌜ (p + 2 * n ≤ length (now mem) + 1) × (q + n ≤ length (now buffer)) ⌝ }
-    ensures { λ _. ⌜ now (buffer .exit) ≡ sets (now (buffer .entry)) q (everySecond (now (mem .entry)) p n) ⌝ }
+// Copies every second of the numbers from `from` on, n of them, to the buffer from q on.
+fn copy_every_second(mem: &[u32], from: usize, n: usize, buffer: &mut [u32], q: usize)
+    requires { ⌜ (from + 2 * n ≤ length (now mem) + 1) × (q + n ≤ length (now buffer)) ⌝ }
+    ensures { λ _. ⌜ now (buffer .exit) ≡ sets (now (buffer .entry)) q (everySecond (now (mem .entry)) from n) ⌝ }
 {
     let mut i = 0;
     while i < n {
-        buffer[q + i] = mem[p + 2 * i];
+        buffer[q + i] = mem[from + 2 * i];
         i += 1;
     }
 }
@@ -29,12 +29,12 @@ fn put_counts(mem: &[u32], first: usize, n: usize, buffer: &mut [u32], q: usize)
     requires { ⌜ q + n ≤ length (now buffer) ⌝ }
     ensures { λ _. ⌜ ((w : StreamAt (now (mem .entry)) first n) → now (buffer .exit) ≡ sets (now (buffer .entry)) q (map stringsIn (w .list))) ⌝ }
 {
-    let mut p = first;
+    let mut at = first;
     let mut i = 0;
     while i < n {
-        let header = mem[p];
+        let header = mem[at];
         buffer[q + i] = store::strings_in(header) as u32;
-        p += store::match_length(header);
+        at += store::match_length(header);
         i += 1;
     }
 }
@@ -46,15 +46,15 @@ fn put_column(mem: &[u32], first: usize, n: usize, column: usize, buffer: &mut [
     ensures { λ _. ⌜ ((w : ColumnAt (now (mem .entry)) first n (length (now (buffer .entry))) at)
         → now (buffer .exit) ≡ sets (now (buffer .entry)) at (flatMap (columnIn column) (w .list))) ⌝ }
 {
-    let mut p = first;
+    let mut from = first;
     let mut q = at;
     let mut i = 0;
     while i < n {
-        let bounds = store::bounds_at(mem, p);
-        let strings = store::strings_in(mem[p]);
+        let bounds = store::bounds_at(mem, from);
+        let strings = store::strings_in(mem[from]);
         copy_every_second(mem, bounds.includes + column, strings, buffer, q);
         q += strings;
-        p = bounds.end;
+        from = bounds.end;
         i += 1;
     }
 }

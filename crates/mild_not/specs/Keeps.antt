@@ -11,11 +11,11 @@ use Rattle.store.specs.Layout.{includesIn}
 use Rattle.store.specs.Stream.{MatchHolds, Remaining}
 use Rattle.mild_not.specs.declared.keeps.Kept.{Kept}
 
--- a match with includes at p, and matches of R from `from` up to `end`
-pub record SearchAt (mem : List ℕ) (p from end : ℕ) : Type 0 where
+-- a match with includes at `left`, and matches of R from `from` up to `end`
+pub record SearchAt (mem : List ℕ) (left from end : ℕ) : Type 0 where
   pub item : Match
-  pub held : MatchHolds mem p item
-  pub some : 0 < includesIn (getD mem p 0)
+  pub held : MatchHolds mem left item
+  pub some : 0 < includesIn (getD mem left 0)
   pub rights : List Match
   pub stream : Remaining rights mem from end
 

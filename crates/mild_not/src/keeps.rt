@@ -20,18 +20,18 @@ pub struct Kept {
     pub candidates: Candidates,
 }
 
-// "for every match of R", of the match of L at p and the matches of R from `from` up to `end`. Two of its positions are held against each match of R, first
+// "for every match of R", of the match of L at `left` and the matches of R from `from` up to `end`. Two of its positions are held against each match of R, first
 // its edges, then each position found and the one before it, beginning with the start; only where both are covered is another looked for.
-fn search(mem: &[u32], p: usize, from: usize, end: usize) -> bool
-    requires { ⌜ SearchAt (now mem) p from end ⌝ }
-    ensures { λ b. ⌜ ((w : SearchAt (now (mem .entry)) p from end) → b ≡ allOf (hasUncovered (w .item)) (w .rights)) ⌝ }
+fn search(mem: &[u32], left: usize, from: usize, end: usize) -> bool
+    requires { ⌜ SearchAt (now mem) left from end ⌝ }
+    ensures { λ b. ⌜ ((w : SearchAt (now (mem .entry)) left from end) → b ≡ allOf (hasUncovered (w .item)) (w .rights)) ⌝ }
 {
     let Bounds {
         includes,
         excludes,
         ..
-    } = store::bounds_at(mem, p);
-    let edges = edges_at(mem, p);
+    } = store::bounds_at(mem, left);
+    let edges = edges_at(mem, left);
     let mut last = edges.start;
     let mut at = next_covering(mem, from, end, edges.end, last);
     while at < end {
@@ -51,18 +51,18 @@ fn search(mem: &[u32], p: usize, from: usize, end: usize) -> bool
     true
 }
 
-// "for every match of R", of the match of L at p, the first of the n that are left, and R in the slot at r.
-pub fn is_kept(mem: &[u32], p: usize, n: usize, r: usize, known: Candidates) -> Kept
-    requires { ⌜ CandidatesAt (now mem) p n r known ⌝ }
-    ensures { λ b. ⌜ ((w : CandidatesAt (now (mem .entry)) p n r known) → KeptIs (w .item) (w .rights) (now (mem .entry)) r b) ⌝ }
+// "for every match of R", of the match of L at `left`, the first of the n that are left, and R in the slot at r.
+pub fn is_kept(mem: &[u32], left: usize, n: usize, r: usize, known: Candidates) -> Kept
+    requires { ⌜ CandidatesAt (now mem) left n r known ⌝ }
+    ensures { λ b. ⌜ ((w : CandidatesAt (now (mem .entry)) left n r known) → KeptIs (w .item) (w .rights) (now (mem .entry)) r b) ⌝ }
 {
-    if store::includes_in(mem[p]) == 0 {
+    if store::includes_in(mem[left]) == 0 {
         return Kept {
             kept: store::slot_matches(mem, r) == 0,
             candidates: known,
         };
     }
-    let candidates = candidates_for(mem, p, n, r, known);
-    let kept = search(mem, p, candidates.from, candidates.end);
+    let candidates = candidates_for(mem, left, n, r, known);
+    let kept = search(mem, left, candidates.from, candidates.end);
     Kept { kept, candidates }
 }

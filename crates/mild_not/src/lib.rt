@@ -14,18 +14,18 @@ ghost use Rattle.store.specs.Indices.{SlotBelow};
 ghost use Rattle.store.specs.Put.{Put};
 ghost use Rattle.store.specs.Slot.{TwoSlots};
 
-// Puts the match at p to q if it is kept; gives the index after it.
-fn put_kept(mem: &mut [u32], p: usize, q: usize, kept: bool) -> usize
-    requires { ⌜ OneAt (keptIf «kept») (now mem) p q ⌝ }
+// Puts the match at `from` to q if it is kept; gives the index after it.
+fn put_kept(mem: &mut [u32], from: usize, q: usize, kept: bool) -> usize
+    requires { ⌜ OneAt (keptIf «kept») (now mem) from q ⌝ }
     ensures { λ next.
-        ⌜ ((w : OneAt (keptIf «kept») (now (mem .entry)) p q)
+        ⌜ ((w : OneAt (keptIf «kept») (now (mem .entry)) from q)
         → Put (now (mem .entry)) (now (mem .exit)) q (matchesNumbers (keptIf «kept» (w .item))) next) ⌝ }
 {
     if !kept {
         return q;
     }
-    let n = store::match_end(mem, p) - p;
-    store::copy_up(mem, p, n, q);
+    let n = store::match_end(mem, from) - from;
+    store::copy_up(mem, from, n, q);
     q + n
 }
 
@@ -37,19 +37,19 @@ pub fn mild_not_list(mem: &mut [u32], l: usize, r: usize, at: usize) -> Built
     ensures { λ b. ⌜ ((w : TwoSlots (now (mem .entry)) l r) → Outcome (mildNotList (w .lefts) (w .rights)) (now (mem .entry)) (now (mem .exit)) at b) ⌝ }
 {
     let n = store::slot_matches(mem, l) as usize;
-    let mut p = l + store::FIRST_MATCH;
+    let mut left = l + store::FIRST_MATCH;
     let mut q = at + store::FIRST_MATCH;
     let mut matches = 0;
     let mut candidates = all_of(mem, r);
     let mut i = 0;
     while i < n {
-        let end = store::match_end(mem, p);
-        let answer = is_kept(mem, p, n - i, r, candidates);
-        let next = put_kept(mem, p, q, answer.kept);
+        let end = store::match_end(mem, left);
+        let answer = is_kept(mem, left, n - i, r, candidates);
+        let next = put_kept(mem, left, q, answer.kept);
         matches = store::count_one(matches, q, next);
         candidates = answer.candidates;
         q = next;
-        p = end;
+        left = end;
         i += 1;
     }
     store::close_slot(mem, at, q, matches)

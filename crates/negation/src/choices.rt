@@ -29,18 +29,18 @@ fn put_side(mem: &mut [u32], src: usize, total: usize, c: usize, sort: u32, at: 
         Put (now (mem .entry)) (now (mem .exit)) at (sideNumbers sort (choice (w .list) c)) r) ⌝ }
 {
     let n = store::slot_matches(mem, src);
-    let mut p = src + store::FIRST_MATCH;
+    let mut from = src + store::FIRST_MATCH;
     let mut q = at;
     let mut rest = c;
     let mut weight = total;
     let mut i = 0;
     while i < n {
-        let bounds = store::bounds_at(mem, p);
+        let bounds = store::bounds_at(mem, from);
         // how many choices there are from the matches after this one
-        weight /= store::strings_in(mem[p]);
+        weight /= store::strings_in(mem[from]);
         q = put_turned(mem, bounds.includes + 2 * (rest / weight), sort, q);
         rest %= weight;
-        p = bounds.end;
+        from = bounds.end;
         i += 1;
     }
     q

@@ -29,13 +29,13 @@ fn count_choices(mem: &[u32], src: usize) -> u32
     ensures { λ r. ⌜ ((w : SlotAt (now (mem .entry)) src) → r ≡ capped (choices (w .list))) ⌝ }
 {
     let n = store::slot_matches(mem, src);
-    let mut p = src + store::FIRST_MATCH;
+    let mut at = src + store::FIRST_MATCH;
     let mut total = 1;
     let mut i = 0;
     while i < n {
-        let header = mem[p];
+        let header = mem[at];
         total = product(total, store::strings_in(header) as u32);
-        p += store::match_length(header);
+        at += store::match_length(header);
         i += 1;
     }
     total

@@ -26,13 +26,13 @@ fn copy_both(mem: &mut [u32], a: usize, e: usize, b: usize, f: usize, to: usize)
     middle + (f - b)
 }
 
-// "includes joined left then right, excludes likewise": puts the matches at pl and pr as one at q.
-fn put_joined(mem: &mut [u32], pl: usize, pr: usize, q: usize) -> usize
-    requires { ⌜ JoinableAt (now mem) pl pr q ⌝ }
-    ensures { λ r. ⌜ ((w : JoinableAt (now (mem .entry)) pl pr q) → Put (now (mem .entry)) (now (mem .exit)) q (matchNumbers (joined (w .left) (w .right))) r) ⌝ }
+// "includes joined left then right, excludes likewise": puts the matches at `left` and `right` as one at q.
+fn put_joined(mem: &mut [u32], left: usize, right: usize, q: usize) -> usize
+    requires { ⌜ JoinableAt (now mem) left right q ⌝ }
+    ensures { λ r. ⌜ ((w : JoinableAt (now (mem .entry)) left right q) → Put (now (mem .entry)) (now (mem .exit)) q (matchNumbers (joined (w .left) (w .right))) r) ⌝ }
 {
-    let l = store::bounds_at(mem, pl);
-    let r = store::bounds_at(mem, pr);
+    let l = store::bounds_at(mem, left);
+    let r = store::bounds_at(mem, right);
     let includes = q + store::FIRST_STRING;
     let excludes = copy_both(
         mem,
@@ -47,18 +47,18 @@ fn put_joined(mem: &mut [u32], pl: usize, pr: usize, q: usize) -> usize
     end
 }
 
-// "for each of R": puts the match at pl joined with each of the n matches from pr on.
-fn put_row(mem: &mut [u32], pl: usize, pr: usize, n: usize, at: usize) -> usize
-    requires { ⌜ RowAt (now mem) pl pr n at ⌝ }
-    ensures { λ r. ⌜ ((w : RowAt (now (mem .entry)) pl pr n at) → Put (now (mem .entry)) (now (mem .exit)) at (matchesNumbers (map (joined (w .left)) (w .rights))) r) ⌝ }
+// "for each of R": puts the match at `left` joined with each of the n matches from `first` on.
+fn put_row(mem: &mut [u32], left: usize, first: usize, n: usize, at: usize) -> usize
+    requires { ⌜ RowAt (now mem) left first n at ⌝ }
+    ensures { λ r. ⌜ ((w : RowAt (now (mem .entry)) left first n at) → Put (now (mem .entry)) (now (mem .exit)) at (matchesNumbers (map (joined (w .left)) (w .rights))) r) ⌝ }
 {
-    let mut p = pr;
+    let mut right = first;
     let mut q = at;
     let mut j = 0;
     while j < n {
-        let end = store::match_end(mem, p);
-        q = put_joined(mem, pl, p, q);
-        p = end;
+        let end = store::match_end(mem, right);
+        q = put_joined(mem, left, right, q);
+        right = end;
         j += 1;
     }
     q
@@ -89,13 +89,13 @@ pub fn and_list(mem: &mut [u32], l: usize, r: usize, at: usize) -> Built
     };
     let m = store::slot_matches(mem, l) as usize;
     let n = store::slot_matches(mem, r) as usize;
-    let mut p = l + FIRST_MATCH;
+    let mut left = l + FIRST_MATCH;
     let mut q = at + FIRST_MATCH;
     let mut i = 0;
     while i < m {
-        let end = store::match_end(mem, p);
-        q = put_row(mem, p, r + FIRST_MATCH, n, q);
-        p = end;
+        let end = store::match_end(mem, left);
+        q = put_row(mem, left, r + FIRST_MATCH, n, q);
+        left = end;
         i += 1;
     }
     store::put_slot_header(mem, at, matches, strings);

@@ -8,20 +8,20 @@ use Rattle.store.specs.Layout.{matchLength, matchesNumbers}
 use Rattle.store.specs.Stream.{MatchHolds, Remaining}
 
 module _ (F : Match → List Match) where
-  -- the match m at p, below q, and room there for what the rule makes of it
-  pub record One (m : Match) (mem : List ℕ) (p q : ℕ) : Type 0 where
-    pub held : MatchHolds mem p m
-    pub below : p + matchLength (getD mem p 0) ≤ q
+  -- the match m at `from`, below q, and room there for what the rule makes of it
+  pub record One (m : Match) (mem : List ℕ) (from q : ℕ) : Type 0 where
+    pub held : MatchHolds mem from m
+    pub below : from + matchLength (getD mem from 0) ≤ q
     pub room : q + length (matchesNumbers (F m)) ≤ length mem
 
-  pub record OneAt (mem : List ℕ) (p q : ℕ) : Type 0 where
+  pub record OneAt (mem : List ℕ) (from q : ℕ) : Type 0 where
     pub item : Match
-    pub one : One item mem p q
+    pub one : One item mem from q
 
-  -- the n matches of a list from p on, below at, and room there for what the rule makes of them
-  pub record Each (list : List Match) (mem : List ℕ) (p n at : ℕ) : Type 0 where
+  -- the n matches of a list from `from` on, below at, and room there for what the rule makes of them
+  pub record Each (list : List Match) (mem : List ℕ) (from n at : ℕ) : Type 0 where
     pub end : ℕ
-    pub stream : Remaining list mem p end
+    pub stream : Remaining list mem from end
     pub count : length list ≡ n
     pub below : end ≤ at
     pub room : at + length (matchesNumbers (flatMap F list)) ≤ length mem

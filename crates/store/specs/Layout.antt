@@ -27,11 +27,11 @@ headerBetween at excludes end = headerOf ((excludes - (at + 1)) / 2) ((end - exc
 abbrev pub matchLength : ℕ → ℕ
 matchLength header = 1 + 2 * (includesIn header + excludesIn header)
 
--- the bounds of a match at p with this header: its includes lie after the header, and its excludes after them
-pub record BoundsOf (header p : ℕ) (b : Bounds) : Type 0 where
-  pub includes : b .includes ≡ p + 1
+-- the bounds of a match at `at` with this header: its includes lie after the header, and its excludes after them
+pub record BoundsOf (header at : ℕ) (b : Bounds) : Type 0 where
+  pub includes : b .includes ≡ at + 1
   pub excludes : b .excludes ≡ b .includes + 2 * includesIn header
-  pub end : b .end ≡ p + matchLength header
+  pub end : b .end ≡ at + matchLength header
 
 unfoldable pub matchNumbers : Match → List ℕ
 matchNumbers m = headerOf (length (m .includes)) (length (m .excludes)) ∷ (strsOf 0 (m .includes) ++ strsOf 1 (m .excludes))

@@ -53,12 +53,12 @@ pub struct Bounds {
     pub end: usize,
 }
 
-// The bounds of a match at p with this header.
-pub fn bounds_by(header: u32, p: usize) -> Bounds
-    requires { ⌜ p + matchLength header < 2 ^ 64 ⌝ }
-    ensures { λ b. ⌜ BoundsOf header p b ⌝ }
+// The bounds of a match at `at` with this header.
+pub fn bounds_by(header: u32, at: usize) -> Bounds
+    requires { ⌜ at + matchLength header < 2 ^ 64 ⌝ }
+    ensures { λ b. ⌜ BoundsOf header at b ⌝ }
 {
-    let includes = p + FIRST_STRING;
+    let includes = at + FIRST_STRING;
     let excludes = includes + 2 * includes_in(header);
     let end = excludes + 2 * excludes_in(header);
     Bounds {
@@ -68,20 +68,20 @@ pub fn bounds_by(header: u32, p: usize) -> Bounds
     }
 }
 
-// The bounds of the match at p.
-pub fn bounds_at(mem: &[u32], p: usize) -> Bounds
-    requires { ⌜ Header (now mem) p ⌝ }
-    ensures { λ b. ⌜ BoundsOf (getD (now (mem .entry)) p 0) p b ⌝ }
+// The bounds of the match at `at`.
+pub fn bounds_at(mem: &[u32], at: usize) -> Bounds
+    requires { ⌜ Header (now mem) at ⌝ }
+    ensures { λ b. ⌜ BoundsOf (getD (now (mem .entry)) at 0) at b ⌝ }
 {
-    bounds_by(mem[p], p)
+    bounds_by(mem[at], at)
 }
 
-// The index after the match at p.
-pub fn match_end(mem: &[u32], p: usize) -> usize
-    requires { ⌜ Header (now mem) p ⌝ }
-    ensures { λ r. ⌜ r ≡ p + matchLength (getD (now (mem .entry)) p 0) ⌝ }
+// The index after the match at `at`.
+pub fn match_end(mem: &[u32], at: usize) -> usize
+    requires { ⌜ Header (now mem) at ⌝ }
+    ensures { λ r. ⌜ r ≡ at + matchLength (getD (now (mem .entry)) at 0) ⌝ }
 {
-    p + match_length(mem[p])
+    at + match_length(mem[at])
 }
 
 // Puts a string; gives the index after it.

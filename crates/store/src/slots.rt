@@ -90,13 +90,13 @@ pub fn is_yes(mem: &[u32], src: usize) -> bool
     ensures { λ r. ⌜ ((w : SlotAt (now (mem .entry)) src) → r ≡ isYes (w .list)) ⌝ }
 {
     let end = slot_end(mem, src);
-    let mut p = src + FIRST_MATCH;
-    while p < end {
-        let header = mem[p];
+    let mut at = src + FIRST_MATCH;
+    while at < end {
+        let header = mem[at];
         if excludes_in(header) == 0 {
             return true;
         }
-        p += match_length(header);
+        at += match_length(header);
     }
     false
 }

@@ -11,15 +11,15 @@ fn wide(byte: u8) -> u32
     byte as u32
 }
 
-// The number of the four bytes from p on, the least significant first.
-fn number_at(bytes: &[u8], p: usize) -> u32
-    requires { ⌜ p + 4 ≤ length (now bytes) ⌝ }
-    ensures { λ r. ⌜ r ≡ numberAt (now (bytes .entry)) p ⌝ }
+// The number of the four bytes from `at` on, the least significant first.
+fn number_at(bytes: &[u8], at: usize) -> u32
+    requires { ⌜ at + 4 ≤ length (now bytes) ⌝ }
+    ensures { λ r. ⌜ r ≡ numberAt (now (bytes .entry)) at ⌝ }
 {
-    wide(bytes[p])
-        + wide(bytes[p + 1]) * 256
-        + wide(bytes[p + 2]) * 65536
-        + wide(bytes[p + 3]) * 16777216
+    wide(bytes[at])
+        + wide(bytes[at + 1]) * 256
+        + wide(bytes[at + 2]) * 65536
+        + wide(bytes[at + 3]) * 16777216
 }
 
 // Puts the numbers that the bytes are to the front of `numbers`, and answers how many they are. Fewer than four bytes at the end are left out.

@@ -17,12 +17,12 @@ unfoldable pub timesInside : ℕ → ℕ → ℕ → List Str → ℕ
 timesInside n start end [] = 0
 timesInside n start end (s ∷ ss) = windowsAround n (min start (s .start)) (max end (s .end)) + timesInside n start end ss
 
--- a match at p, and a list of so many matches and strings, within the limits
-pub record SizeAt (n : ℕ) (mem : List ℕ) (p matches strs : ℕ) : Type 0 where
+-- a match at `at`, and a list of so many matches and strings, within the limits
+pub record SizeAt (n : ℕ) (mem : List ℕ) (at matches strs : ℕ) : Type 0 where
   pub item : Match
   pub list : List Match
   pub size : WindowSize n
-  pub held : MatchHolds mem p item
+  pub held : MatchHolds mem at item
   pub matches-are : length list ≡ matches
   pub strings-are : strings list ≡ strs
   pub few-matches : matches ≤ maxMatches

@@ -61,18 +61,18 @@ fn put_each(mem: &mut [u32], n: u32, x: usize, e: usize, q: usize, span: u32, ta
 }
 
 // "for each match with includes .. A match without includes is dropped."
-fn put_windows(mem: &mut [u32], n: u32, p: usize, q: usize) -> usize
+fn put_windows(mem: &mut [u32], n: u32, from: usize, q: usize) -> usize
     requires { ⌜ WindowSize n ⌝ }
-    requires { ⌜ OneAt (window n) (now mem) p q ⌝ }
+    requires { ⌜ OneAt (window n) (now mem) from q ⌝ }
     ensures { λ r.
-        ⌜ ((w : OneAt (window n) (now (mem .entry)) p q)
+        ⌜ ((w : OneAt (window n) (now (mem .entry)) from q)
         → Put (now (mem .entry)) (now (mem .exit)) q (matchesNumbers (window n (w .item))) r) ⌝ }
 {
     let Bounds {
         includes,
         excludes,
         end,
-    } = store::bounds_at(mem, p);
+    } = store::bounds_at(mem, from);
     if includes == excludes {
         return q;
     }
@@ -99,13 +99,13 @@ pub fn window_list(mem: &mut [u32], n: u32, src: usize, at: usize) -> Built
         return size;
     };
     let count = store::slot_matches(mem, src);
-    let mut p = src + store::FIRST_MATCH;
+    let mut from = src + store::FIRST_MATCH;
     let mut q = at + store::FIRST_MATCH;
     let mut i = 0;
     while i < count {
-        let end = store::match_end(mem, p);
-        q = put_windows(mem, n, p, q);
-        p = end;
+        let end = store::match_end(mem, from);
+        q = put_windows(mem, n, from, q);
+        from = end;
         i += 1;
     }
     store::put_slot_header(mem, at, matches, strings);

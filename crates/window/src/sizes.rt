@@ -80,16 +80,16 @@ fn size_around(
     store::sized(matches + windows, strings + more)
 }
 
-// The sizes after the windows of the match at p are added; a match without includes adds none.
-fn size_with(mem: &[u32], n: u32, p: usize, matches: u32, strings: u32) -> Built
-    requires { ⌜ SizeAt n (now mem) p matches strings ⌝ }
-    ensures { λ r. ⌜ ((w : SizeAt n (now (mem .entry)) p matches strings) → r ≡ builtOf (w .list ++ window n (w .item))) ⌝ }
+// The sizes after the windows of the match at `at` are added; a match without includes adds none.
+fn size_with(mem: &[u32], n: u32, at: usize, matches: u32, strings: u32) -> Built
+    requires { ⌜ SizeAt n (now mem) at matches strings ⌝ }
+    ensures { λ r. ⌜ ((w : SizeAt n (now (mem .entry)) at matches strings) → r ≡ builtOf (w .list ++ window n (w .item))) ⌝ }
 {
     let Bounds {
         includes,
         excludes,
         end,
-    } = store::bounds_at(mem, p);
+    } = store::bounds_at(mem, at);
     if includes == excludes {
         return Built::Made { matches, strings };
     }
@@ -111,12 +111,12 @@ pub fn window_size(mem: &[u32], n: u32, src: usize) -> Built
     ensures { λ r. ⌜ ((w : SlotAt (now (mem .entry)) src) → r ≡ builtOf (flatMap (window n) (w .list))) ⌝ }
 {
     let count = store::slot_matches(mem, src);
-    let mut p = src + store::FIRST_MATCH;
+    let mut at = src + store::FIRST_MATCH;
     let mut matches = 0;
     let mut strings = 0;
     let mut i = 0;
     while i < count {
-        let size = size_with(mem, n, p, matches, strings);
+        let size = size_with(mem, n, at, matches, strings);
         let Built::Made {
             matches: m,
             strings: s,
@@ -126,7 +126,7 @@ pub fn window_size(mem: &[u32], n: u32, src: usize) -> Built
         };
         matches = m;
         strings = s;
-        p = store::match_end(mem, p);
+        at = store::match_end(mem, at);
         i += 1;
     }
     Built::Made { matches, strings }

@@ -19,17 +19,17 @@ use Rattle.filters.proofs.filter_list.Statement.{statement}
 use Rattle.filters.proofs.filter_list.Tie as tie
 
 abbrev Inv-loop : tie.InvT-loop
-Inv-loop section keeper mem₀ src at n p₀ q₀ matches₀ i₀ mem p q matches i =
+Inv-loop section keeper mem₀ src at n from₀ q₀ matches₀ i₀ mem from q matches i =
     (i ≤ n) × (length mem ≡ length mem₀)
-    × ((w : SlotAt mem₀ src) → Counting (kept (keepingOf (sectionOf section) keeper)) (w .list) mem₀ n (at + 2) mem p q i matches)
+    × ((w : SlotAt mem₀ src) → Counting (kept (keepingOf (sectionOf section) keeper)) (w .list) mem₀ n (at + 2) mem from q i matches)
 
 abbrev μ-loop : tie.MeasureT-loop
-μ-loop section keeper mem₀ src at n p₀ q₀ matches₀ i₀ mem p q matches i = n - i
+μ-loop section keeper mem₀ src at n from₀ q₀ matches₀ i₀ mem from q matches i = n - i
 
 -- the match in hand
 one : (c : tie.In-loop Inv-loop μ-loop)
     → let a = c .before .before .before .before .before .before .args in
-    OneAt (kept (keepingOf (sectionOf (a .section .now)) (a .keeper))) (c .before .loop .mem) (c .before .loop .p) (c .before .loop .q)
+    OneAt (kept (keepingOf (sectionOf (a .section .now)) (a .keeper))) (c .before .loop .mem) (c .before .loop .from) (c .before .loop .q)
 one c = item (c .before .loop .inv .2 (c .before .before .before .before .before .before .pre .0) .going) (c .loop-test .taken)
 
 slot-matches-requires : tie.Need-slot-matches-requires Inv-loop μ-loop
@@ -38,8 +38,8 @@ slot-matches-requires c κs = search needs
 cast-n : tie.Need-cast-n Inv-loop μ-loop
 cast-n c = search needs
 
-add-p : tie.Need-add-p Inv-loop μ-loop
-add-p c = search needs
+add-from : tie.Need-add-from Inv-loop μ-loop
+add-from c = search needs
 
 add-q : tie.Need-add-q Inv-loop μ-loop
 add-q c = search needs
@@ -107,7 +107,7 @@ filter-list-spec =
     μ-loop
     slot-matches-requires
     cast-n
-    add-p
+    add-from
     add-q
     loop-holds
     match-end-requires

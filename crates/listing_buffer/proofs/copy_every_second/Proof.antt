@@ -11,10 +11,10 @@ use Rattle.listing_buffer.proofs.copy_every_second.Statement.{statement
 use Rattle.listing_buffer.proofs.copy_every_second.Tie as tie
 
 abbrev Inv-loop : tie.InvT-loop
-Inv-loop mem p n buffer₀ q i₀ buffer i = (i ≤ n) × (buffer ≡ sets buffer₀ q (everySecond mem p i)) × (length buffer ≡ length buffer₀)
+Inv-loop mem from n buffer₀ q i₀ buffer i = (i ≤ n) × (buffer ≡ sets buffer₀ q (everySecond mem from i)) × (length buffer ≡ length buffer₀)
 
 abbrev μ-loop : tie.MeasureT-loop
-μ-loop mem p n buffer₀ q i₀ buffer i = n - i
+μ-loop mem from n buffer₀ q i₀ buffer i = n - i
 
 loop-holds : tie.Need-loop-holds Inv-loop μ-loop
 loop-holds c = (search needs, copied-none _ _ _ _, refl)
@@ -50,7 +50,7 @@ loop-again : tie.Need-loop-again Inv-loop μ-loop
 loop-again c =
     let l = c .before .before in
     let s = l .before in
-    let more = copied-more (s .args .mem .now) (s .args .buffer .now) (s .args .p) (s .args .q) (l .loop .i) in
+    let more = copied-more (s .args .mem .now) (s .args .buffer .now) (s .args .from) (s .args .q) (l .loop .i) in
     (search needs, rw (l .loop .inv .1) more, simp length-set (l .loop .inv .2))
 
 same-length : tie.Need-same-length Inv-loop μ-loop

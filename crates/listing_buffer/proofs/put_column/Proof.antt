@@ -1,4 +1,4 @@
--- Invariant: the numbers of the first i matches are written up to q, and the others lie from p on. Each match brings one number for each of its
+-- Invariant: the numbers of the first i matches are written up to q, and the others lie from from on. Each match brings one number for each of its
 -- strings, so room for all is room for the next. Measure: n - i.
 use Prim.Native.Nat.{_≤_, _-_}
 use native.Mathlib.Omega.{arith}
@@ -12,18 +12,18 @@ use Rattle.listing_buffer.proofs.put_column.Statement.{statement}
 use Rattle.listing_buffer.proofs.put_column.Tie as tie
 
 abbrev Inv-loop : tie.InvT-loop
-Inv-loop mem first n column buffer₀ at p₀ q₀ i₀ buffer p q i =
-    (i ≤ n) × (length buffer ≡ length buffer₀) × ((w : ColumnAt mem first n (length buffer₀) at) → Writing (columnIn column) (w .list) mem n buffer₀ at buffer p q i)
+Inv-loop mem first n column buffer₀ at from₀ q₀ i₀ buffer from q i =
+    (i ≤ n) × (length buffer ≡ length buffer₀) × ((w : ColumnAt mem first n (length buffer₀) at) → Writing (columnIn column) (w .list) mem n buffer₀ at buffer from q i)
 
 abbrev μ-loop : tie.MeasureT-loop
-μ-loop mem first n column buffer₀ at p₀ q₀ i₀ buffer p q i = n - i
+μ-loop mem first n column buffer₀ at from₀ q₀ i₀ buffer from q i = n - i
 
 -- the header in hand
-one : (c : tie.In-loop Inv-loop μ-loop) → Header (c .before .before .before .before .args .mem .now) (c .before .loop .p)
+one : (c : tie.In-loop Inv-loop μ-loop) → Header (c .before .before .before .before .args .mem .now) (c .before .loop .from)
 one c = here (c .before .loop .inv .2 (c .before .before .before .before .pre .0)) (c .loop-test .taken) .held .header
 
 -- and room for its strings' numbers
-room : (c : tie.After-strings-in Inv-loop μ-loop) → Room (c .before .before .before .before .before .before .before .args .mem .now) (c .before .before .before .before .loop .buffer) (c .before .before .before .before .loop .p) (c .before .before .before .before .loop .q) (c .strings-in .result)
+room : (c : tie.After-strings-in Inv-loop μ-loop) → Room (c .before .before .before .before .before .before .before .args .mem .now) (c .before .before .before .before .loop .buffer) (c .before .before .before .before .loop .from) (c .before .before .before .before .loop .q) (c .strings-in .result)
 room c = column-room _ (c .before .before .before .before .loop .inv .2 (c .before .before .before .before .before .before .before .pre .0)) (c .before .before .before .loop-test .taken) (c .strings-in .ensures) (c .before .before .before .before .before .before .before .pre .0 .room)
 
 loop-holds : tie.Need-loop-holds Inv-loop μ-loop

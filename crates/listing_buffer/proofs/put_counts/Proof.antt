@@ -1,4 +1,4 @@
--- Invariant: the counts of the first i matches are written, and the others lie from p on. The place of a count is its match's number, so the buffer's
+-- Invariant: the counts of the first i matches are written, and the others lie from at on. The place of a count is its match's number, so the buffer's
 -- index needs no variable. Measure: n - i.
 use Prim.Native.Nat.{_+_, _≤_, _-_}
 use native.Mathlib.Omega.{arith}
@@ -11,14 +11,14 @@ use Rattle.listing_buffer.proofs.put_counts.Statement.{statement}
 use Rattle.listing_buffer.proofs.put_counts.Tie as tie
 
 abbrev Inv-loop : tie.InvT-loop
-Inv-loop mem first n buffer₀ q p₀ i₀ buffer p i =
-    (i ≤ n) × (length buffer ≡ length buffer₀) × ((w : StreamAt mem first n) → Writing countIn (w .list) mem n buffer₀ q buffer p (q + i) i)
+Inv-loop mem first n buffer₀ q at₀ i₀ buffer at i =
+    (i ≤ n) × (length buffer ≡ length buffer₀) × ((w : StreamAt mem first n) → Writing countIn (w .list) mem n buffer₀ q buffer at (q + i) i)
 
 abbrev μ-loop : tie.MeasureT-loop
-μ-loop mem first n buffer₀ q p₀ i₀ buffer p i = n - i
+μ-loop mem first n buffer₀ q at₀ i₀ buffer at i = n - i
 
 -- the header in hand
-one : (c : tie.In-loop Inv-loop μ-loop) → Header (c .before .before .before .before .args .mem .now) (c .before .loop .p)
+one : (c : tie.In-loop Inv-loop μ-loop) → Header (c .before .before .before .before .args .mem .now) (c .before .loop .at)
 one c = here (c .before .loop .inv .2 (c .before .before .before .before .pre .0)) (c .loop-test .taken) .held .header
 
 loop-holds : tie.Need-loop-holds Inv-loop μ-loop
@@ -48,8 +48,8 @@ slice-write-buffer c = search needs
 match-length-requires : tie.Need-match-length-requires Inv-loop μ-loop
 match-length-requires c κs = search needs
 
-add-p : tie.Need-add-p Inv-loop μ-loop
-add-p c = omega (arith, one (c .before .before .before), c .match-length .ensures)
+add-at : tie.Need-add-at Inv-loop μ-loop
+add-at c = omega (arith, one (c .before .before .before), c .match-length .ensures)
 
 add-i : tie.Need-add-i Inv-loop μ-loop
 add-i c = search needs
@@ -86,7 +86,7 @@ put-counts-spec =
     mul-buffer
     slice-write-buffer
     match-length-requires
-    add-p
+    add-at
     add-i
     loop-less
     loop-again

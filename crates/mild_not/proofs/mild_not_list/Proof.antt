@@ -17,16 +17,16 @@ use Rattle.mild_not.proofs.mild_not_list.Statement.{statement}
 use Rattle.mild_not.proofs.mild_not_list.Tie as tie
 
 abbrev Inv-loop : tie.InvT-loop
-Inv-loop mem₀ l r at n p₀ q₀ matches₀ candidates₀ i₀ mem p q matches candidates i =
+Inv-loop mem₀ l r at n left₀ q₀ matches₀ candidates₀ i₀ mem left q matches candidates i =
     (i ≤ n) × (length mem ≡ length mem₀)
-    × ((w : TwoSlots mem₀ l r) → Counting (mildNot (w .rights)) (w .lefts) mem₀ n (at + 2) mem p q i matches × CandidatesAre (w .rights) mem r candidates)
+    × ((w : TwoSlots mem₀ l r) → Counting (mildNot (w .rights)) (w .lefts) mem₀ n (at + 2) mem left q i matches × CandidatesAre (w .rights) mem r candidates)
 
 abbrev μ-loop : tie.MeasureT-loop
-μ-loop mem₀ l r at n p₀ q₀ matches₀ candidates₀ i₀ mem p q matches candidates i = n - i
+μ-loop mem₀ l r at n left₀ q₀ matches₀ candidates₀ i₀ mem left q matches candidates i = n - i
 
 -- the match of L in hand, with what is known of R
 abbrev one : (c : tie.In-loop Inv-loop μ-loop)
-    → CandidatesAt (c .before .loop .mem) (c .before .loop .p) (c .before .before .before .before .slot-matches .result - c .before .loop .i) (c .before .before .before .before .before .before .before .args .r) (c .before .loop .candidates)
+    → CandidatesAt (c .before .loop .mem) (c .before .loop .left) (c .before .before .before .before .slot-matches .result - c .before .loop .i) (c .before .before .before .before .before .before .before .args .r) (c .before .loop .candidates)
 one c =
     let w = c .before .before .before .before .before .before .before .pre .0 in
     let g = c .before .loop .inv .2 w in
@@ -38,8 +38,8 @@ slot-matches-requires c κs = search needs
 cast-n : tie.Need-cast-n Inv-loop μ-loop
 cast-n c = search needs
 
-add-p : tie.Need-add-p Inv-loop μ-loop
-add-p c = search needs
+add-left : tie.Need-add-left Inv-loop μ-loop
+add-left c = search needs
 
 add-q : tie.Need-add-q Inv-loop μ-loop
 add-q c = search needs
@@ -116,7 +116,7 @@ mild-not-list-spec =
     μ-loop
     slot-matches-requires
     cast-n
-    add-p
+    add-left
     add-q
     all-of-requires
     loop-holds

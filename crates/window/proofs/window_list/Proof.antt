@@ -1,4 +1,4 @@
--- Invariant: the windows of the matches passed are written after the header's place, up to q, and the matches left lie at p as they were. Measure: the matches
+-- Invariant: the windows of the matches passed are written after the header's place, up to q, and the matches left lie at from as they were. Measure: the matches
 -- left. The list is sized first, so there is room for all of it.
 use Prim.Native.Nat.{_+_, _-_, _≤_}
 use native.Mathlib.Omega.{arith}
@@ -14,14 +14,14 @@ use Rattle.window.proofs.window_list.Statement.{statement}
 use Rattle.window.proofs.window_list.Tie as tie
 
 abbrev Inv-loop : tie.InvT-loop
-Inv-loop mem₀ n src at size matches strings count p₀ q₀ i₀ mem p q i =
-    (i ≤ count) × (length mem ≡ length mem₀) × ((w : SlotAt mem₀ src) → Going (window n) (w .list) mem₀ count (at + 2) mem p q i)
+Inv-loop mem₀ n src at size matches strings count from₀ q₀ i₀ mem from q i =
+    (i ≤ count) × (length mem ≡ length mem₀) × ((w : SlotAt mem₀ src) → Going (window n) (w .list) mem₀ count (at + 2) mem from q i)
 
 abbrev μ-loop : tie.MeasureT-loop
-μ-loop mem₀ n src at size matches strings count p₀ q₀ i₀ mem p q i = count - i
+μ-loop mem₀ n src at size matches strings count from₀ q₀ i₀ mem from q i = count - i
 
 -- the match in hand
-here : (c : tie.In-loop Inv-loop μ-loop) → OneAt (window (c .before .before .before .before .before .before .before .before .before .before .args .n)) (c .before .loop .mem) (c .before .loop .p) (c .before .loop .q)
+here : (c : tie.In-loop Inv-loop μ-loop) → OneAt (window (c .before .before .before .before .before .before .before .before .before .before .args .n)) (c .before .loop .mem) (c .before .loop .from) (c .before .loop .q)
 here c = item (c .before .loop .inv .2 (c .before .before .before .before .before .before .before .before .before .before .pre .1 .0)) (c .loop-test .taken)
 
 window-size-requires : tie.Need-window-size-requires Inv-loop μ-loop
@@ -42,8 +42,8 @@ returns c w = refused (c .before .before .window-size .ensures w) (c .enum-told 
 slot-matches-requires : tie.Need-slot-matches-requires Inv-loop μ-loop
 slot-matches-requires c κs = search needs
 
-add-p : tie.Need-add-p Inv-loop μ-loop
-add-p c = search needs
+add-from : tie.Need-add-from Inv-loop μ-loop
+add-from c = search needs
 
 add-q : tie.Need-add-q Inv-loop μ-loop
 add-q c = search needs
@@ -106,7 +106,7 @@ window-list-spec =
     same-length
     returns
     slot-matches-requires
-    add-p
+    add-from
     add-q
     loop-holds
     match-end-requires

@@ -9,10 +9,10 @@ use Rattle.candidates.proofs.edges.ranges_ahead.Statement.{statement}
 use Rattle.candidates.proofs.edges.ranges_ahead.Tie as tie
 
 abbrev Inv-loop : tie.InvT-loop
-Inv-loop mem p n ranges₀ at₀ i₀ ranges at i = (i ≤ n) × ((w : StreamAt mem p n) → Widening (w .list) ranges₀ mem n at i ranges)
+Inv-loop mem from n ranges₀ at₀ i₀ ranges at i = (i ≤ n) × ((w : StreamAt mem from n) → Widening (w .list) ranges₀ mem n at i ranges)
 
 abbrev μ-loop : tie.MeasureT-loop
-μ-loop mem p n ranges₀ at₀ i₀ ranges at i = n - i
+μ-loop mem from n ranges₀ at₀ i₀ ranges at i = n - i
 
 -- the match in hand
 abbrev one : (c : tie.In-loop Inv-loop μ-loop) → MatchAt (c .before .before .before .before .before .args .mem .now) (c .before .loop .at)

@@ -38,7 +38,7 @@ returns-2 c w =
     let d = c .before in
     let i = d .before .before in
     let a = i .before .before .before .args in
-    let some : 0 < includesIn (getD (a .mem .now) (a .p) 0) = omega (arith, i .includes-in .ensures, d .before .if1 .left) in
+    let some : 0 < includesIn (getD (a .mem .now) (a .left) 0) = omega (arith, i .includes-in .ensures, d .before .if1 .left) in
     let candidates = d .candidates-for .ensures w in
     by-search w some (candidates .0) (candidates .1) (c .search .ensures (search-at w some (candidates .0)))
 

@@ -11,10 +11,10 @@ use Rattle.mild_not.proofs.keeps.search.Statement.{statement}
 use Rattle.mild_not.proofs.keeps.search.Tie as tie
 
 abbrev Inv-loop : tie.InvT-loop
-Inv-loop mem p from end includes excludes last₀ at₀ last at = (w : SearchAt mem p from end) → Against (w .item) (w .rights) mem at end (last .0)
+Inv-loop mem left from end includes excludes last₀ at₀ last at = (w : SearchAt mem left from end) → Against (w .item) (w .rights) mem at end (last .0)
 
 abbrev μ-loop : tie.MeasureT-loop
-μ-loop mem p from end includes excludes last₀ at₀ last at = end - at
+μ-loop mem left from end includes excludes last₀ at₀ last at = end - at
 
 -- the header of the match of R in hand
 one : (c : tie.In-loop Inv-loop μ-loop) → Header (c .before .before .before .before .before .before .before .args .mem .now) (c .before .loop .at)

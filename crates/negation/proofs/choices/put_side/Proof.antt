@@ -12,14 +12,14 @@ use Rattle.negation.proofs.choices.put_side.Statement.{statement}
 use Rattle.negation.proofs.choices.put_side.Tie as tie
 
 abbrev Inv-loop : tie.InvT-loop
-Inv-loop mem₀ src total c sort at n p₀ q₀ rest₀ weight₀ i₀ mem p q rest weight i =
-    (i ≤ n) × (length mem ≡ length mem₀) × ((w : SideAt mem₀ src total c sort at) → Going (w .list) mem₀ n c sort at mem p q rest weight i)
+Inv-loop mem₀ src total c sort at n from₀ q₀ rest₀ weight₀ i₀ mem from q rest weight i =
+    (i ≤ n) × (length mem ≡ length mem₀) × ((w : SideAt mem₀ src total c sort at) → Going (w .list) mem₀ n c sort at mem from q rest weight i)
 
 abbrev μ-loop : tie.MeasureT-loop
-μ-loop mem₀ src total c sort at n p₀ q₀ rest₀ weight₀ i₀ mem p q rest weight i = n - i
+μ-loop mem₀ src total c sort at n from₀ q₀ rest₀ weight₀ i₀ mem from q rest weight i = n - i
 
 -- the header of the match in hand; and the turn's numbers, by its strings
-one : (c : tie.In-loop Inv-loop μ-loop) → Header (c .before .loop .mem) (c .before .loop .p)
+one : (c : tie.In-loop Inv-loop μ-loop) → Header (c .before .loop .mem) (c .before .loop .from)
 one c = here (c .before .loop .inv .2 (c .before .before .before .before .before .pre)) (c .loop-test .taken) .held .header
 
 here-turn : (c : tie.After-strings-in Inv-loop μ-loop)
@@ -30,8 +30,8 @@ here-turn c = turn (c .before .before .before .before .before .loop .inv .2 (c .
 slot-matches-requires : tie.Need-slot-matches-requires Inv-loop μ-loop
 slot-matches-requires c κs = search needs
 
-add-p : tie.Need-add-p Inv-loop μ-loop
-add-p c = search needs
+add-from : tie.Need-add-from Inv-loop μ-loop
+add-from c = search needs
 
 loop-holds : tie.Need-loop-holds Inv-loop μ-loop
 loop-holds c = (search needs, refl, λ w. start w (c .slot-matches .ensures))
@@ -92,7 +92,7 @@ put-side-spec =
     Inv-loop
     μ-loop
     slot-matches-requires
-    add-p
+    add-from
     loop-holds
     bounds-at-requires
     mul-strings-in

@@ -12,20 +12,20 @@ use Rattle.negation.proofs.sizes.count_choices.Statement.{statement}
 use Rattle.negation.proofs.sizes.count_choices.Tie as tie
 
 abbrev Inv-loop : tie.InvT-loop
-Inv-loop mem src n p₀ total₀ i₀ p total i = (i ≤ n) × (total ≤ ceiling) × ((w : SlotAt mem src) → Counting (w .list) mem p (src + slotLength mem src) total i n)
+Inv-loop mem src n at₀ total₀ i₀ at total i = (i ≤ n) × (total ≤ ceiling) × ((w : SlotAt mem src) → Counting (w .list) mem at (src + slotLength mem src) total i n)
 
 abbrev μ-loop : tie.MeasureT-loop
-μ-loop mem src n p₀ total₀ i₀ p total i = n - i
+μ-loop mem src n at₀ total₀ i₀ at total i = n - i
 
 -- the header of the match in hand
-one : (c : tie.In-loop Inv-loop μ-loop) → Header (c .before .before .before .before .args .mem .now) (c .before .loop .p)
+one : (c : tie.In-loop Inv-loop μ-loop) → Header (c .before .before .before .before .args .mem .now) (c .before .loop .at)
 one c = here (c .before .loop .inv .2 (c .before .before .before .before .pre)) (c .loop-test .taken) .held .header
 
 slot-matches-requires : tie.Need-slot-matches-requires Inv-loop μ-loop
 slot-matches-requires c κs = search needs
 
-add-p : tie.Need-add-p Inv-loop μ-loop
-add-p c = search needs
+add-at : tie.Need-add-at Inv-loop μ-loop
+add-at c = search needs
 
 loop-holds : tie.Need-loop-holds Inv-loop μ-loop
 loop-holds c = (search needs, search needs, λ w. start w (c .slot-matches .ensures))
@@ -48,8 +48,8 @@ product-requires c κs = omega (arith, one (c .before .before), c .strings-in .e
 match-length-requires : tie.Need-match-length-requires Inv-loop μ-loop
 match-length-requires c κs = search needs
 
-add-p-2 : tie.Need-add-p-2 Inv-loop μ-loop
-add-p-2 c = omega (arith, one (c .before .before .before .before), c .match-length .ensures)
+add-at-2 : tie.Need-add-at-2 Inv-loop μ-loop
+add-at-2 c = omega (arith, one (c .before .before .before .before), c .match-length .ensures)
 
 add-i : tie.Need-add-i Inv-loop μ-loop
 add-i c = search needs
@@ -75,7 +75,7 @@ count-choices-spec =
     Inv-loop
     μ-loop
     slot-matches-requires
-    add-p
+    add-at
     loop-holds
     mul-header
     shared-slice-read-header
@@ -83,7 +83,7 @@ count-choices-spec =
     cast-product
     product-requires
     match-length-requires
-    add-p-2
+    add-at-2
     add-i
     loop-less
     loop-again

@@ -1,4 +1,4 @@
--- Invariant: the rows of the left matches before number i are written after the place of the header, up to q, and the others lie at p as they were. Measure: the
+-- Invariant: the rows of the left matches before number i are written after the place of the header, up to q, and the others lie at left as they were. Measure: the
 -- matches left. The product is sized first, so there is room for all of it.
 use Prim.Native.Nat.{_+_, _-_, _≤_}
 use native.Mathlib.Omega.{arith}
@@ -14,14 +14,14 @@ use Rattle.or_and.proofs.and.and_list.Statement.{statement}
 use Rattle.or_and.proofs.and.and_list.Tie as tie
 
 abbrev Inv-loop : tie.InvT-loop
-Inv-loop mem₀ l r at size matches strings m n p₀ q₀ i₀ mem p q i =
-    (i ≤ m) × (length mem ≡ length mem₀) × ((w : TwoSlots mem₀ l r) → Going (rowOf (w .rights)) (w .lefts) mem₀ m (at + 2) mem p q i)
+Inv-loop mem₀ l r at size matches strings m n left₀ q₀ i₀ mem left q i =
+    (i ≤ m) × (length mem ≡ length mem₀) × ((w : TwoSlots mem₀ l r) → Going (rowOf (w .rights)) (w .lefts) mem₀ m (at + 2) mem left q i)
 
 abbrev μ-loop : tie.MeasureT-loop
-μ-loop mem₀ l r at size matches strings m n p₀ q₀ i₀ mem p q i = m - i
+μ-loop mem₀ l r at size matches strings m n left₀ q₀ i₀ mem left q i = m - i
 
 -- the header of the left match in hand
-one : (c : tie.In-loop Inv-loop μ-loop) → Header (c .before .loop .mem) (c .before .loop .p)
+one : (c : tie.In-loop Inv-loop μ-loop) → Header (c .before .loop .mem) (c .before .loop .left)
 one c =
     let w = c .before .before .before .before .before .before .before .before .before .before .before .before .pre .0 in
     item (c .before .loop .inv .2 w) (c .loop-test .taken) .one .held .header
@@ -53,8 +53,8 @@ slot-matches-requires-2 c κs = search needs
 cast-n : tie.Need-cast-n Inv-loop μ-loop
 cast-n c = search needs
 
-add-p : tie.Need-add-p Inv-loop μ-loop
-add-p c = search needs
+add-left : tie.Need-add-left Inv-loop μ-loop
+add-left c = search needs
 
 add-q : tie.Need-add-q Inv-loop μ-loop
 add-q c = search needs
@@ -123,7 +123,7 @@ and-list-spec =
     cast-m
     slot-matches-requires-2
     cast-n
-    add-p
+    add-left
     add-q
     loop-holds
     match-end-requires

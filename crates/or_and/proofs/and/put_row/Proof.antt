@@ -1,4 +1,4 @@
--- Invariant: what the left match makes of the right matches before number j is written from at to q, and the others lie at p as they were. Measure: the matches
+-- Invariant: what the left match makes of the right matches before number j is written from at to q, and the others lie at right as they were. Measure: the matches
 -- left.
 use Prim.Native.Nat.{_-_, _≤_}
 use native.Mathlib.Omega.{arith}
@@ -12,14 +12,14 @@ use Rattle.or_and.proofs.and.put_row.Statement.{statement}
 use Rattle.or_and.proofs.and.put_row.Tie as tie
 
 abbrev Inv-loop : tie.InvT-loop
-Inv-loop mem₀ pl pr n at p₀ q₀ j₀ mem p q j =
-    (j ≤ n) × (length mem ≡ length mem₀) × ((w : RowAt mem₀ pl pr n at) → Going (joinedOne (w .left)) (w .rights) mem₀ n at mem p q j)
+Inv-loop mem₀ left first n at right₀ q₀ j₀ mem right q j =
+    (j ≤ n) × (length mem ≡ length mem₀) × ((w : RowAt mem₀ left first n at) → Going (joinedOne (w .left)) (w .rights) mem₀ n at mem right q j)
 
 abbrev μ-loop : tie.MeasureT-loop
-μ-loop mem₀ pl pr n at p₀ q₀ j₀ mem p q j = n - j
+μ-loop mem₀ left first n at right₀ q₀ j₀ mem right q j = n - j
 
 -- the two matches in hand
-one : (c : tie.In-loop Inv-loop μ-loop) → JoinableAt (c .before .loop .mem) (c .before .before .before .args .pl) (c .before .loop .p) (c .before .loop .q)
+one : (c : tie.In-loop Inv-loop μ-loop) → JoinableAt (c .before .loop .mem) (c .before .before .before .args .left) (c .before .loop .right) (c .before .loop .q)
 one c = let w = c .before .before .before .pre in row-item (w .row) (c .before .loop .inv .2 w) (c .loop-test .taken)
 
 loop-holds : tie.Need-loop-holds Inv-loop μ-loop

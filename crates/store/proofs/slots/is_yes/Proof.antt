@@ -1,4 +1,4 @@
--- Invariant: none of the matches passed is without excludes, so those from p on answer for all. Measure: the numbers left.
+-- Invariant: none of the matches passed is without excludes, so those from at on answer for all. Measure: the numbers left.
 use Prim.Native.Nat.{_+_, _-_}
 use native.Mathlib.Omega.{arith}
 use mathlib.Core.Path.{refl, sym, ap, _∙_}
@@ -13,20 +13,20 @@ use Rattle.store.proofs.slots.is_yes.Statement.{statement}
 use Rattle.store.proofs.slots.is_yes.Tie as tie
 
 abbrev Inv-loop : tie.InvT-loop
-Inv-loop mem src end p₀ p = (w : SlotAt mem src) → SearchInvariant (isYes (w .list)) isYes mem p end
+Inv-loop mem src end at₀ at = (w : SlotAt mem src) → SearchInvariant (isYes (w .list)) isYes mem at end
 
 abbrev μ-loop : tie.MeasureT-loop
-μ-loop mem src end p₀ p = end - p
+μ-loop mem src end at₀ at = end - at
 
 -- the header in hand
-one : (c : tie.In-loop Inv-loop μ-loop) → Header (c .before .before .before .before .args .mem .now) (c .before .loop .p)
+one : (c : tie.In-loop Inv-loop μ-loop) → Header (c .before .before .before .before .args .mem .now) (c .before .loop .at)
 one c = next-at (c .before .loop .inv (c .before .before .before .before .pre) .left) (c .loop-test .taken) .held .header
 
 slot-end-requires : tie.Need-slot-end-requires Inv-loop μ-loop
 slot-end-requires c κs = search needs
 
-add-p : tie.Need-add-p Inv-loop μ-loop
-add-p c = search needs
+add-at : tie.Need-add-at Inv-loop μ-loop
+add-at c = search needs
 
 loop-holds : tie.Need-loop-holds Inv-loop μ-loop
 loop-holds c = λ w. search-start isYes (slot-stream (w .slot) _ _ refl (c .slot-end .ensures))
@@ -49,8 +49,8 @@ returns c w =
 match-length-requires : tie.Need-match-length-requires Inv-loop μ-loop
 match-length-requires c κs = search needs
 
-add-p-2 : tie.Need-add-p-2 Inv-loop μ-loop
-add-p-2 c = omega (arith, one (c .before .before .before .before))
+add-at-2 : tie.Need-add-at-2 Inv-loop μ-loop
+add-at-2 c = omega (arith, one (c .before .before .before .before))
 
 loop-less : tie.Need-loop-less Inv-loop μ-loop
 loop-less c = omega (arith, one (c .before .before .before .before), c .match-length .ensures, c .before .before .before .before .loop-test .taken)
@@ -59,7 +59,7 @@ loop-again : tie.Need-loop-again Inv-loop μ-loop
 loop-again c = λ w.
     let l = c .before .before .before .before in
     let g = l .before .loop .inv w in
-    yes-later g (next-at (g .left) (l .loop-test .taken)) (λ z. c .before .if1 .left (c .before .before .excludes-in .ensures ∙ z)) (ap (λ k. l .before .loop .p + k) (c .match-length .ensures))
+    yes-later g (next-at (g .left) (l .loop-test .taken)) (λ z. c .before .if1 .left (c .before .before .excludes-in .ensures ∙ z)) (ap (λ k. l .before .loop .at + k) (c .match-length .ensures))
 
 returns-2 : tie.Need-returns-2 Inv-loop μ-loop
 returns-2 c w = yes-none (c .before .loop .inv w) (c .loop-test .left)
@@ -71,14 +71,14 @@ is-yes-spec =
     Inv-loop
     μ-loop
     slot-end-requires
-    add-p
+    add-at
     loop-holds
     mul-header
     shared-slice-read-header
     excludes-in-requires
     returns
     match-length-requires
-    add-p-2
+    add-at-2
     loop-less
     loop-again
     returns-2)

@@ -1,4 +1,4 @@
--- Invariant: the windows of the matches passed are counted, within the limits, and the matches left lie at p. Measure: the matches left. Sizes only grow, so
+-- Invariant: the windows of the matches passed are counted, within the limits, and the matches left lie at at. Measure: the matches left. Sizes only grow, so
 -- what is too long on the way is too long as a whole.
 use Prim.Native.Nat.{_-_, _≤_}
 use native.Mathlib.Omega.{arith}
@@ -10,22 +10,22 @@ use Rattle.window.proofs.sizes.window_size.Statement.{statement}
 use Rattle.window.proofs.sizes.window_size.Tie as tie
 
 abbrev Inv-loop : tie.InvT-loop
-Inv-loop mem n src count p₀ matches₀ strings₀ i₀ p matches strings i = (i ≤ count) × ((w : SlotAt mem src) → Sizing n (w .list) mem count p matches strings i)
+Inv-loop mem n src count at₀ matches₀ strings₀ i₀ at matches strings i = (i ≤ count) × ((w : SlotAt mem src) → Sizing n (w .list) mem count at matches strings i)
 
 abbrev μ-loop : tie.MeasureT-loop
-μ-loop mem n src count p₀ matches₀ strings₀ i₀ p matches strings i = count - i
+μ-loop mem n src count at₀ matches₀ strings₀ i₀ at matches strings i = count - i
 
 -- the match in hand
 one : (c : tie.In-loop Inv-loop μ-loop)
-    → SizeAt (c .before .before .before .before .args .n) (c .before .before .before .before .args .mem .now) (c .before .loop .p) (c .before .loop .matches)
+    → SizeAt (c .before .before .before .before .args .n) (c .before .before .before .before .args .mem .now) (c .before .loop .at) (c .before .loop .matches)
     (c .before .loop .strings)
 one c = let r = c .before .before .before .before .pre in size-item (c .before .loop .inv .1 (r .1)) (c .loop-test .taken) (r .0)
 
 slot-matches-requires : tie.Need-slot-matches-requires Inv-loop μ-loop
 slot-matches-requires c κs = search needs
 
-add-p : tie.Need-add-p Inv-loop μ-loop
-add-p c = search needs
+add-at : tie.Need-add-at Inv-loop μ-loop
+add-at c = search needs
 
 loop-holds : tie.Need-loop-holds Inv-loop μ-loop
 loop-holds c = (search needs, λ w. size-start _ (w .slot) (c .slot-matches .ensures))
@@ -78,7 +78,7 @@ window-size-spec =
     Inv-loop
     μ-loop
     slot-matches-requires
-    add-p
+    add-at
     loop-holds
     size-with-requires
     enum-known-size
