@@ -17,36 +17,37 @@ use Rattle.store.specs.Slot.{SlotHolds}
 use Rattle.store.specs.Stream.{Remaining}
 use Rattle.store.proofs.SlotsLaws.{slot-stream}
 use Rattle.store.proofs.StreamLaws.{remaining-below}
+use Rattle.strings.specs.Covering.{overlaps}
 use Rattle.candidates.specs.declared.Candidates.{Candidates}
 use Rattle.candidates.specs.declared.edges.Range.{Range}
 use Rattle.candidates.specs.declared.edges.Ranges.{Ranges}
 use Rattle.candidates.specs.Edges.{Within}
 use Rattle.candidates.specs.Candidates.{CandidatesAre}
-use Rattle.candidates.specs.Overlapping.{overlapBoth, anyOverlaps, overlaps}
+use Rattle.candidates.specs.Overlapping.{overlapBoth, anyInRange}
 use Rattle.candidates.specs.Passing.{fromFirst, upToLast}
 use Rattle.candidates.proofs.UncoveredLaws.{uncovered-at}
 use Rattle.candidates.proofs.PassingLaws.{all-fromFirst, all-upToLast, length-upToLast}
 
--- ---- anyOverlaps
+-- ---- anyInRange
 
-covers-overlaps : (range : Range) (p : ℕ) → Within range p → (s : Str) → covers s p ≡ true → overlaps range s ≡ true
+covers-overlaps : (range : Range) (p : ℕ) → Within range p → (s : Str) → covers s p ≡ true → overlaps (range .lo .0) (range .hi .0) s ≡ true
 covers-overlaps range p w s e =
     let both = both-true (leb (s .start) p) (leb p (s .end)) e in
     let a = leb-true (s .start) p (both .0) in
     let b = leb-true p (s .end) (both .1) in
     and-join (le-leb (s .start) (range .hi .0) (omega arith)) (le-leb (range .lo .0) (s .end) (omega arith))
 
-covered-overlaps : (range : Range) (p : ℕ) → Within range p → (ss : List Str) → covered ss p ≡ true → anyOverlaps range ss ≡ true
+covered-overlaps : (range : Range) (p : ℕ) → Within range p → (ss : List Str) → covered ss p ≡ true → anyInRange range ss ≡ true
 unfolding anyOf
 covered-overlaps range p w [] e = false-true e
 covered-overlaps range p w (s ∷ ss) e = at (covers s p) refl e (covered-overlaps range p w ss)
   where
-    at : (b : Bool) → covers s p ≡ b → (b || covered ss p) ≡ true → (covered ss p ≡ true → anyOverlaps range ss ≡ true) → (overlaps range s || anyOverlaps range ss) ≡ true
+    at : (b : Bool) → covers s p ≡ b → (b || covered ss p) ≡ true → (covered ss p ≡ true → anyInRange range ss ≡ true) → (overlaps (range .lo .0) (range .hi .0) s || anyInRange range ss) ≡ true
     at true c e later = rw (covers-overlaps range p w s c)
-    at false c e later = rw (later e) (or-true (overlaps range s))
+    at false c e later = rw (later e) (or-true (overlaps (range .lo .0) (range .hi .0) s))
 
--- what isn't anyOverlaps isn't covered
-apart-uncovered : (range : Range) (p : ℕ) → Within range p → (ss : List Str) → anyOverlaps range ss ≡ false → covered ss p ≡ false
+-- what has no position in the range isn't covered
+apart-uncovered : (range : Range) (p : ℕ) → Within range p → (ss : List Str) → anyInRange range ss ≡ false → covered ss p ≡ false
 apart-uncovered range p w ss e = at (covered ss p) refl
   where
     at : (b : Bool) → covered ss p ≡ b → b ≡ false
@@ -69,7 +70,7 @@ module _ (l : Match) (p q : ℕ) (e : covered (l .includes) p ≡ true) (f : cov
   -- .. and beside one that doesn't overlap both ranges with these positions
   pub uncovered-apart : (ranges : Ranges) → Within (ranges .start) p → Within (ranges .end) q → (m : Match) → overlapBoth ranges (m .includes) ≡ false → hasUncovered l m ≡ true
   uncovered-apart ranges v w m =
-      either m (anyOverlaps (ranges .start) (m .includes)) (anyOverlaps (ranges .end) (m .includes)) (apart-uncovered (ranges .start) p v (m .includes)) (apart-uncovered (ranges .end) q w (m .includes))
+      either m (anyInRange (ranges .start) (m .includes)) (anyInRange (ranges .end) (m .includes)) (apart-uncovered (ranges .start) p v (m .includes)) (apart-uncovered (ranges .end) q w (m .includes))
 
 -- ---- the part of R
 

@@ -1,47 +1,22 @@
 // The first and the last of the matches of R that overlap two ranges.
-use super::edges::Range;
 use super::edges::Ranges;
 use store::Bounds;
-use strings::end_of;
-use strings::start_of;
+use strings::covering::any_overlaps;
 ghost use mathlib.Core.Path.{_≡_};
-ghost use Rattle.strings.specs.Strings.{strOf, strsAt};
+ghost use Rattle.strings.specs.Strings.{strsAt};
 ghost use Rattle.store.specs.Stream.{Remaining, RemainingAt};
 ghost use Rattle.candidates.specs.Passing.{fromFirst, upToLast};
-ghost use Rattle.candidates.specs.Overlapping.{anyOverlaps, overlapBoth, overlaps};
-
-// Does a string of this span have a position in the range?
-fn overlaps(span: u32, range: Range) -> bool
-    ensures { λ r. ⌜ r ≡ overlaps range (strOf span 0) ⌝ }
-{
-    if range.hi.0 < start_of(span).0 {
-        return false;
-    }
-    range.lo.0 <= end_of(span).0
-}
-
-// Does any of the strings have a position in the range?
-fn any_overlaps(strs: &[u32], range: Range) -> bool
-    ensures { λ r. ⌜ r ≡ anyOverlaps range (strsAt (now (strs .entry))) ⌝ }
-{
-    let mut i = 0;
-    while i + 1 < strs.len() {
-        if overlaps(strs[i], range) {
-            return true;
-        }
-        i += 2;
-    }
-    false
-}
+ghost use Rattle.candidates.specs.Overlapping.{overlapBoth};
 
 // Do the strings have positions in both ranges?
 fn overlap_both(strs: &[u32], ranges: Ranges) -> bool
     ensures { λ r. ⌜ r ≡ overlapBoth ranges (strsAt (now (strs .entry))) ⌝ }
 {
-    if !any_overlaps(strs, ranges.start) {
+    let Ranges { start, end } = ranges;
+    if !any_overlaps(strs, start.lo, start.hi) {
         return false;
     }
-    any_overlaps(strs, ranges.end)
+    any_overlaps(strs, end.lo, end.hi)
 }
 
 // The first match of R, from the one at `from` on, that overlaps both ranges: where it lies, or the end.

@@ -1,12 +1,20 @@
--- Runs of covered positions, gone through string by string.
+-- Positions that strings have or cover, and runs of covered positions, gone through string by string.
 use Prim.Native.Nat.{ℕ, _+_, _≤_}
 use mathlib.Core.Bool.{Bool, true, false, not, _&&_, _||_, cond}
 use mathlib.Core.List.{List, [], _∷_}
 use mathlib.Core.Path.{_≡_}
-use lib.Dec.{ltb}
-use Rattle.model.specs.Lists.{allOf, fromTo, keep}
+use lib.Dec.{leb, ltb}
+use Rattle.model.specs.Lists.{allOf, anyOf, fromTo, keep}
 use Rattle.model.specs.Matches.{Str}
 use Rattle.model.specs.Rules.{covered, covers}
+
+-- has a string a position from lo to hi?
+abbrev pub overlaps : ℕ → ℕ → Str → Bool
+overlaps lo hi s = leb (s .start) hi && leb lo (s .end)
+
+-- has any string one?
+abbrev pub anyOverlaps : ℕ → ℕ → List Str → Bool
+anyOverlaps lo hi ss = anyOf (overlaps lo hi) ss
 
 -- all strings, or only the contiguous ones
 abbrev pub chosen : Bool → List Str → List Str

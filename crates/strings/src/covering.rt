@@ -8,7 +8,7 @@ ghost use mathlib.Core.Path.{_≡_};
 ghost use Rattle.model.specs.Lists.{allOf, fromTo};
 ghost use Rattle.model.specs.Rules.{covered, covers};
 ghost use Rattle.strings.specs.Strings.{strOf, strsAt};
-ghost use Rattle.strings.specs.Covering.{advanced, chosen, isChosen, passed, RunEnd};
+ghost use Rattle.strings.specs.Covering.{advanced, anyOverlaps, chosen, isChosen, overlaps, passed, RunEnd};
 
 // Does a string of this span cover a position?
 pub fn covers(span: u32, p: Position) -> bool
@@ -17,18 +17,35 @@ pub fn covers(span: u32, p: Position) -> bool
     is_between(p, start_of(span), end_of(span))
 }
 
-// "some include covers position"
-pub fn covered(strs: &[u32], p: Position) -> bool
-    ensures { λ r. ⌜ r ≡ covered (strsAt (now (strs .entry))) (p .0) ⌝ }
+// Does a string of this span have a position from lo to hi?
+fn overlaps(span: u32, lo: Position, hi: Position) -> bool
+    ensures { λ r. ⌜ r ≡ overlaps (lo .0) (hi .0) (strOf span 0) ⌝ }
+{
+    if hi.0 < start_of(span).0 {
+        return false;
+    }
+    lo.0 <= end_of(span).0
+}
+
+// Does any of the strings have a position from lo to hi?
+pub fn any_overlaps(strs: &[u32], lo: Position, hi: Position) -> bool
+    ensures { λ r. ⌜ r ≡ anyOverlaps (lo .0) (hi .0) (strsAt (now (strs .entry))) ⌝ }
 {
     let mut i = 0;
     while i + 1 < strs.len() {
-        if covers(strs[i], p) {
+        if overlaps(strs[i], lo, hi) {
             return true;
         }
         i += 2;
     }
     false
+}
+
+// "some include covers position"
+pub fn covered(strs: &[u32], p: Position) -> bool
+    ensures { λ r. ⌜ r ≡ covered (strsAt (now (strs .entry))) (p .0) ⌝ }
+{
+    any_overlaps(strs, p, p)
 }
 
 // Is a string among the chosen: all, or only the contiguous ones?

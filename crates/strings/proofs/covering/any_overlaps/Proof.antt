@@ -1,19 +1,19 @@
--- Invariant: what is left overlaps the range just where all does. Measure: the numbers left. Decided by the law for loops that decide.
+-- Invariant: what is left has a position from lo to hi just where all has. Measure: the numbers left. Decided by the law for loops that decide.
 use Prim.Native.Nat.{_-_}
 use mathlib.Core.Path.{sym, _∙_}
 use borrow.Author.Needs.{needs}
 use lib.ListN.{length}
-use Rattle.candidates.specs.Overlapping.{anyOverlaps}
+use Rattle.strings.specs.Covering.{anyOverlaps}
 use Rattle.strings.specs.Strings.{strsAt}
 use Rattle.strings.proofs.StringsLaws.{Left, left-start, decides-any, decided-here, decided-later, decided-end}
-use Rattle.candidates.proofs.overlapping.any_overlaps.Statement.{statement}
-use Rattle.candidates.proofs.overlapping.any_overlaps.Tie as tie
+use Rattle.strings.proofs.covering.any_overlaps.Statement.{statement}
+use Rattle.strings.proofs.covering.any_overlaps.Tie as tie
 
 abbrev Inv-loop : tie.InvT-loop
-Inv-loop strs range i₀ i = Left (anyOverlaps range (strsAt strs)) (anyOverlaps range) strs i
+Inv-loop strs lo hi i₀ i = Left (anyOverlaps (lo .0) (hi .0) (strsAt strs)) (anyOverlaps (lo .0) (hi .0)) strs i
 
 abbrev μ-loop : tie.MeasureT-loop
-μ-loop strs range i₀ i = length strs - i
+μ-loop strs lo hi i₀ i = length strs - i
 
 loop-holds : tie.Need-loop-holds Inv-loop μ-loop
 loop-holds c = left-start _ _

@@ -4,8 +4,8 @@ use Rattle.model.specs.Limits.{radix}
 use borrow.Author.Needs.{needs}
 use borrow.Author.Tests.{le-leb, lt-leb}
 use native.Mathlib.Omega.{arith}
-use Rattle.candidates.proofs.overlapping.overlaps.Statement.{statement}
-use Rattle.candidates.proofs.overlapping.overlaps.Tie as tie
+use Rattle.strings.proofs.covering.overlaps.Statement.{statement}
+use Rattle.strings.proofs.covering.overlaps.Tie as tie
 
 start-of-requires : tie.Need-start-of-requires
 start-of-requires c κs = search needs
@@ -13,7 +13,7 @@ start-of-requires c κs = search needs
 returns : tie.Need-returns
 returns c =
     let a = c .before .before .before .before .args in
-    let h : a .range .hi .0 < a .span / radix = omega arith in
+    let h : a .hi .0 < a .span / radix = omega arith in
     rw (lt-leb _ _ h)
 
 end-of-requires : tie.Need-end-of-requires
@@ -23,7 +23,7 @@ returns-2 : tie.Need-returns-2
 returns-2 c =
     let e = c .before .before in
     let a = e .before .before .before .before .before .args in
-    let h : a .span / radix ≤ a .range .hi .0 = omega arith in
+    let h : a .span / radix ≤ a .hi .0 = omega arith in
     rw (le-leb _ _ h, e .end-of .ensures)
 
 pub overlaps-spec : {M : Type 1} → statement M
