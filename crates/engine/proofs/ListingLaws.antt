@@ -5,7 +5,7 @@ use mathlib.Core.Path.{_≡_, sym, ap, subst, _∙_}
 use mathlib.Core.Bool.{Bool, _&&_}
 use mathlib.Core.List.{List}
 use mathlib.Core.Option.{some, none, Option·map}
-use lib.ListN.{length, getD}
+use lib.ListN.{length}
 use lib.Seq.{sets}
 use lib.Dec.{leb}
 use borrow.Author.Tests.{leb-true}
@@ -26,6 +26,7 @@ use Rattle.model.specs.Accepted.{Passes}
 use Rattle.model.proofs.AnswersLaws.{checked-accepted, checked-refused, complete-fits, listingRefusal-none, listingRefusal-passes}
 use Rattle.model.proofs.ChecksLaws.{otherwise-none}
 use Rattle.model.proofs.TestsLaws.{both-true, cond-none}
+use Rattle.store.specs.Layout.{matchesAt, stringsAt}
 use Rattle.store.specs.Slot.{SlotAt, SlotHolds}
 use Rattle.store.proofs.SlotsLaws.{matches-held, strings-held}
 use Rattle.listing_buffer.proofs.ListingLaws.{listing-rest}
@@ -36,8 +37,9 @@ use Rattle.build.specs.declared.Part.the-variants.{Built, Refused as PartRefuse
 use Rattle.engine.proofs.WholeLaws.{whole-built, whole-tree}
 
 -- the numbers of a list in the first slot, and its answer
-pub listed-held : {mem : List ℕ} {ms : List Match} {answer : Bool} → SlotHolds mem 0 ms → answer ≡ isYes ms → Listed (getD mem 0 0) (getD mem 1 0) answer ≡ listed ms
-listed-held s e = rw (matches-held s, strings-held s, e)
+pub listed-held : {mem : List ℕ} {ms : List Match} {m k : ℕ} {answer : Bool} → SlotHolds mem 0 ms → m ≡ matchesAt mem 0 → k ≡ stringsAt mem 0 → answer ≡ isYes ms
+    → Listed m k answer ≡ listed ms
+listed-held s f g e = rw (f ∙ matches-held s, g ∙ strings-held s, e)
 
 module _ (section selection : List ℕ) (work : ℕ) (buffer : List ℕ) where
   -- what a call that refuses returns and leaves, and what one that lists does

@@ -21,8 +21,8 @@ fn listed(work: &[u32], buffer: &mut [u32]) -> Listing
 {
     listing_buffer::put_listing(work, 0, buffer);
     let yes = store::is_yes(work, 0);
-    let matches = work[0];
-    let strings = work[1];
+    let matches = store::slot_matches(work, 0);
+    let strings = store::slot_strings(work, 0);
     Listing::Listed {
         matches,
         strings,

@@ -10,17 +10,20 @@ put-listing-requires c κs = search needs
 is-yes-requires : tie.Need-is-yes-requires
 is-yes-requires c κs = search needs
 
-shared-slice-read-matches : tie.Need-shared-slice-read-matches
-shared-slice-read-matches c = search needs
+slot-matches-requires : tie.Need-slot-matches-requires
+slot-matches-requires c κs = search needs
 
-shared-slice-read-strings : tie.Need-shared-slice-read-strings
-shared-slice-read-strings c = search needs
+slot-strings-requires : tie.Need-slot-strings-requires
+slot-strings-requires c κs = search needs
 
 same-length : tie.Need-same-length
 same-length c = search needs
 
 returns : tie.Need-returns
-returns c = (λ w. listed-held (w .slot) (c .before .before .is-yes .ensures w), c .before .before .before .before .before .put-listing .ensures)
+returns c = (
+  λ w. listed-held (w .slot) (c .before .slot-matches .ensures) (c .slot-strings .ensures) (c .before .before .is-yes .ensures w),
+  c .before .before .before .before .before .put-listing .ensures,
+)
 
 pub listed-spec : {M : Type 1} → statement M
 listed-spec =
@@ -28,7 +31,7 @@ listed-spec =
     (tie.spec
     put-listing-requires
     is-yes-requires
-    shared-slice-read-matches
-    shared-slice-read-strings
+    slot-matches-requires
+    slot-strings-requires
     same-length
     returns)
