@@ -18,7 +18,7 @@ module _ (F : Match → List Match) where
     pub item : Match
     pub one : One item mem from q
 
-  -- the n matches of a list from `from` on, below at, and room there for what the rule makes of them
+  -- the n matches of a list from `from` on, below `at`, and room there for what the rule makes of them
   pub record Each (list : List Match) (mem : List ℕ) (from n at : ℕ) : Type 0 where
     pub end : ℕ
     pub stream : Remaining list mem from end

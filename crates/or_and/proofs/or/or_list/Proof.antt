@@ -63,9 +63,13 @@ sub-n c = search needs
 
 copy-down-requires : tie.Need-copy-down-requires
 copy-down-requires c κs =
-    let g = c .before .before .before .before .before .before .before .before .before .before .before .before .before .before .before .before .before .before in
-    let made = sym (c .before .before .before .before .before .before .size .given .1) ∙ size-is (c .before .before .before .before .before .before .before .before) (g .pre .0) in
-    or-copy (g .pre .0) made (g .pre .1) (c .before .before .before .slot-end .ensures) (ap (λ x. x - (g .args .r + 2)) (c .before .slot-end2 .ensures))
+    let r = c .before in
+    let l = r .before .before in
+    let k = l .before .before .before in
+    let z = k .before .before in
+    let s = z .before .before .before .before .before .before .before .before .before .before in
+    let w = s .pre .0 in
+    or-copy w (sym (k .size .given .1) ∙ size-is z w) (s .pre .1) (l .slot-end .ensures) (ap (λ x. x - (s .args .r + 2)) (r .slot-end2 .ensures))
 
 put-slot-header-requires : tie.Need-put-slot-header-requires
 put-slot-header-requires c κs = search needs
@@ -78,9 +82,15 @@ same-length-2 c = search needs
 
 returns-2 : tie.Need-returns-2
 returns-2 c w =
-    let made = sym (c .before .before .before .before .before .before .before .before .before .before .before .before .before .size .given .1) ∙ size-is (c .before .before .before .before .before .before .before .before .before .before .before .before .before .before .before) w in
-    or-filled w made (c .before .before .before .before .before .before .before .before .before .before .slot-end .ensures) (ap (λ x. x - (c .before .before .before .before .before .before .before .before .before .before .before .before .before .before .before .before .before .before .before .before .before .before .before .before .before .args .r + 2)) (c .before .before .before .before .before .before .before .before .slot-end2 .ensures)) (c .before .before .before .before .before .before .copy-down .ensures)
-    (c .before .before .put-slot-header .ensures)
+    let h = c .before .before in
+    let d = h .before .before .before .before in
+    let r = d .before .before in
+    let l = r .before .before in
+    let k = l .before .before .before in
+    let z = k .before .before in
+    let a = z .before .before .before .before .before .before .before .before .before .before .args in
+    or-filled w (sym (k .size .given .1) ∙ size-is z w) (l .slot-end .ensures) (ap (λ x. x - (a .r + 2)) (r .slot-end2 .ensures)) (d .copy-down .ensures)
+    (h .put-slot-header .ensures)
 
 pub or-list-spec : {M : Type 1} → statement M
 or-list-spec =
