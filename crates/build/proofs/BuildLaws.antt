@@ -13,11 +13,11 @@ use Rattle.model.specs.declared.Code.{Code}
 use Rattle.model.specs.declared.Code.the-variants.{Phrase}
 use Rattle.model.specs.Accepted.{maxPhrases}
 use Rattle.model.specs.AllMatches.{allMatches}
-use Rattle.model.specs.AllStrings.{Every, RanksUpTo}
+use Rattle.model.specs.AllStrings.{RanksUpTo}
 use Rattle.model.specs.Checks.{refusal}
 use Rattle.model.specs.Kinds.{Shape, shapeOf, arity, shapeAt}
 use Rattle.model.specs.Limits.{maxWaiting}
-use Rattle.model.specs.Lists.{first}
+use Rattle.model.specs.Lists.{Every, first}
 use Rattle.model.specs.Parts.{partEndedBy, phrasesEnded, rankAfter, stateAt, waitingParts}
 use Rattle.model.specs.Section.{Section, size, sectionOf}
 use Rattle.model.specs.Selection.{codeAt}

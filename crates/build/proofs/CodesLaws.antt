@@ -11,10 +11,10 @@ use borrow.Author.Tests.{ltb-true}
 use Rattle.model.specs.declared.Pair.{Pair}
 use Rattle.model.specs.Accepted.{maxPhrases}
 use Rattle.model.specs.AllMatches.{allMatches, pairList, changeList}
-use Rattle.model.specs.AllStrings.{Every, EveryPhrase, RanksUpTo, AllList}
+use Rattle.model.specs.AllStrings.{EveryPhrase, RanksUpTo, AllList}
 use Rattle.model.specs.Kinds.{Change, Shape, aWord, aPhrase, aPair, aChange}
 use Rattle.model.specs.Limits.{maxWaiting}
-use Rattle.model.specs.Lists.{first}
+use Rattle.model.specs.Lists.{Every, first}
 use Rattle.model.specs.Matches.{Match, tooLong}
 use Rattle.model.specs.Parts.{state}
 use Rattle.model.specs.Rules.{phraseList}

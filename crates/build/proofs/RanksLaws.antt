@@ -6,8 +6,9 @@ use mathlib.Core.Bool.{true}
 use mathlib.Core.List.{List, [], _∷_, _++_}
 use lib.ListN.{length, length-append}
 use Rattle.model.specs.Accepted.{AcceptedSelection, maxPhrases}
-use Rattle.model.specs.AllStrings.{Every, EveryPhrase, RankUpTo, RanksUpTo}
+use Rattle.model.specs.AllStrings.{EveryPhrase, RankUpTo, RanksUpTo}
 use Rattle.model.specs.Kinds.{Shape, aWord, aPhrase, aPair, aChange, shapeAt, shapesOf}
+use Rattle.model.specs.Lists.{Every}
 use Rattle.model.specs.Parts.{PartAt, partStart, phrases, phrasesAll, phrasesEnded, postfix, rankAfter, codesOfTrees, stateAt}
 use Rattle.model.specs.Parts.{fitsAll, listsAll, waitingParts, wellFormed}
 use Rattle.model.specs.Section.{size}

@@ -10,9 +10,10 @@ use Rattle.model.specs.declared.Code.the-variants.{Phrase, Filter as Filtered}
 use Rattle.model.specs.declared.Filter.the-variants.{Window}
 use Rattle.model.specs.Accepted.{AcceptedSection, AcceptedSelection, maxPhrases}
 use Rattle.model.specs.AllMatches.{allMatches}
-use Rattle.model.specs.AllStrings.{Every, RanksUpTo}
+use Rattle.model.specs.AllStrings.{RanksUpTo}
 use Rattle.model.specs.Kinds.{Shape, shapeOf, shapeAt}
 use Rattle.model.specs.Limits.{maxWaiting, workLength}
+use Rattle.model.specs.Lists.{Every}
 use Rattle.model.specs.Parts.{PartAt, partEndedBy, partStart, rankAfter}
 use Rattle.model.specs.Section.{Section, sectionOf, size}
 use Rattle.model.specs.Trees.{State, Tree, read}

@@ -8,9 +8,9 @@ use mathlib.Core.List.{List, [], _∷_}
 use borrow.Author.Tests.{eqb-true, eqb-false, le-leb, leb-true, ltb-true}
 use lib.Dec.{eqb, leb, ltb}
 use lib.ListN.{length, take, getD}
-use Rattle.model.specs.AllStrings.{AllStrs, Every}
+use Rattle.model.specs.AllStrings.{AllStrs}
 use Rattle.model.specs.Limits.{radix}
-use Rattle.model.specs.Lists.{anyOf, isEmpty}
+use Rattle.model.specs.Lists.{Every, anyOf, isEmpty}
 use Rattle.model.specs.Matches.{Str, Match}
 use Rattle.model.specs.declared.Position.{Position}
 use Rattle.model.specs.Rules.{covered, covers}

@@ -5,8 +5,8 @@ use mathlib.Core.Path.{_≡_, refl, sym, ap, _∙_, subst}
 use mathlib.Core.Bool.{Bool, true, false, _&&_, or-true, cond}
 use mathlib.Core.List.{List, [], _∷_, _++_, append-assoc, append-nil}
 use lib.ListN.{length, take, drop, getD, length-append}
-use Rattle.model.specs.AllStrings.{AllList, Every}
-use Rattle.model.specs.Lists.{allOf, anyOf}
+use Rattle.model.specs.AllStrings.{AllList}
+use Rattle.model.specs.Lists.{Every, allOf, anyOf}
 use Rattle.model.specs.Matches.{Str, Match}
 use Rattle.model.specs.Rules.{hasUncovered}
 use Rattle.model.proofs.ListsLaws.{any-append}

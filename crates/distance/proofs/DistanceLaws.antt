@@ -6,10 +6,10 @@ use mathlib.Core.List.{List, [], _∷_, map}
 use mathlib.Core.Path.{_≡_, refl, ap, ap₂, sym, _∙_}
 use borrow.Author.Tests.{ltb-true, ltb-false, leb-true, leb-false, eqb-true, eqb-false, le-leb, lt-leb}
 use lib.Dec.{leb, ltb, eqb}
-use Rattle.model.specs.AllStrings.{AllStrs, Every}
+use Rattle.model.specs.AllStrings.{AllStrs}
 use Rattle.model.specs.Answers.{spanOf}
 use Rattle.model.specs.Limits.{radix}
-use Rattle.model.specs.Lists.{neighbours}
+use Rattle.model.specs.Lists.{Every, neighbours}
 use Rattle.model.specs.Matches.{Str}
 use Rattle.model.specs.Rules.{notAfter, between, distanceOf, within}
 use Rattle.distance.specs.Sorting.{spansWithin}

@@ -10,10 +10,10 @@ use mathlib.Core.Path.{_≡_, refl, ap, ap₂, sym, _∙_, fun-ext}
 use borrow.Author.Tests.{leb-true, leb-false, eq-eqb, ne-eqb, le-leb, lt-leb}
 use lib.Dec.{leb, eqb}
 use lib.ListN.{length, drop, getD}
-use Rattle.model.specs.AllStrings.{AllStrs, Every}
+use Rattle.model.specs.AllStrings.{AllStrs}
 use Rattle.model.specs.Answers.{spanOf}
 use Rattle.model.specs.Limits.{radix}
-use Rattle.model.specs.Lists.{allOf, insertSorted, neighbours, sort}
+use Rattle.model.specs.Lists.{Every, allOf, insertSorted, neighbours, sort}
 use Rattle.model.specs.Matches.{Str}
 use Rattle.model.specs.Rules.{notAfter, distance}
 use Rattle.model.proofs.EveryLaws.{every-weaker}

@@ -7,10 +7,10 @@ use mathlib.Core.List.{List, [], _∷_, flatMap}
 use mathlib.Core.Logic.{inl}
 use lib.ListN.{length, take, drop, getD, set, length-take, length-drop, drop-of-length-le}
 use lib.Seq.{sets}
-use Rattle.model.specs.AllStrings.{Every, AllStrs}
+use Rattle.model.specs.AllStrings.{AllStrs}
 use Rattle.model.specs.Answers.{spanOf, tagOf}
 use Rattle.model.specs.Limits.{radix}
-use Rattle.model.specs.Lists.{keep}
+use Rattle.model.specs.Lists.{Every, keep}
 use Rattle.model.specs.Matches.{Str, Match, stringsIn}
 use Rattle.model.specs.Rules.{Keeping, join, keptMatch, kept}
 use Rattle.model.proofs.ListsLaws.{length-keep}

@@ -5,10 +5,10 @@ use mathlib.Core.Bool.{Bool, true, false, _&&_, and-true, and-false}
 use mathlib.Core.List.{List, [], _∷_}
 use mathlib.Core.Path.{_≡_, refl, ap, sym, _∙_}
 use lib.ListN.{length, drop, getD}
-use Rattle.model.specs.AllStrings.{AllStrs, Every}
+use Rattle.model.specs.AllStrings.{AllStrs}
 use Rattle.model.specs.Answers.{spanOf, tagOf}
 use Rattle.model.specs.Limits.{radix}
-use Rattle.model.specs.Lists.{allOf, anyOf, fromTo, upFrom}
+use Rattle.model.specs.Lists.{Every, allOf, anyOf, fromTo, upFrom}
 use Rattle.model.specs.Matches.{Str}
 use Rattle.model.specs.Rules.{covered, leastStart, greatestEnd, join}
 use Rattle.model.proofs.EveryLaws.{every-weaker}

@@ -13,11 +13,11 @@ use Rattle.model.specs.declared.Filter.the-variants.{Ordered, Window, Di
 use Rattle.model.specs.declared.Pair.{Pair}
 use Rattle.model.specs.declared.Pair.the-variants.{Or, And, MildNot}
 use Rattle.model.specs.Kinds.{Change, negated, filtered}
-use Rattle.model.specs.Lists.{allOf, keep, fromTo}
+use Rattle.model.specs.Lists.{Every, allOf, keep, fromTo}
 use Rattle.model.specs.Matches.{Str, Match}
 use Rattle.model.specs.Rules.{standFrom, found, phraseList, orList, joined, andList, noStrings, withInclude, withExclude, notList, hasUncovered, mildNotList, Keeping, keptIf, keptMatch, kept, join, insideWindow, windowTo, windowEnds, window}
 use Rattle.model.specs.Choices.{turnedStrings}
-use Rattle.model.specs.AllStrings.{Every, AllStrs, AllMatch, AllList, Within, Ranked, EveryPhrase, RankUpTo, RanksUpTo}
+use Rattle.model.specs.AllStrings.{AllStrs, AllMatch, AllList, Within, Ranked, EveryPhrase, RankUpTo, RanksUpTo}
 use Rattle.model.specs.AllMatches.{pairList, changeList, filterMatch, filterList, allMatches}
 use Rattle.model.specs.Section.{Section}
 use Rattle.model.specs.Trees.{Tree, phrase, pair, change}

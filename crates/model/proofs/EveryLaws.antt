@@ -5,8 +5,7 @@ use mathlib.Core.Path.{_≡_, refl}
 use mathlib.Core.Bool.{Bool, true, false, cond}
 use mathlib.Core.List.{List, [], _∷_, _++_, map, flatMap}
 use lib.ListN.{length, getD}
-use Rattle.model.specs.Lists.{keep, upFrom, fromTo}
-use Rattle.model.specs.AllStrings.{Every}
+use Rattle.model.specs.Lists.{Every, keep, upFrom, fromTo}
 
 pub every-weaker : {A : Type 0} (P Q : A → Type 0) → ((x : A) → P x → Q x) → (xs : List A) → Every P xs → Every Q xs
 unfolding Every

@@ -8,11 +8,11 @@ use mathlib.Core.Bool.{Bool, true, false, cond}
 use mathlib.Core.List.{List, [], _∷_, _++_, map, flatMap}
 use lib.ListN.{length, getD, length-append, length-map, List·getD-append}
 use lib.Seq.{getD-append-add}
-use Rattle.model.specs.Lists.{allOf, keep, fromTo}
+use Rattle.model.specs.Lists.{Every, allOf, keep, fromTo}
 use Rattle.model.specs.Matches.{Str, Match, stringsIn, strings}
 use Rattle.model.specs.Rules.{standFrom, found, phraseList, orList, joined, andList, noStrings, withInclude, withExclude, notList, hasUncovered, mildNotList, Keeping, keptIf, keptMatch, kept, leastStart, greatestEnd, join, insideWindow, windowTo, windowEnds, window}
 use Rattle.model.specs.Choices.{choices, turnedStrings, choice}
-use Rattle.model.specs.AllStrings.{Every, AllStrs}
+use Rattle.model.specs.AllStrings.{AllStrs}
 use Rattle.model.specs.Section.{Section}
 use Rattle.model.proofs.ListsLaws.{flatMap-append, length-keep, length-range}
 use Rattle.model.proofs.EveryLaws.{every-weaker, every-append, every-value, every-getD}

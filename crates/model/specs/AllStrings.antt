@@ -3,12 +3,9 @@
 use Prim.Native.Nat.{ℕ, _≤_}
 use mathlib.Core.List.{List, [], _∷_}
 use lib.ListN.{length}
+use Rattle.model.specs.Lists.{Every}
 use Rattle.model.specs.Matches.{Str, Match}
 use Rattle.model.specs.Trees.{Tree, phrase, pair, change}
-
-unfoldable pub Every : {A : Type 0} → (A → Type 0) → List A → Type 0
-Every P [] = Unit {0}
-Every P (x ∷ xs) = P x × Every P xs
 
 module _ (P : Str → Type 0) where
   abbrev pub AllStrs : List Str → Type 0

@@ -12,6 +12,13 @@ pub mod AllMatches
 pub mod Checks
 pub mod Walk
 pub mod Answers
+-- .. of typed searches, document 02's F-1 ..
+pub mod Bytes
+pub mod Tokens
+pub mod Productions
+pub mod TextAnswer
+pub mod Typed
+pub mod TypedExamples
 -- .. its worked examples ..
 pub mod Examples
 -- .. and what the laws and the code's contracts say besides: no part of the meaning.

@@ -1,4 +1,4 @@
--- Document 01's limits, with the sentence that sets each. src/lib.rt has the same numbers for the code.
+-- The limits of document 01, and of document 02's F-1, with the sentence that sets each. src/lib.rt has the same numbers for the code.
 use Prim.Native.Nat.{ℕ}
 
 -- "A section is n (0 to 4,096)"
@@ -38,3 +38,18 @@ bufferLength = 1282
 -- "A place is paragraph × 65,536 + sentence"; a span and the operand of kind 8 hold two numbers in the same way
 abbrev pub radix : ℕ
 radix = 65536
+
+-- F-1: "text of at most 2,048 bytes"
+abbrev pub maxText : ℕ
+maxText = 2048
+
+-- F-1: "a word number over 4,294,967,295 or another number over 4,096"
+abbrev pub maxWord : ℕ
+maxWord = 4294967295
+
+abbrev pub maxNumber : ℕ
+maxNumber = 4096
+
+-- "Length is 1 + 2m": the longest selection's
+abbrev pub selectionLength : ℕ
+selectionLength = 129

@@ -20,6 +20,14 @@ pub const WORK_LENGTH: usize = 12800;
 pub const BUFFER_LENGTH: usize = 1282;
 // "A place is paragraph × 65,536 + sentence"; a span and the operand of kind 8 hold two numbers in the same way
 pub const RADIX: u32 = 65536;
+// Document 02, F-1: "text of at most 2,048 bytes"
+pub const MAX_TEXT: usize = 2048;
+// "a word number over 4,294,967,295 or another number over 4,096"
+pub const MAX_WORD: u64 = 4294967295;
+
+pub const MAX_NUMBER: u64 = 4096;
+// "Length is 1 + 2m": the longest selection's
+pub const SELECTION_LENGTH: usize = 129;
 
 // Three countings, none of which stands for another.
 pub struct Position(pub u32);
@@ -94,5 +102,11 @@ pub enum Listing {
 // The quick answer, with how many codes of kind 1 to 15 were walked or built.
 pub enum Quick {
     Answered { yes: bool, codes: u32 },
+    Refused(Refusal),
+}
+
+// The reader's answer: how many codes a typed search has.
+pub enum Reading {
+    Read { codes: u32 },
     Refused(Refusal),
 }

@@ -7,9 +7,10 @@ use mathlib.Core.Bool.{Bool, true, false, cond}
 use mathlib.Core.List.{List, [], _∷_, _++_}
 use lib.Dec.{eqb}
 use lib.ListN.{length, take, drop, getD}
-use Rattle.model.specs.AllStrings.{Every, AllStrs, AllMatch}
+use Rattle.model.specs.AllStrings.{AllStrs, AllMatch}
 use Rattle.model.specs.Answers.{spanOf, tagOf}
 use Rattle.model.specs.Limits.{radix, maxStrings}
+use Rattle.model.specs.Lists.{Every}
 use Rattle.model.specs.Matches.{Str, Match, stringsIn}
 use Rattle.strings.specs.Strings.{strsOf, strOf, strsAt}
 use Rattle.store.specs.ValidStr.{ValidStr}

@@ -5,7 +5,7 @@ use native.Mathlib.Omega.{arith}
 use mathlib.Core.Path.{_≡_, refl, sym, ap, _∙_, subst}
 use mathlib.Core.List.{List, [], _∷_, _++_}
 use lib.ListN.{length, getD, length-append}
-use Rattle.model.specs.AllStrings.{Every}
+use Rattle.model.specs.Lists.{Every}
 use Rattle.model.specs.Matches.{Match, strings}
 use Rattle.model.proofs.RulesLaws.{length-none}
 use Rattle.store.specs.Layout.{Holds, matchLength, matchNumbers, matchesNumbers}

@@ -3,13 +3,14 @@ use Prim.Native.Nat.{ℕ, _≤_}
 use native.Mathlib.Omega.{arith}
 use mathlib.Core.List.{List, [], _∷_}
 use Rattle.model.specs.AllMatches.{allMatches}
-use Rattle.model.specs.AllStrings.{Every, AllStrs, AllList, Within, Ranked, RanksUpTo}
+use Rattle.model.specs.AllStrings.{AllStrs, AllList, Within, Ranked, RanksUpTo}
 use Rattle.model.specs.Limits.{maxTokens}
 use Rattle.model.specs.Matches.{Str, Match}
 use Rattle.model.specs.Section.{Section}
 use Rattle.model.specs.Trees.{Tree}
 use Rattle.model.proofs.AllStringsLaws.{within-matches, ranked-matches}
 use Rattle.model.specs.Accepted.{maxPhrases}
+use Rattle.model.specs.Lists.{Every}
 use Rattle.store.specs.ValidStr.{ValidStr}
 
 -- what follows from two facts, of every element that has both

@@ -7,8 +7,7 @@ use mathlib.Core.List.{List, [], _∷_}
 use mathlib.Core.Path.{_≡_, refl, ap, sym, _∙_}
 use borrow.Author.Tests.{le-leb, leb-true, leb-false}
 use lib.Dec.{leb}
-use Rattle.model.specs.AllStrings.{Every}
-use Rattle.model.specs.Lists.{allOf, anyOf, keep, fromTo}
+use Rattle.model.specs.Lists.{Every, allOf, anyOf, keep, fromTo}
 use Rattle.model.specs.Matches.{Str}
 use Rattle.model.specs.Rules.{covers, covered}
 use Rattle.model.proofs.EveryLaws.{every-weaker}

@@ -9,10 +9,10 @@ use mathlib.Core.List.{List, [], _∷_}
 use mathlib.Core.Path.{_≡_, refl, ap, sym, _∙_}
 use lib.ListN.{length, take, drop, getD, length-drop}
 use lib.Seq.{drop-cons, take-all}
-use Rattle.model.specs.AllStrings.{AllStrs, Every}
+use Rattle.model.specs.AllStrings.{AllStrs}
 use Rattle.model.specs.Answers.{spanOf}
 use Rattle.model.specs.Limits.{radix}
-use Rattle.model.specs.Lists.{allOf, anyOf, allPairs}
+use Rattle.model.specs.Lists.{Every, allOf, anyOf, allPairs}
 use Rattle.model.specs.Matches.{Str}
 use Rattle.strings.specs.Strings.{strOf, strsAt}
 

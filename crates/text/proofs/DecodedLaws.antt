@@ -5,8 +5,9 @@ use mathlib.Core.Path.{_≡_, refl, sym, ap, ap₂, _∙_}
 use mathlib.Core.Bool.{Bool, true, false, cond}
 use mathlib.Core.List.{List, [], _∷_, _++_, map, flatMap}
 use lib.ListN.{length, getD, length-append, length-map}
-use Rattle.model.specs.AllStrings.{Every, AllStrs, AllMatch, AllList}
+use Rattle.model.specs.AllStrings.{AllStrs, AllMatch, AllList}
 use Rattle.model.specs.Answers.{spanOf, tagOf, spansIn, tagsIn, listingNumbers}
+use Rattle.model.specs.Lists.{Every}
 use Rattle.model.specs.Matches.{Str, Match, stringsIn, strings}
 use Rattle.store.specs.ValidStr.{ValidStr}
 use Rattle.store.specs.Layout.{Holds}

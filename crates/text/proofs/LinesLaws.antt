@@ -4,10 +4,11 @@ use native.Mathlib.Omega.{arith}
 use mathlib.Core.Path.{_≡_, sym, ap, subst, _∙_}
 use mathlib.Core.List.{List, [], _∷_, _++_, flatMap}
 use lib.ListN.{length, getD, length-append}
+use Rattle.model.specs.Bytes.{bytes}
 use Rattle.store.specs.Put.{Put}
 use Rattle.store.proofs.PutLaws.{put-append}
 use Rattle.store.proofs.RowsLaws.{Rows, rows-start, rows-room, rows-step, rows-finish}
-use Rattle.text.specs.Printed.{bytes, afterBlank, lineOf}
+use Rattle.text.specs.Printed.{afterBlank, lineOf}
 use Rattle.text.specs.Decoded.{textOf, textsAt, matchesAt, totalAt, StringsAt, LinesAt}
 
 -- ---- the strings after the first

@@ -6,6 +6,7 @@ use mathlib.Core.Bool.{Bool}
 use mathlib.Core.List.{List, _++_, flatMap}
 use lib.ListN.{length, length-append}
 use lib.Seq.{sets}
+use Rattle.model.specs.Bytes.{bytes}
 use Rattle.model.specs.Matches.{Match}
 use Rattle.model.specs.declared.Listing.{Listing}
 use Rattle.model.specs.declared.Listing.the-variants.{Listed, Refused}
@@ -15,7 +16,7 @@ use Rattle.store.specs.Put.{Put}
 use Rattle.store.proofs.PutLaws.{put-append, length-put}
 use Rattle.text.specs.Decoded.{matchesAt, totalAt, LinesAt, listedText}
 use Rattle.text.specs.Printable.{textLength, ListingIn, PrintableAs, Printable}
-use Rattle.text.specs.Printed.{bytes, lineOf, matchText, headText, answerText, listingText}
+use Rattle.text.specs.Printed.{lineOf, matchText, headText, answerText, listingText}
 use Rattle.text.proofs.DecodedLaws.{listing-strings, listing-lines}
 use Rattle.text.proofs.RoomLaws.{listing-short}
 

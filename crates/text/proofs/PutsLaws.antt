@@ -3,10 +3,11 @@ use Prim.Native.Nat.{ℕ, _+_, _/_, _%_, _≤_, _<_}
 use mathlib.Core.Path.{_≡_, sym, ap, ap₂, subst}
 use mathlib.Core.Bool.{Bool, cond}
 use mathlib.Core.List.{List, [], _∷_, _++_}
+use Rattle.model.specs.Bytes.{bytes}
 use Rattle.store.specs.Put.{Put}
 use Rattle.store.proofs.PutLaws.{put-append}
 use Rattle.model.specs.Matches.{Str}
-use Rattle.text.specs.Printed.{bytes, digit, decimal, sortMark, spanText, contiguousMark, queryText, stringText, headText, answerText}
+use Rattle.text.specs.Printed.{digit, decimal, sortMark, spanText, contiguousMark, queryText, stringText, headText, answerText}
 use Rattle.text.proofs.PrintedLaws.{decimal-small, decimal-more}
 
 -- ---- a number

@@ -4,13 +4,15 @@ use native.Mathlib.Omega.{arith}
 use mathlib.Core.Bool.{Bool, true, false}
 use mathlib.Core.List.{List, [], _∷_, _++_, map, flatMap}
 use lib.ListN.{length, length-append, length-map}
-use Rattle.model.specs.AllStrings.{Every, AllStrs, AllMatch, AllList}
+use Rattle.model.specs.AllStrings.{AllStrs, AllMatch, AllList}
+use Rattle.model.specs.Bytes.{bytes}
 use Rattle.model.specs.Limits.{maxMatches, maxStrings}
+use Rattle.model.specs.Lists.{Every}
 use Rattle.model.specs.Matches.{Str, Match, stringsIn, strings}
 use Rattle.model.proofs.EveryLaws.{every-append, every-map}
 use Rattle.store.specs.ValidStr.{ValidStr}
 use Rattle.text.specs.Printable.{textLength}
-use Rattle.text.specs.Printed.{bytes, stringText, afterBlank, lineOf, stringTexts, matchText, headText, answerText}
+use Rattle.text.specs.Printed.{stringText, afterBlank, lineOf, stringTexts, matchText, headText, answerText}
 use Rattle.text.proofs.PrintedLaws.{length-decimal, length-span, length-query, length-string, length-head}
 
 string-short : (sort : ℕ) (s : Str) → ValidStr s → length (stringText sort s) ≤ 16

@@ -8,6 +8,7 @@ use mathlib.Core.List.{List, [], _∷_, _++_, flatMap}
 use lib.Dec.{eqb}
 use Rattle.model.specs.AllMatches.{filterList, allMatches}
 use Rattle.model.specs.Answers.{listed, listingRefusal, listingAnswer}
+use Rattle.model.specs.Bytes.{bytes}
 use Rattle.model.specs.Checks.{refusal, tried, wrongSection, faultyAt, faultyPosition, wrongSelection, unknownKind, filterOperandFits, operandFits, wrongOperand, wrongShape, notUnderMildNot, sectionRefusal, selectionRefusal, inputRefusal, listingChecks}
 use Rattle.model.specs.Kinds.{shapesOf}
 use Rattle.model.specs.Lists.{allOf, anyOf, isEmpty, keep, first, allPairs, neighbours, insertSorted, sort, upFrom, fromTo}
@@ -19,7 +20,7 @@ use Rattle.model.specs.Trees.{placeOf, combine, changeLast, read, readAll, topT
 use Rattle.model.specs.Waiting.{firstMisfitFrom}
 use Rattle.model.specs.Walk.{firstTooLong}
 use Rattle.model.specs.declared.Listing.the-variants.{Refused}
-use Rattle.text.specs.Printed.{bytes, digits, decimal, spanText, queryText, stringText, lineOf, matchText, headText, answerText, listingText}
+use Rattle.text.specs.Printed.{digits, decimal, spanText, queryText, stringText, lineOf, matchText, headText, answerText, listingText}
 use Rattle.text.specs.Input.{numbersOf, programText}
 
 -- what is printed, and what document 01 says

@@ -2,18 +2,13 @@
 -- exclude, span, query position, c contiguous or n not, strings parted by a blank, `.` for a match with none."
 use Prim.Native.Char.{code}
 use Prim.Native.Nat.{ℕ, zero, suc, _+_, _/_, _%_}
-use Prim.Native.String.{String, [] as noText, _∷_ as _then_}
 use mathlib.Core.Bool.{Bool, cond}
 use mathlib.Core.List.{List, [], _∷_, _++_, map, flatMap}
 use lib.Dec.{ltb}
+use Rattle.model.specs.Bytes.{bytes}
 use Rattle.model.specs.Matches.{Str, Match}
 use Rattle.model.specs.declared.Listing.{Listing}
 use Rattle.model.specs.declared.Listing.the-variants.{Listed, Refused}
-
--- the bytes of a text of ASCII characters
-abbrev pub bytes : String → List ℕ
-bytes noText = []
-bytes (c then s) = code c ∷ bytes s
 
 -- "Written numbers are base ten"
 abbrev pub digit : ℕ → ℕ

@@ -8,9 +8,10 @@ use mathlib.Core.List.{List, [], _∷_, _++_, map, flatMap, cons≢nil, nil≢co
 use mathlib.Core.Path.{_≡_, refl, sym, ap, ap₂, _∙_}
 use lib.ListN.{length, take, drop, getD, length-append, length-map}
 use lib.Seq.{take-at, drop-at}
-use Rattle.model.specs.AllStrings.{Every, AllStrs, AllMatch, AllList}
+use Rattle.model.specs.AllStrings.{AllStrs, AllMatch, AllList}
 use Rattle.model.specs.Answers.{spanOf, tagOf, spansIn, tagsIn, listingNumbers}
 use Rattle.model.specs.Limits.{radix}
+use Rattle.model.specs.Lists.{Every}
 use Rattle.model.specs.Matches.{Str, Match, stringsIn, strings}
 use Rattle.model.proofs.AnswersLaws.{length-columns, length-spans, length-listingNumbers}
 

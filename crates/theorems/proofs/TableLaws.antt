@@ -11,10 +11,9 @@ use lib.ListN.{length}
 use borrow.Author.Tests.{leb-true}
 use Rattle.model.specs.declared.Quick.the-variants.{Answered}
 use Rattle.model.specs.declared.Refusal.{Refusal}
-use Rattle.model.specs.AllStrings.{Every}
 use Rattle.model.specs.Answers.{completeList, listingRefusal, walkUnless, quickAnswer}
 use Rattle.model.specs.Checks.{refusal, otherwise, tried, wrongSection, faultyPosition, sectionRefusal, selectionRefusal, roomRefusal, inputRefusal, listingChecks, quickChecks}
-use Rattle.model.specs.Lists.{allOf}
+use Rattle.model.specs.Lists.{Every, allOf}
 use Rattle.model.specs.Limits.{workLength, bufferLength}
 use Rattle.model.specs.Matches.{isYes}
 use Rattle.model.specs.Section.{sectionOf}

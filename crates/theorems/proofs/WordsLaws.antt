@@ -9,9 +9,8 @@ use lib.Dec.{ltb}
 use lib.ListN.{length}
 use borrow.Author.Tests.{ltb-true, lt-ltb}
 use Rattle.model.specs.AllMatches.{allMatches}
-use Rattle.model.specs.AllStrings.{Every}
 use Rattle.model.specs.Limits.{maxMatches, maxStrings}
-use Rattle.model.specs.Lists.{anyOf, isEmpty, first}
+use Rattle.model.specs.Lists.{Every, anyOf, isEmpty, first}
 use Rattle.model.specs.Matches.{Str, Match, noExclude, isYes, strings}
 use Rattle.model.specs.Section.{sectionOf}
 use Rattle.model.specs.Trees.{Tree, placeOf}

@@ -18,10 +18,11 @@ use Rattle.model.specs.declared.Quick.the-variants.{Answered, Refused as QuickR
 use Rattle.model.specs.declared.Refusal.{Refusal}
 use Rattle.model.specs.Accepted.{ReportedOrNot}
 use Rattle.model.specs.AllMatches.{allMatches}
-use Rattle.model.specs.AllStrings.{Every, AllList}
+use Rattle.model.specs.AllStrings.{AllList}
 use Rattle.model.specs.Answers.{completeList, listingAnswer, listingNumbers, listingBuffer, quickAnswer, snippetOf}
 use Rattle.model.specs.Checks.{refusal, wrongSection, faultyPosition, wrongSelection, unknownKind, wrongOperand, wrongShape, notUnderMildNot}
 use Rattle.model.specs.Limits.{maxMatches, maxStrings, workLength, bufferLength, radix}
+use Rattle.model.specs.Lists.{Every}
 use Rattle.model.specs.Matches.{Match, strings}
 use Rattle.model.specs.Section.{size, sentenceAt, paragraphAt, sectionOf}
 use Rattle.model.specs.Trees.{Tree, placeOf, treeOf, parts}

@@ -7,10 +7,10 @@ use mathlib.Core.List.{List, [], _∷_, flatMap}
 use borrow.Author.Tests.{le-ltb, lt-ltb}
 use lib.Dec.{leb}
 use lib.ListN.{length, getD}
-use Rattle.model.specs.AllStrings.{AllStrs, Every}
+use Rattle.model.specs.AllStrings.{AllStrs}
 use Rattle.model.specs.Answers.{spanOf, tagOf}
 use Rattle.model.specs.Limits.{radix}
-use Rattle.model.specs.Lists.{keep}
+use Rattle.model.specs.Lists.{Every, keep}
 use Rattle.model.specs.Matches.{Str}
 use Rattle.model.specs.Rules.{insideWindow}
 use Rattle.model.proofs.RulesLaws.{length-none}

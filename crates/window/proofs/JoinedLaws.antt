@@ -5,10 +5,10 @@ use native.Mathlib.Omega.{arith}
 use mathlib.Core.Path.{_≡_, refl, sym, ap, ap₂, _∙_}
 use mathlib.Core.List.{List, [], _∷_}
 use lib.ListN.{length, take, drop, getD}
-use Rattle.model.specs.AllStrings.{AllStrs, Every}
+use Rattle.model.specs.AllStrings.{AllStrs}
 use Rattle.model.specs.Answers.{spanOf, tagOf}
 use Rattle.model.specs.Limits.{maxTokens, radix}
-use Rattle.model.specs.Lists.{fromTo}
+use Rattle.model.specs.Lists.{Every, fromTo}
 use Rattle.model.specs.Matches.{Match, Str}
 use Rattle.model.specs.Rules.{join, window, windowEnds}
 use Rattle.model.proofs.RulesLaws.{length-none, start-leastStart, window-none}

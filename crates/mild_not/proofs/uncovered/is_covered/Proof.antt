@@ -4,7 +4,8 @@ use mathlib.Core.List.{List}
 use mathlib.Core.Path.{sym, _∙_, subst}
 use borrow.Author.Needs.{needs}
 use lib.ListN.{length, drop}
-use Rattle.model.specs.AllStrings.{AllStrs, Every}
+use Rattle.model.specs.AllStrings.{AllStrs}
+use Rattle.model.specs.Lists.{Every}
 use Rattle.model.specs.Rules.{covered}
 use Rattle.store.specs.ValidStr.{ValidStr}
 use Rattle.strings.specs.Strings.{strsAt}

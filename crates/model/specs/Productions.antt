@@ -1,0 +1,101 @@
+-- Document 02, F-1: "only these parts of the standard's FTSelection grammar: `ftor` over `ftand` over `not in` over `ftnot`, parentheses, filters after a
+-- whole selection, keywords small".
+--
+--   FTSelection  = FTOr | FTSelection FTPosFilter
+--   FTOr         = FTAnd | FTOr 'ftor' FTAnd                        "Left operands group first."
+--   FTAnd        = FTMildNot | FTAnd 'ftand' FTMildNot
+--   FTMildNot    = FTUnaryNot | FTMildNot 'not' 'in' FTUnaryNot
+--   FTUnaryNot   = FTPrimary | 'ftnot' FTPrimary
+--   FTPrimary    = '"' words '"' | '(' FTSelection ')'
+--
+-- One constructor for each production. `FTOr ts cs`: the tokens ts are an FTOr, and cs are its codes, in postfix order.
+use Prim.Native.Nat.{ℕ, suc, _≤_}
+use Prim.Native.String.{String}
+use mathlib.Core.Path.{_≡_}
+use mathlib.Core.List.{List, [], _∷_, _++_}
+use Rattle.model.specs.declared.Code.{Code}
+use Rattle.model.specs.declared.Code.the-variants.{Word, Phrase, Combine, Not, Filter as Filtered}
+use Rattle.model.specs.declared.Filter.{Filter}
+use Rattle.model.specs.declared.Filter.the-variants.{Ordered, Window, Distance, SameSentence, SameParagraph, DifferentSentence, DifferentParagraph, AtStart, AtEnd, EntireContent}
+use Rattle.model.specs.declared.Pair.the-variants.{Or, And, MildNot}
+use Rattle.model.specs.Bytes.{bytes}
+use Rattle.model.specs.Limits.{maxDistance, maxNumber, maxWaiting, maxWord}
+use Rattle.model.specs.Tokens.{Token, quote, opening, closing, digit, letter, valueOf}
+
+-- ---- tokens
+
+-- a quote or a parenthesis
+pub record Sign (b : ℕ) (t : Token) : Type 0 where
+  pub is : t .sort ≡ b
+
+-- "keywords small"
+pub record Keyword (w : String) (t : Token) : Type 0 where
+  pub letters : t .sort ≡ letter
+  pub spelled : t .bytes ≡ bytes w
+
+-- a number within its limit
+pub record Number (most : ℕ) (t : Token) : Type 0 where
+  pub digits : t .sort ≡ digit
+  pub within : valueOf t ≤ most
+
+-- ---- words and filters
+
+-- k word numbers
+pub data Words : ℕ → List Token → List Code → Type 0 where
+  no-word : Words 0 [] []
+  word-more : {k : ℕ} {t : Token} {ts : List Token} {cs : List Code} → Number maxWord t → Words k ts cs → Words (suc k) (t ∷ ts) (Word (valueOf t) ∷ cs)
+
+pub data FTPosFilter : List Token → Filter → Type 0 where
+  ordered : {a : Token} → Keyword "ordered" a → FTPosFilter (a ∷ []) Ordered
+  window : {a n z : Token} → Keyword "window" a → Number maxNumber n → Keyword "words" z → FTPosFilter (a ∷ n ∷ z ∷ []) (Window (valueOf n))
+  -- "Distance takes `exactly`, `at least` (to 4,095), `at most` (from 0) or `from .. to`."
+  distance-exactly : {a b n z : Token} → Keyword "distance" a → Keyword "exactly" b → Number maxNumber n → Keyword "words" z
+      → FTPosFilter (a ∷ b ∷ n ∷ z ∷ []) (Distance (valueOf n) (valueOf n))
+  distance-least : {a b c n z : Token} → Keyword "distance" a → Keyword "at" b → Keyword "least" c → Number maxNumber n → Keyword "words" z
+      → FTPosFilter (a ∷ b ∷ c ∷ n ∷ z ∷ []) (Distance (valueOf n) maxDistance)
+  distance-most : {a b c n z : Token} → Keyword "distance" a → Keyword "at" b → Keyword "most" c → Number maxNumber n → Keyword "words" z
+      → FTPosFilter (a ∷ b ∷ c ∷ n ∷ z ∷ []) (Distance 0 (valueOf n))
+  distance-from : {a b m c n z : Token} → Keyword "distance" a → Keyword "from" b → Number maxNumber m → Keyword "to" c → Number maxNumber n
+      → Keyword "words" z → FTPosFilter (a ∷ b ∷ m ∷ c ∷ n ∷ z ∷ []) (Distance (valueOf m) (valueOf n))
+  same-sentence : {a b : Token} → Keyword "same" a → Keyword "sentence" b → FTPosFilter (a ∷ b ∷ []) SameSentence
+  same-paragraph : {a b : Token} → Keyword "same" a → Keyword "paragraph" b → FTPosFilter (a ∷ b ∷ []) SameParagraph
+  different-sentence : {a b : Token} → Keyword "different" a → Keyword "sentence" b → FTPosFilter (a ∷ b ∷ []) DifferentSentence
+  different-paragraph : {a b : Token} → Keyword "different" a → Keyword "paragraph" b → FTPosFilter (a ∷ b ∷ []) DifferentParagraph
+  at-start : {a b : Token} → Keyword "at" a → Keyword "start" b → FTPosFilter (a ∷ b ∷ []) AtStart
+  at-end : {a b : Token} → Keyword "at" a → Keyword "end" b → FTPosFilter (a ∷ b ∷ []) AtEnd
+  entire-content : {a b : Token} → Keyword "entire" a → Keyword "content" b → FTPosFilter (a ∷ b ∷ []) EntireContent
+
+-- ---- the rules
+
+mutual
+  pub data FTSelection : List Token → List Code → Type 0 where
+    selection-or : {ts : List Token} {cs : List Code} → FTOr ts cs → FTSelection ts cs
+    selection-filter : {ts us : List Token} {cs : List Code} {f : Filter} → FTSelection ts cs → FTPosFilter us f
+        → FTSelection (ts ++ us) (cs ++ (Filtered f ∷ []))
+
+  pub data FTOr : List Token → List Code → Type 0 where
+    or-and : {ts : List Token} {cs : List Code} → FTAnd ts cs → FTOr ts cs
+    or-more : {ts us : List Token} {cs ds : List Code} {t : Token} → FTOr ts cs → Keyword "ftor" t → FTAnd us ds
+        → FTOr (ts ++ (t ∷ us)) (cs ++ (ds ++ (Combine Or ∷ [])))
+
+  pub data FTAnd : List Token → List Code → Type 0 where
+    and-mild : {ts : List Token} {cs : List Code} → FTMildNot ts cs → FTAnd ts cs
+    and-more : {ts us : List Token} {cs ds : List Code} {t : Token} → FTAnd ts cs → Keyword "ftand" t → FTMildNot us ds
+        → FTAnd (ts ++ (t ∷ us)) (cs ++ (ds ++ (Combine And ∷ [])))
+
+  pub data FTMildNot : List Token → List Code → Type 0 where
+    mild-unary : {ts : List Token} {cs : List Code} → FTUnaryNot ts cs → FTMildNot ts cs
+    mild-more : {ts us : List Token} {cs ds : List Code} {t u : Token} → FTMildNot ts cs → Keyword "not" t → Keyword "in" u → FTUnaryNot us ds
+        → FTMildNot (ts ++ (t ∷ u ∷ us)) (cs ++ (ds ++ (Combine MildNot ∷ [])))
+
+  pub data FTUnaryNot : List Token → List Code → Type 0 where
+    unary-primary : {ts : List Token} {cs : List Code} → FTPrimary ts cs → FTUnaryNot ts cs
+    unary-not : {ts : List Token} {cs : List Code} {t : Token} → Keyword "ftnot" t → FTPrimary ts cs → FTUnaryNot (t ∷ ts) (cs ++ (Not ∷ []))
+
+  pub data FTPrimary : List Token → List Code → Type 0 where
+    -- "A phrase is one to eight word numbers in double quotes."
+    phrase : {k : ℕ} {ts : List Token} {cs : List Code} {t u : Token} → Sign quote t → Words k ts cs → 1 ≤ k → k ≤ maxWaiting → Sign quote u
+        → FTPrimary (t ∷ (ts ++ (u ∷ []))) (cs ++ (Phrase k ∷ []))
+    -- "A selection in parentheses is read by the rule that reads the whole"
+    nested : {ts : List Token} {cs : List Code} {t u : Token} → Sign opening t → FTSelection ts cs → Sign closing u
+        → FTPrimary (t ∷ (ts ++ (u ∷ []))) cs
