@@ -6,7 +6,9 @@ use crate::rules;
 use crate::section;
 use crate::shrink;
 use crate::sizes;
-use crate::{BUFFER, WORK};
+use crate::typed::{self, SELECTION};
+use crate::typed_gen::{self, TypedCase};
+use crate::{Refusal, BUFFER, WORK};
 use std::sync::OnceLock;
 
 /// An engine that is to agree with document 01. Memory is lent as the paper says; a snippet is a part of the section.
@@ -14,6 +16,21 @@ pub trait Engine {
     fn listing(&self, section: &[u32], selection: &[u32], work: &mut [u32], buffer: &mut [u32]) -> Listing;
     fn quick(&self, section: &[u32], selection: &[u32], work: &mut [u32]) -> Quick;
     fn snippet<'a>(&self, section: &'a [u32], from: u32, to: u32) -> &'a [u32];
+
+    /// Reads a typed search into a lent selection, and answers the number of its codes.
+    fn read(&self, _text: &[u8], _selection: &mut [u32]) -> Result<u32, Refusal> {
+        unimplemented!("this engine reads no typed searches")
+    }
+
+    /// The full listing of a typed search.
+    fn typed_listing(&self, _section: &[u32], _text: &[u8], _work: &mut [u32], _buffer: &mut [u32]) -> Listing {
+        unimplemented!("this engine reads no typed searches")
+    }
+
+    /// The quick answer of a typed search.
+    fn typed_quick(&self, _section: &[u32], _text: &[u8], _work: &mut [u32]) -> Quick {
+        unimplemented!("this engine reads no typed searches")
+    }
 }
 
 /// Compares an engine with the second engine on one case: the listing's result and place, its whole buffer, the quick
@@ -156,6 +173,148 @@ fn compare_snippets(engine: &dyn Engine, case: &Case) -> Result<(), String> {
     Ok(())
 }
 
+/// Compares an engine with the second engine on one typed case: the reader alone, into selections of several lengths; the
+/// typed listing with its whole buffer, and the typed quick answer, both also with the engine's own calls on the codes.
+pub fn compare_typed(engine: &dyn Engine, case: &TypedCase) -> Result<(), String> {
+    compare_read(engine, &case.text, &case.selection)?;
+    compare_text(engine, &case.text)?;
+    compare_typed_listing(engine, case)?;
+    compare_typed_quick(engine, case)
+}
+
+/// Compares an engine with the second engine on the first typed cases of a seed. The error names the first case that
+/// fails, and holds a test of it, made as small as it gets.
+pub fn hunt_typed(engine: &dyn Engine, seed: u64, count: usize) -> Result<(), String> {
+    for (index, case) in typed_gen::typed_cases(seed, count).enumerate() {
+        if let Err(first) = compare_typed(engine, &case) {
+            let small = shrink::shrink_typed(&case, &|case| compare_typed(engine, case).is_err());
+            let last = compare_typed(engine, &small).expect_err("a shrunk case still fails");
+            let test = shrink::typed_as_rust(&small, &format!("typed_seed_{seed}_case_{index}"));
+            return Err(format!("seed {seed}, typed case {index}: {first}\nmade smaller: {last}\n\n{test}"));
+        }
+    }
+    Ok(())
+}
+
+/// Compares the reader alone on one text, with selections lent that are too short, just long enough, and longer.
+pub fn compare_text(engine: &dyn Engine, text: &[u8]) -> Result<(), String> {
+    for length in [SELECTION, 0, 1, SELECTION - 1, SELECTION + 11] {
+        compare_read(engine, text, &marked(length))?;
+    }
+    Ok(())
+}
+
+/// A selection that holds other numbers at each place, none of them a size or a kind.
+pub fn marked(length: usize) -> Vec<u32> {
+    (0..length as u32).map(|at| 0xC0DE_0000 + at).collect()
+}
+
+/// Compares the reader alone on one text and one lent selection: the answer, and all that the selection then holds.
+pub fn compare_read(engine: &dyn Engine, text: &[u8], selection: &[u32]) -> Result<(), String> {
+    let mut wanted_selection = selection.to_vec();
+    let wanted = typed::read_selection(text, &mut wanted_selection);
+
+    let lent_text = LentText::of(text);
+    let mut lent = Lent::copy(selection);
+    let got = engine.read(lent_text.slice(), lent.slice());
+    if got != wanted {
+        return Err(format!("read into {}: {got:?}, but {wanted:?} is right", selection.len()));
+    }
+    if let Some(at) = (0..selection.len()).find(|&at| lent.slice()[at] != wanted_selection[at]) {
+        let (number, right) = (lent.slice()[at], wanted_selection[at]);
+        return Err(format!("read: {got:?} is right, but selection[{at}] is {number} where {right} is right"));
+    }
+    lent_text.unchanged(text)?;
+    lent.untouched_around("read: selection")
+}
+
+fn compare_typed_listing(engine: &dyn Engine, case: &TypedCase) -> Result<(), String> {
+    let mut wanted_buffer = case.buffer.clone();
+    let wanted = typed::typed_listing(&case.section, &case.text, case.work_len, &mut wanted_buffer);
+
+    let (text, section) = (LentText::of(&case.text), case.section.clone());
+    let mut work = Lent::some_noise(case.text.len() + 3, case.work_len);
+    let mut buffer = Lent::copy(&case.buffer);
+    let got = engine.typed_listing(&section, text.slice(), work.slice(), buffer.slice());
+    if got != wanted {
+        return Err(format!("typed listing: {got:?}, but {wanted:?} is right"));
+    }
+    if let Some(at) = (0..wanted_buffer.len()).find(|&at| buffer.slice()[at] != wanted_buffer[at]) {
+        let (number, right) = (buffer.slice()[at], wanted_buffer[at]);
+        return Err(format!("typed listing: {got:?} is right, but buffer[{at}] is {number} where {right} is right"));
+    }
+    text.unchanged(&case.text)?;
+    section_unchanged(&section, case)?;
+    work.untouched_around("typed listing: working memory")?;
+    buffer.untouched_around("typed listing: buffer")?;
+
+    // "What a typed search answers is what its codes answer."
+    let Ok(codes) = typed::read(&case.text) else { return Ok(()) };
+    let mut by_codes = Lent::copy(&case.buffer);
+    let answer = engine.listing(&section, &typed::numbers(&codes), work.slice(), by_codes.slice());
+    if answer != got || by_codes.slice() != buffer.slice() {
+        return Err(format!("typed listing: {got:?}, but its codes answer {answer:?}, or another buffer"));
+    }
+    Ok(())
+}
+
+fn compare_typed_quick(engine: &dyn Engine, case: &TypedCase) -> Result<(), String> {
+    let wanted = typed::typed_quick(&case.section, &case.text, case.work_len);
+
+    let (text, section) = (LentText::of(&case.text), case.section.clone());
+    let mut work = Lent::some_noise(case.text.len() + 5, case.work_len);
+    let got = engine.typed_quick(&section, text.slice(), work.slice());
+    if got != wanted {
+        return Err(format!("typed quick: {got:?}, but {wanted:?} is right"));
+    }
+    text.unchanged(&case.text)?;
+    section_unchanged(&section, case)?;
+    work.untouched_around("typed quick: working memory")?;
+
+    let Ok(codes) = typed::read(&case.text) else { return Ok(()) };
+    let answer = engine.quick(&section, &typed::numbers(&codes), work.slice());
+    if answer != got {
+        return Err(format!("typed quick: {got:?}, but its codes answer {answer:?}"));
+    }
+    Ok(())
+}
+
+fn section_unchanged(section: &[u32], case: &TypedCase) -> Result<(), String> {
+    if section != case.section {
+        return Err("the section was written on".to_string());
+    }
+    Ok(())
+}
+
+/// A text to be lent. What stands on both sides of it would go on its tokens, so who reads too far reads something else.
+struct LentText {
+    bytes: Vec<u8>,
+    text: std::ops::Range<usize>,
+}
+
+impl LentText {
+    fn of(text: &[u8]) -> LentText {
+        let (before, behind): (&[u8], &[u8]) = match text.last() {
+            Some(b'a'..=b'z') => (b"(ftnot", b"x ftand"),
+            Some(b'"') => (b"\"1\"ftor", b"ftor\"1\""),
+            Some(b'0'..=b'9') => (b"\"1", b"0\" words"),
+            _ => (b"(", b"\"1\")"),
+        };
+        LentText { bytes: [before, text, behind].concat(), text: before.len()..before.len() + text.len() }
+    }
+
+    fn slice(&self) -> &[u8] {
+        &self.bytes[self.text.clone()]
+    }
+
+    fn unchanged(&self, text: &[u8]) -> Result<(), String> {
+        if self.bytes != LentText::of(text).bytes {
+            return Err("the text was written on".to_string());
+        }
+        Ok(())
+    }
+}
+
 /// Bounds on both sides of every edge.
 fn snippet_bounds(section: &[u32]) -> Vec<(u32, u32)> {
     let n = section::read(section).map_or(section.len() as u32 / 2, |accepted| accepted.n());
@@ -214,13 +373,16 @@ impl Lent {
 
     /// Working memory that starts holding anything: a row of some fixed noise, from another place for each case.
     fn noise(case: &Case, salt: usize) -> Lent {
+        Lent::some_noise(case.section.len() + 31 * case.selection.len() + 997 * salt, case.work_len)
+    }
+
+    fn some_noise(start: usize, length: usize) -> Lent {
         static NOISE: OnceLock<Vec<u32>> = OnceLock::new();
         let noise = NOISE.get_or_init(|| {
             let mut rng = Rng::new(0, 0);
             (0..2 * WORK).map(|_| rng.number()).collect()
         });
-        let start = (case.section.len() + 31 * case.selection.len() + 997 * salt) % WORK;
-        let row: Vec<u32> = noise[start..].iter().cycle().take(case.work_len).copied().collect();
+        let row: Vec<u32> = noise[start % WORK..].iter().cycle().take(length).copied().collect();
         Lent::copy(&row)
     }
 

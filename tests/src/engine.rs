@@ -5,6 +5,7 @@ use crate::rules::{self, AllMatches, Match};
 use crate::section::{self, Section};
 use crate::selection::{self, Filter, Rule, Tree, Unit};
 use crate::sizes::{self, Limits, Size};
+use crate::typed;
 use crate::{Refusal, BUFFER, WORK};
 
 /// "It answers M, S and yes or no, or a refusal with its place."
@@ -273,6 +274,18 @@ impl Engine for SecondEngine {
 
     fn snippet<'a>(&self, section: &'a [u32], from: u32, to: u32) -> &'a [u32] {
         snippet(section, from, to)
+    }
+
+    fn read(&self, text: &[u8], selection: &mut [u32]) -> Result<u32, Refusal> {
+        typed::read_selection(text, selection)
+    }
+
+    fn typed_listing(&self, section: &[u32], text: &[u8], work: &mut [u32], buffer: &mut [u32]) -> Listing {
+        typed::typed_listing(section, text, work.len(), buffer)
+    }
+
+    fn typed_quick(&self, section: &[u32], text: &[u8], work: &mut [u32]) -> Quick {
+        typed::typed_quick(section, text, work.len())
     }
 }
 

@@ -13,10 +13,12 @@
 //! - [`agreement`]: the engine under test, and its comparison with this one.
 //! - [`gen`]: seeded random cases.
 //! - [`shrink`]: a failing case made smaller, and printed as a test.
+//! - [`typed`]: typed searches, from a text to codes.
+//! - [`typed_gen`]: seeded random texts, and every short one.
 //! - [`json`]: a reader just good enough for the published examples.
 //!
 //! To test an engine: implement [`Engine`] for it (as `tests/proved/mod.rs` does) and call [`agreement::hunt`] with a seed and a count
-//! of cases; the error is a message with a small test to paste back.
+//! of cases; the error is a message with a small test to paste back. [`agreement::hunt_typed`] does the same for typed searches.
 
 pub mod agreement;
 pub mod engine;
@@ -28,11 +30,14 @@ pub mod selection;
 pub mod shrink;
 pub mod sizes;
 pub mod text;
+pub mod typed;
+pub mod typed_gen;
 
-pub use agreement::{compare, hunt, Engine};
+pub use agreement::{compare, compare_text, compare_typed, hunt, hunt_typed, Engine};
 pub use engine::{listing, quick, snippet, unlimited, Listing, Quick, SecondEngine};
 pub use gen::{cases, Case};
 pub use rules::{AllMatches, Match, Str};
+pub use typed_gen::{typed_cases, TypedCase};
 
 /// A refusal: its number in the paper's table, and its place.
 #[derive(Clone, Copy, Debug, PartialEq, Eq)]

@@ -3,6 +3,8 @@
 use crate::gen::Case;
 use crate::section::{self, Section};
 use crate::selection::{self, Code, Filter, Rule, Tree};
+use crate::typed::{self, SELECTION};
+use crate::typed_gen::TypedCase;
 use crate::{BUFFER, WORK};
 
 /// How many cases are tried at most.
@@ -246,5 +248,153 @@ fn {name}() {{
 }}
 ",
         case.section, case.selection, case.work_len
+    )
+}
+
+// Typed cases
+
+/// The smallest failing typed case that can be reached by small changes, as [`shrink`] does it.
+pub fn shrink_typed(case: &TypedCase, fails: &dyn Fn(&TypedCase) -> bool) -> TypedCase {
+    let mut best = case.clone();
+    let mut tries = 0;
+    loop {
+        let measure = measure_typed(&best);
+        let still_fails = |changed: &TypedCase| {
+            tries += 1;
+            tries <= TRIES && fails(changed)
+        };
+        let simpler = typed_changes(&best).filter(|changed| measure_typed(changed) < measure).find(still_fails);
+        match simpler {
+            Some(changed) => best = changed,
+            None => return best,
+        }
+    }
+}
+
+/// What is to fall: the text's length, the section's, how odd the lent memory is, the noise in it, what a byte is.
+fn measure_typed(case: &TypedCase) -> (usize, usize, usize, usize, u128) {
+    let odd_lengths =
+        case.work_len.abs_diff(WORK) + case.buffer.len().abs_diff(BUFFER) + case.selection.len().abs_diff(SELECTION);
+    let noise = case.buffer.iter().chain(&case.selection).filter(|&&number| number != 0).count();
+    let bytes: u128 = case.text.iter().map(|&byte| u128::from(oddness(byte))).sum();
+    let numbers: u128 = case.section.iter().map(|&number| u128::from(number)).sum();
+    (case.text.len(), case.section.len(), odd_lengths, noise, bytes + numbers)
+}
+
+/// Digits are the plainest bytes, 1 of them the plainest; then those that a text may have.
+fn oddness(byte: u8) -> u32 {
+    match byte {
+        b'1' => 0,
+        b'0'..=b'9' => 1 + u32::from(byte),
+        _ if typed::sort(byte) == Some(typed::Sort::Other) => 1_000 + u32::from(byte),
+        _ => 100 + u32::from(byte),
+    }
+}
+
+fn typed_changes(case: &TypedCase) -> impl Iterator<Item = TypedCase> + '_ {
+    let with_text = |text| TypedCase { text, ..case.clone() };
+    let with_section = |section| TypedCase { section, ..case.clone() };
+    let sections: Box<dyn Iterator<Item = Vec<u32>>> = match section::read(&case.section) {
+        Ok(section) => Box::new([vec![0]].into_iter().chain(changed_sections(section))),
+        Err(_) => Box::new([vec![0]].into_iter().chain(without_pairs(&case.section))),
+    };
+    let lent = vec![
+        TypedCase { work_len: WORK, buffer: vec![0; BUFFER], selection: vec![0; SELECTION], ..case.clone() },
+        TypedCase { work_len: WORK, ..case.clone() },
+        TypedCase { buffer: vec![0; BUFFER], ..case.clone() },
+        TypedCase { selection: vec![0; SELECTION], ..case.clone() },
+        TypedCase { selection: vec![0; case.selection.len()], ..case.clone() },
+    ];
+    let lent = lent.into_iter();
+    lent.chain(changed_texts(&case.text).map(with_text)).chain(sections.map(with_section))
+}
+
+/// Fewer tokens, fewer bytes, parentheses or what they hold left out, plainer bytes.
+fn changed_texts(text: &[u8]) -> impl Iterator<Item = Vec<u8>> + '_ {
+    let starts: Vec<usize> = typed::tokens(text).iter().map(|token| token.place - 1).collect();
+    let tokens = starts.len() - 1;
+    // a long text has no time for every run
+    let longest = if tokens <= 150 { 12 } else { 1 };
+    let runs = (0..tokens).flat_map(move |from| (from + 1..=tokens.min(from + longest)).map(move |to| from..to));
+    let by_tokens = cuts(tokens).chain(runs).map(move |cut| without(text, &(starts[cut.start]..starts[cut.end])));
+    let by_parentheses = parentheses(text).into_iter().flat_map(move |(open, close)| {
+        let inside = &text[open + 1..close];
+        let (before, behind) = (&text[..open], &text[close + 1..]);
+        [inside.to_vec(), [before, b"\"1\"", behind].concat(), [before, b" ", inside, behind].concat()]
+    });
+    let by_bytes = cuts(text.len()).map(|cut| without(text, &cut));
+    let plainer = (0..text.len()).flat_map(move |at| {
+        b"1 \"".iter().map(move |&byte| {
+            let mut changed = text.to_vec();
+            changed[at] = byte;
+            changed
+        })
+    });
+    by_parentheses.chain(by_tokens).chain(by_bytes).chain(plainer)
+}
+
+/// Where parentheses open and close, those that do both.
+fn parentheses(text: &[u8]) -> Vec<(usize, usize)> {
+    let mut open = vec![];
+    let mut list = vec![];
+    for (at, byte) in text.iter().enumerate() {
+        match byte {
+            b'(' => open.push(at),
+            b')' => list.extend(open.pop().map(|start| (start, at))),
+            _ => {}
+        }
+    }
+    list
+}
+
+/// The text as Rust has it, with a repeat for many equal bytes.
+fn byte_string(text: &[u8]) -> String {
+    let mut parts: Vec<String> = vec![];
+    let mut plain = String::new();
+    for run in text.chunk_by(|one, other| one == other) {
+        let escaped = std::ascii::escape_default(run[0]).to_string();
+        if run.len() < 100 {
+            plain += &escaped.repeat(run.len());
+        } else {
+            parts.push(format!("b\"{}\".to_vec()", std::mem::take(&mut plain)));
+            parts.push(format!("b\"{escaped}\".repeat({})", run.len()));
+        }
+    }
+    parts.push(format!("b\"{plain}\".to_vec()"));
+    if let [one] = &parts[..] {
+        return one.clone();
+    }
+    format!("[{}].concat()", parts.join(", "))
+}
+
+/// The typed case as a test that can be pasted into `tests/typed.rs`.
+pub fn typed_as_rust(case: &TypedCase, name: &str) -> String {
+    let read = match typed::read(&case.text) {
+        Ok(codes) => format!("{codes:?}"),
+        Err(refusal) => format!("{refusal:?}"),
+    };
+    let memory = |numbers: &[u32]| match numbers.iter().find(|&&number| number != 0) {
+        None => format!("vec![0; {}]", numbers.len()),
+        Some(_) => format!("vec!{numbers:?}"),
+    };
+    format!(
+        "#[test]
+fn {name}() {{
+    // the text is read as {read}
+    let case = TypedCase {{
+        text: {},
+        section: vec!{:?},
+        work_len: {},
+        buffer: {},
+        selection: {},
+    }};
+    compare_typed(&engine(), &case).unwrap();
+}}
+",
+        byte_string(&case.text),
+        case.section,
+        case.work_len,
+        memory(&case.buffer),
+        memory(&case.selection)
     )
 }

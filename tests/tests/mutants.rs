@@ -6,10 +6,12 @@ use second_engine::engine::{check, RuleBook};
 use second_engine::rules::{self, agree, join, span_distance, units, Str};
 use second_engine::section::{self, Section};
 use second_engine::selection::{self, Rule, Tree, Unit};
-use second_engine::shrink::{as_rust, shrink};
+use second_engine::shrink::{as_rust, shrink, shrink_typed, typed_as_rust};
 use second_engine::sizes::{Limits, Size};
+use second_engine::typed::{self, Act, Filter, Move, Operator, Pair, Reader, Sign, Sort, State, Token};
 use second_engine::{
-    cases, compare, engine, AllMatches, Engine, Listing, Match, Quick, Refusal, SecondEngine, BUFFER, WORK,
+    cases, compare, compare_typed, engine, hunt_typed, typed_cases, AllMatches, Engine, Listing, Match, Quick, Refusal,
+    SecondEngine, TypedCase, BUFFER, WORK,
 };
 use std::slice::from_ref;
 
@@ -1168,5 +1170,588 @@ fn mutants_of_checks(list: &mut Mutants) {
         let answer = engine::listing(section, selection, work, &mut longer);
         buffer.copy_from_slice(&longer[..BUFFER - 1]);
         answer
+    });
+}
+
+// Typed searches
+
+/// Within how many typed cases each mistake must be found.
+const MOST_TYPED: usize = 20_000;
+
+#[test]
+fn every_typed_mistake_is_found() {
+    let mut late = vec![];
+    println!("typed cases  mistake");
+    for (name, mutant) in all_typed() {
+        let found = typed_cases(1, MOST_TYPED).position(|case| compare_typed(&*mutant, &case).is_err());
+        match found {
+            Some(index) => println!("{:12} {name}", index + 1),
+            None => {
+                println!("       never {name}");
+                late.push(name);
+            }
+        }
+    }
+    assert!(late.is_empty(), "not found: {late:?}");
+}
+
+/// A found text is made smaller, still shows the mistake, and isn't held against the right engine.
+#[test]
+fn found_texts_shrink() {
+    let right = SecondEngine::new();
+    // some of them are enough
+    let some = if cfg!(debug_assertions) { 20 } else { 3 };
+    for (name, mutant) in all_typed().into_iter().step_by(some) {
+        let fails = |case: &TypedCase| compare_typed(&*mutant, case).is_err();
+        let Some(case) = typed_cases(2, 2_000).find(|case| fails(case)) else { continue };
+        let small = shrink_typed(&case, &fails);
+        assert!(fails(&small), "{name}");
+        compare_typed(&right, &small).unwrap();
+        assert!(small.text.len() <= case.text.len());
+        let wrong = compare_typed(&*mutant, &small).unwrap_err();
+        let begins = &small.text[..small.text.len().min(100)];
+        println!("{name}: {} bytes, then {}; {wrong}", case.text.len(), small.text.len());
+        println!("    {}", begins.escape_ascii());
+        assert!(typed_as_rust(&small, "found").contains("compare_typed(&engine(), &case).unwrap();"));
+    }
+}
+
+/// What somebody sees whose reader has a mistake.
+#[test]
+fn a_typed_hunt_ends_with_a_test() {
+    assert_eq!(hunt_typed(&SecondEngine::new(), 3, 300), Ok(()));
+    let mut reader = Reader::paper();
+    reader.moves.push(Move::new(State::Primary, Sign::Keyword("ftnot"), State::Primary, Act::Hold(Operator::Not)));
+    let wrong = hunt_typed(&TypedCalls { reader, ..right_typed() }, 3, MOST_TYPED).unwrap_err();
+    println!("{wrong}");
+    assert!(wrong.starts_with("seed 3, typed case "));
+    assert!(wrong.contains("text: b\"ftnot ftnot\".to_vec(),"));
+    assert!(wrong.contains("section: vec![0],"));
+}
+
+type Codes = Result<Vec<Pair>, Refusal>;
+
+/// An engine whose typed calls are the right ones unless another is put in: how a text is read, and what each call does with
+/// what was read.
+struct TypedCalls {
+    reader: Reader,
+    codes: fn(&Reader, &[u8]) -> Codes,
+    read: fn(Codes, &mut [u32]) -> Result<u32, Refusal>,
+    listing: fn(Codes, &[u32], usize, &mut [u32]) -> Listing,
+    quick: fn(Codes, &[u32], usize) -> Quick,
+}
+
+impl Engine for TypedCalls {
+    fn listing(&self, section: &[u32], selection: &[u32], work: &mut [u32], buffer: &mut [u32]) -> Listing {
+        engine::listing(section, selection, work.len(), buffer)
+    }
+
+    fn quick(&self, section: &[u32], selection: &[u32], work: &mut [u32]) -> Quick {
+        engine::quick(section, selection, work.len())
+    }
+
+    fn snippet<'a>(&self, section: &'a [u32], from: u32, to: u32) -> &'a [u32] {
+        engine::snippet(section, from, to)
+    }
+
+    fn read(&self, text: &[u8], selection: &mut [u32]) -> Result<u32, Refusal> {
+        (self.read)((self.codes)(&self.reader, text), selection)
+    }
+
+    fn typed_listing(&self, section: &[u32], text: &[u8], work: &mut [u32], buffer: &mut [u32]) -> Listing {
+        (self.listing)((self.codes)(&self.reader, text), section, work.len(), buffer)
+    }
+
+    fn typed_quick(&self, section: &[u32], text: &[u8], work: &mut [u32]) -> Quick {
+        (self.quick)((self.codes)(&self.reader, text), section, work.len())
+    }
+}
+
+fn right_typed() -> TypedCalls {
+    TypedCalls {
+        reader: Reader::paper(),
+        codes: |reader, text| reader.read(text),
+        read: right_read,
+        listing: right_typed_listing,
+        quick: right_typed_quick,
+    }
+}
+
+fn right_read(codes: Codes, selection: &mut [u32]) -> Result<u32, Refusal> {
+    let codes = codes?;
+    if codes.len() > 64 {
+        return Err(Refusal::new(3, 0));
+    }
+    if selection.len() < 129 {
+        return Err(Refusal::new(8, 0));
+    }
+    Ok(write(&codes, selection))
+}
+
+/// Writes as much of the codes as there is room for.
+fn write(codes: &[Pair], selection: &mut [u32]) -> u32 {
+    let numbers = typed::numbers(codes);
+    selection.iter_mut().zip(&numbers).for_each(|(to, from)| *to = *from);
+    numbers[0]
+}
+
+fn right_typed_listing(codes: Codes, section: &[u32], work_len: usize, buffer: &mut [u32]) -> Listing {
+    match codes {
+        Ok(codes) => engine::listing(section, &typed::numbers(&codes), work_len, buffer),
+        Err(Refusal { number, place }) => Listing::Refused { number, place },
+    }
+}
+
+fn right_typed_quick(codes: Codes, section: &[u32], work_len: usize) -> Quick {
+    match codes {
+        Ok(codes) => engine::quick(section, &typed::numbers(&codes), work_len),
+        Err(Refusal { number, place }) => Quick::Refused { number, place },
+    }
+}
+
+impl Mutants {
+    fn reader(&mut self, name: &'static str, change: impl Fn(&mut Reader)) {
+        let mut reader = Reader::paper();
+        change(&mut reader);
+        self.engine(name, TypedCalls { reader, ..right_typed() });
+    }
+
+    fn codes(&mut self, name: &'static str, codes: fn(&Reader, &[u8]) -> Codes) {
+        self.engine(name, TypedCalls { codes, ..right_typed() });
+    }
+
+    fn read(&mut self, name: &'static str, read: fn(Codes, &mut [u32]) -> Result<u32, Refusal>) {
+        self.engine(name, TypedCalls { read, ..right_typed() });
+    }
+
+    fn typed_listing(&mut self, name: &'static str, listing: fn(Codes, &[u32], usize, &mut [u32]) -> Listing) {
+        self.engine(name, TypedCalls { listing, ..right_typed() });
+    }
+
+    fn typed_quick(&mut self, name: &'static str, quick: fn(Codes, &[u32], usize) -> Quick) {
+        self.engine(name, TypedCalls { quick, ..right_typed() });
+    }
+}
+
+fn all_typed() -> Vec<(&'static str, Box<dyn Engine>)> {
+    let mut list = Mutants(vec![]);
+    mutants_of_grammar(&mut list);
+    mutants_of_tokens(&mut list);
+    mutants_of_text_errors(&mut list);
+    mutants_of_typed_calls(&mut list);
+    list.0
+}
+
+/// The reader with another operand for a filter.
+fn other_operand(reader: &mut Reader, typed: &str, operand: fn(&[u32]) -> u32) {
+    for step in &mut reader.moves {
+        if let Act::Filter(filter) = step.act {
+            if filter.typed == typed {
+                step.act = Act::Filter(Filter { operand, ..filter });
+            }
+        }
+    }
+}
+
+fn mutants_of_grammar(list: &mut Mutants) {
+    list.reader("typed: right operands group first", |reader| reader.comes_first = |waiting, now| waiting > now);
+    list.reader("typed: only not in groups right operands first", |reader| {
+        reader.comes_first = |waiting, now| waiting > now || (waiting == now && now != Operator::MildNot)
+    });
+    list.reader("typed: ftor binds as much as ftand", |reader| {
+        reader.comes_first = |waiting, now| waiting >= now || waiting == Operator::Or && now == Operator::And
+    });
+    list.reader("typed: not in binds as much as ftand", |reader| {
+        reader.comes_first = |waiting, now| waiting >= now || waiting == Operator::And && now == Operator::MildNot
+    });
+    list.reader("typed: ftnot over not in", |reader| {
+        reader.comes_first = |waiting, now| {
+            let under = waiting == Operator::Not && now == Operator::MildNot;
+            waiting >= now && !under
+        }
+    });
+    list.reader("typed: a filter inside an ftand", |reader| {
+        let and = Act::Join(Operator::And);
+        reader.moves.push(Move::new(State::Filtered, Sign::Keyword("ftand"), State::Operand, and));
+    });
+    list.reader("typed: one filter at most", |reader| {
+        reader.moves.retain(|step| step.from != State::Filtered || matches!(step.sign, Sign::Close | Sign::End))
+    });
+    list.reader("typed: no filter in parentheses", |reader| {
+        reader.moves.retain(|step| step.from != State::Filtered || step.sign != Sign::Close)
+    });
+    list.reader("typed: ftnot twice", |reader| {
+        let not = Act::Hold(Operator::Not);
+        reader.moves.push(Move::new(State::Primary, Sign::Keyword("ftnot"), State::Primary, not));
+    });
+    list.reader("typed: ftnot only before a phrase", |reader| {
+        reader.moves.retain(|step| step.from != State::Primary || step.sign != Sign::Open)
+    });
+    list.reader("typed: a ninth word is read", |reader| {
+        reader.moves.push(Move::new(State::Phrase(8), Sign::Number, State::Phrase(9), Act::Word));
+        reader.moves.push(Move::new(State::Phrase(9), Sign::Quote, State::Behind, Act::Phrase));
+    });
+    list.reader("typed: seven words at most", |reader| reader.moves.retain(|step| step.to != State::Phrase(8)));
+    list.reader("typed: an empty phrase", |reader| {
+        reader.moves.push(Move::new(State::Phrase(0), Sign::Quote, State::Behind, Act::Phrase));
+    });
+    list.reader("typed: at least to 4,096", |reader| {
+        other_operand(reader, "distance at least N words", |n| n[0] * 65_536 + 4_096)
+    });
+    list.reader("typed: at most from 1", |reader| other_operand(reader, "distance at most N words", |n| 65_536 + n[0]));
+    list.reader("typed: exactly from 0", |reader| other_operand(reader, "distance exactly N words", |n| n[0]));
+    list.reader("typed: from and to exchanged", |reader| {
+        other_operand(reader, "distance from N to N words", |n| n[1] * 65_536 + n[0])
+    });
+    list.reader("typed: from and to put in order", |reader| {
+        other_operand(reader, "distance from N to N words", |n| n[0].min(n[1]) * 65_536 + n[0].max(n[1]))
+    });
+    list.reader("typed: the last word of a window may be missing", |reader| {
+        let short = Act::Filter(Filter { typed: "window N", kind: 7, operand: |n| n[0] });
+        reader.moves.push(Move::new(State::Inside("window N"), Sign::End, State::Done, short));
+    });
+}
+
+/// The right tokens of a text with some bytes changed to others first, each of them by one. The text is leaked, to live as
+/// long as the tokens.
+fn tokens_with(text: &[u8], change: fn(u8) -> u8) -> Vec<Token<'_>> {
+    let changed: Vec<u8> = text.iter().map(|byte| change(*byte)).collect();
+    typed::tokens(Box::leak(changed.into_boxed_slice()))
+}
+
+/// Neighbours that are to be one token become one. Only their first bytes and their sorts stay right, so this is for tokens
+/// that are refused.
+fn tokens_joined(text: &[u8], one: fn(&Token, &Token) -> bool) -> Vec<Token<'_>> {
+    let mut list: Vec<Token> = vec![];
+    for token in typed::tokens(text) {
+        match list.last_mut() {
+            Some(last) if one(last, &token) => {
+                let end = token.place - 1 + token.bytes.len();
+                last.bytes = &text[last.place - 1..end];
+                last.sort = Sort::Other;
+            }
+            _ => list.push(token),
+        }
+    }
+    list
+}
+
+fn mutants_of_tokens(list: &mut Mutants) {
+    list.reader("typed: 2,048 bytes are too long", |reader| reader.most_bytes = 2_047);
+    list.reader("typed: 2,049 bytes are read", |reader| reader.most_bytes = 2_049);
+    list.reader("typed: word numbers to 4,096", |reader| reader.most_word = 4_096);
+    list.reader("typed: word numbers to 4,294,967,294", |reader| reader.most_word = 4_294_967_294);
+    list.reader("typed: other numbers to 4,095", |reader| reader.most_number = 4_095);
+    list.reader("typed: other numbers to 4,097", |reader| reader.most_number = 4_097);
+    list.reader("typed: other numbers to 65,535", |reader| reader.most_number = 65_535);
+    list.reader("typed: leading zeros refused", |reader| {
+        reader.value = |digits| if digits.len() > 1 && digits[0] == b'0' { u64::MAX } else { typed::value(digits) }
+    });
+    list.reader("typed: more than ten digits refused", |reader| {
+        reader.value = |digits| if digits.len() > 10 { u64::MAX } else { typed::value(digits) }
+    });
+    list.reader("typed: numbers wrap round at 32 bits", |reader| {
+        reader.value = |digits| {
+            let step = |value: u32, digit: &u8| value.wrapping_mul(10).wrapping_add(u32::from(digit - b'0'));
+            u64::from(digits.iter().fold(0, step))
+        }
+    });
+    list.reader("typed: numbers wrap round at 64 bits", |reader| {
+        reader.value = |digits| {
+            let step = |value: u64, digit: &u8| value.wrapping_mul(10).wrapping_add(u64::from(digit - b'0'));
+            digits.iter().fold(0, step)
+        }
+    });
+    list.reader("typed: a tab is a blank", |reader| {
+        reader.tokens = |text| tokens_with(text, |byte| if byte == b'\t' { b' ' } else { byte })
+    });
+    list.reader("typed: a newline is a blank", |reader| {
+        reader.tokens = |text| tokens_with(text, |byte| if byte == b'\n' { b' ' } else { byte })
+    });
+    list.reader("typed: large letters are small ones", |reader| {
+        reader.tokens = |text| tokens_with(text, |byte| byte.to_ascii_lowercase())
+    });
+    list.reader("typed: single quotes", |reader| {
+        reader.tokens = |text| tokens_with(text, |byte| if byte == b'\'' { b'"' } else { byte })
+    });
+    list.reader("typed: bytes of 7 bits", |reader| reader.tokens = |text| tokens_with(text, |byte| byte & 0x7F));
+    list.reader("typed: letters and digits may not touch", |reader| {
+        reader.tokens = |text| {
+            tokens_joined(text, |last, next| {
+                let run = |token: &Token| matches!(token.sort, Sort::Letters | Sort::Digits);
+                run(last) && run(next) && last.place + last.bytes.len() == next.place
+            })
+        }
+    });
+    list.reader("typed: blanks needed before a parenthesis", |reader| {
+        reader.tokens = |text| {
+            tokens_joined(text, |last, next| {
+                last.sort == Sort::Letters && next.sort == Sort::Open && last.place + last.bytes.len() == next.place
+            })
+        }
+    });
+    list.reader("typed: a byte of zero ends the text", |reader| {
+        reader.tokens = |text| {
+            let end = text.iter().position(|byte| *byte == 0).unwrap_or(text.len());
+            typed::tokens(&text[..end])
+        }
+    });
+    list.reader("typed: keywords by their first four letters", |reader| {
+        reader.tokens = |text| {
+            let short = |token: &Token<'_>| token.sort == Sort::Letters && token.bytes.starts_with(b"orde");
+            let mut list = typed::tokens(text);
+            list.iter_mut().filter(|token| short(token)).for_each(|token| token.bytes = b"ordered");
+            list
+        }
+    });
+}
+
+/// The token of a text whose first byte is at a place.
+fn token_at(text: &[u8], place: u32) -> usize {
+    let found = typed::tokens(text).iter().position(|token| token.place == place as usize);
+    found.expect("an error is at a token")
+}
+
+/// Every number over its limit, wherever it stands: in quotes a word, else another.
+fn too_large(text: &[u8]) -> Vec<usize> {
+    let mut quotes = 0;
+    let mut list = vec![];
+    for token in typed::tokens(text) {
+        quotes += usize::from(token.sort == Sort::Quote);
+        let most = if quotes % 2 == 1 { typed::MOST_WORD } else { typed::MOST_NUMBER };
+        if token.sort == Sort::Digits && typed::value(token.bytes) > most {
+            list.push(token.place);
+        }
+    }
+    list
+}
+
+fn depth(text: &[u8]) -> usize {
+    let mut open: usize = 0;
+    let mut most = 0;
+    for byte in text {
+        match byte {
+            b'(' => open += 1,
+            b')' => open = open.saturating_sub(1),
+            _ => {}
+        }
+        most = most.max(open);
+    }
+    most
+}
+
+fn mutants_of_text_errors(list: &mut Mutants) {
+    list.codes("typed: the error at the token before", |reader, text| {
+        reader.read(text).map_err(|refusal| match refusal.place {
+            0 => refusal,
+            place => {
+                let before = token_at(text, place).saturating_sub(1);
+                Refusal::new(refusal.number, typed::tokens(text)[before].place)
+            }
+        })
+    });
+    list.codes("typed: places counted from 0", |reader, text| {
+        reader.read(text).map_err(|refusal| Refusal { place: refusal.place.saturating_sub(1), ..refusal })
+    });
+    list.codes("typed: places count tokens", |reader, text| {
+        reader.read(text).map_err(|refusal| match refusal.place {
+            0 => refusal,
+            place => Refusal::new(refusal.number, token_at(text, place) + 1),
+        })
+    });
+    list.codes("typed: the end at length", |reader, text| {
+        reader.read(text).map_err(|refusal| match refusal.place as usize == text.len() + 1 {
+            true => Refusal::new(10, text.len()),
+            false => refusal,
+        })
+    });
+    list.codes("typed: trailing blanks not counted", |reader, text| {
+        let used = text.len() - text.iter().rev().take_while(|byte| **byte == b' ').count();
+        reader.read(text).map_err(|refusal| Refusal { place: refusal.place.min(used as u32 + 1), ..refusal })
+    });
+    list.codes("typed: leading blanks not counted", |reader, text| {
+        let unused = text.iter().take_while(|byte| **byte == b' ').count() as u32;
+        reader.read(text).map_err(|refusal| Refusal { place: refusal.place.saturating_sub(unused), ..refusal })
+    });
+    list.codes("typed: an error at its token's last byte", |reader, text| {
+        reader.read(text).map_err(|refusal| match refusal.place {
+            0 => refusal,
+            place => {
+                let length = typed::tokens(text)[token_at(text, place)].bytes.len() as u32;
+                Refusal { place: place + length.saturating_sub(1), ..refusal }
+            }
+        })
+    });
+    list.codes("typed: 11 before 10", |reader, text| match (too_large(text).first(), reader.read(text)) {
+        (Some(place), Err(Refusal { number: 10, .. })) => Err(Refusal::new(11, *place)),
+        (_, read) => read,
+    });
+    list.codes("typed: 10 before 11", |reader, text| match reader.read(text) {
+        Err(refusal) if refusal.number == 11 && refusal.place > 0 => {
+            let mut text = text.to_vec();
+            for place in too_large(&text) {
+                text[place - 1..].iter_mut().take_while(|byte| byte.is_ascii_digit()).for_each(|digit| *digit = b'0');
+            }
+            Err(reader.read(&text).err().unwrap_or(refusal))
+        }
+        read => read,
+    });
+    list.codes("typed: a ninth word over the limit is 11", |reader, text| match reader.read(text) {
+        Err(Refusal { number: 10, place }) if too_large(text).contains(&(place as usize)) => {
+            let tokens = typed::tokens(text);
+            let before = tokens.iter().take_while(|token| token.place < place as usize);
+            let in_quotes = before.filter(|token| token.sort == Sort::Quote).count() % 2 == 1;
+            Err(Refusal { number: if in_quotes { 11 } else { 10 }, place })
+        }
+        read => read,
+    });
+    list.codes("typed: too long a text is 10", |reader, text| {
+        reader.read(text).map_err(|refusal| match refusal.place {
+            0 => Refusal::new(10, 0),
+            _ => refusal,
+        })
+    });
+    list.codes("typed: too long a text at its end", |reader, text| {
+        reader.read(text).map_err(|refusal| match refusal.place {
+            0 => Refusal::new(11, text.len() + 1),
+            _ => refusal,
+        })
+    });
+    list.codes("typed: too long a text after its other errors", |reader, text| {
+        let other = Reader { most_bytes: usize::MAX, ..reader.clone() }.read(text).err();
+        other.map_or_else(|| reader.read(text), Err)
+    });
+    list.codes("typed: parentheses 255 deep at most", |reader, text| {
+        if text.len() <= 2_048 && depth(text) > 255 {
+            return Err(Refusal::new(10, 256));
+        }
+        reader.read(text)
+    });
+    list.codes("typed: the end closes a parenthesis", |reader, text| {
+        reader.read(text).or_else(|refusal| match refusal.place as usize == text.len() + 1 {
+            true => reader.read(&[text, b")"].concat()).map_err(|_| refusal),
+            false => Err(refusal),
+        })
+    });
+    list.codes("typed: parentheses at the end too many", |reader, text| {
+        reader.read(text).or_else(|refusal| match text.strip_suffix(b")") {
+            Some(rest) if refusal.place as usize == text.len() => reader.read(rest).map_err(|_| refusal),
+            _ => Err(refusal),
+        })
+    });
+}
+
+fn mutants_of_typed_calls(list: &mut Mutants) {
+    list.read("read: 8 before the text's error", |codes, selection| {
+        if selection.len() < 129 {
+            return Err(Refusal::new(8, 0));
+        }
+        right_read(codes, selection)
+    });
+    list.read("read: 8 before 3", |codes, selection| match codes {
+        Ok(_) if selection.len() < 129 => Err(Refusal::new(8, 0)),
+        codes => right_read(codes, selection),
+    });
+    list.read("read: 8 only where the codes have no room", |codes, selection| match codes {
+        Ok(codes) if codes.len() <= 64 && selection.len() > 2 * codes.len() => Ok(write(&codes, selection)),
+        codes => right_read(codes, selection),
+    });
+    list.read("read: 128 numbers are enough", |codes, selection| match codes {
+        Ok(codes) if codes.len() < 64 && selection.len() == 128 => Ok(write(&codes, selection)),
+        codes => right_read(codes, selection),
+    });
+    list.read("read: 65 codes", |codes, selection| match codes {
+        Ok(codes) if codes.len() == 65 && selection.len() >= 129 => Ok(write(&codes, selection)),
+        codes => right_read(codes, selection),
+    });
+    list.read("read: 63 codes at most", |codes, selection| match codes {
+        Ok(codes) if codes.len() == 64 => Err(Refusal::new(3, 0)),
+        codes => right_read(codes, selection),
+    });
+    list.read("read: 3 at the 65th code", |codes, selection| {
+        right_read(codes, selection).map_err(|refusal| match refusal.number {
+            3 => Refusal::new(3, 65),
+            _ => refusal,
+        })
+    });
+    list.read("read: written before a 3", |codes, selection| {
+        if codes.as_ref().is_ok_and(|codes| codes.len() > 64) {
+            write(codes.as_ref().unwrap(), selection);
+        }
+        right_read(codes, selection)
+    });
+    list.read("read: written before an 8", |codes, selection| {
+        if codes.as_ref().is_ok_and(|codes| codes.len() <= 64) && selection.len() < 129 {
+            write(codes.as_ref().unwrap(), selection);
+        }
+        right_read(codes, selection)
+    });
+    list.read("read: cleared by a text's error", |codes, selection| {
+        if codes.is_err() {
+            selection.iter_mut().take(1).for_each(|size| *size = 0);
+        }
+        right_read(codes, selection)
+    });
+    list.read("read: the rest cleared", |codes, selection| {
+        let read = right_read(codes, selection);
+        if let Ok(size) = read {
+            selection[1 + 2 * size as usize..].fill(0);
+        }
+        read
+    });
+    list.read("read: operands where 64 kinds would end", |codes, selection| {
+        let read = right_read(codes, selection);
+        if let Ok(size) = read {
+            let size = size as usize;
+            selection.copy_within(1 + size..1 + 2 * size, 65);
+        }
+        read
+    });
+    list.read("read: the codes checked, too", |codes, selection| {
+        if let Ok(codes) = &codes {
+            if codes.len() <= 64 {
+                selection::read(&typed::numbers(codes))?;
+            }
+        }
+        right_read(codes, selection)
+    });
+    list.typed_listing("typed listing: the section first", |codes, section, work, buffer| {
+        match section::read(section) {
+            Err(Refusal { number, place }) => Listing::Refused { number, place },
+            Ok(_) => right_typed_listing(codes, section, work, buffer),
+        }
+    });
+    list.typed_quick("typed quick: the section first", |codes, section, work| match section::read(section) {
+        Err(Refusal { number, place }) => Quick::Refused { number, place },
+        Ok(_) => right_typed_quick(codes, section, work),
+    });
+    list.typed_quick("typed quick: 3 before 1", |codes, section, work| match codes {
+        Ok(codes) if codes.len() > 64 => Quick::Refused { number: 3, place: 0 },
+        codes => right_typed_quick(codes, section, work),
+    });
+    list.typed_listing("typed listing: 8 before the text's error", |codes, section, work, buffer| {
+        if work < WORK || buffer.len() < BUFFER {
+            return Listing::Refused { number: 8, place: 0 };
+        }
+        right_typed_listing(codes, section, work, buffer)
+    });
+    list.typed_listing("typed listing: only 64 codes taken", |codes, section, work, buffer| {
+        let first = |mut codes: Vec<Pair>| {
+            codes.truncate(64);
+            codes
+        };
+        right_typed_listing(codes.map(first), section, work, buffer)
+    });
+    list.typed_listing("typed listing: the buffer cleared by a text's error", |codes, section, work, buffer| {
+        if codes.is_err() {
+            buffer.fill(0);
+        }
+        right_typed_listing(codes, section, work, buffer)
+    });
+    list.typed_quick("typed quick: answers by the listing", |codes, section, work| {
+        match right_typed_listing(codes.clone(), section, work, &mut [0; BUFFER]) {
+            Listing::Refused { number: 9, place } => Quick::Refused { number: 9, place },
+            _ => right_typed_quick(codes, section, work),
+        }
     });
 }

@@ -7,6 +7,10 @@ use second_engine::{Engine, Listing, Quick};
 #[cfg(not_built)]
 compile_error!("target/staticlib/libjullpinay.a is not there: build it by `rt staticlib jullpinay`");
 
+// Compiled only where the library has the typed calls: `cargo test --features typed`.
+#[cfg(feature = "typed")]
+pub mod typed;
+
 pub mod exported {
     // Nothing holds these declarations to crates/jullpinay/src/lib.rt: keep them alike. A slice is a pointer and a length.
     #[link(name = "jullpinay", kind = "static")]
@@ -88,40 +92,63 @@ pub fn snippet(section: &[u32], from: u32, to: u32) -> &[u32] {
     &section[from as usize..][..length]
 }
 
+/// What a listing returned, and the four numbers of its answer.
+fn listing_answer((returned, answer): (u32, [u32; 4])) -> Listing {
+    assert_eq!(returned, answer[0]);
+    match answer {
+        [0, matches, strings, yes] => {
+            assert!(yes <= 1);
+            Listing::Listed { matches, strings, yes: yes == 1 }
+        }
+        [number, place, rest @ ..] => {
+            assert_eq!(rest, [UNWRITTEN; 2], "a refusal leaves the rest of the answer unchanged");
+            Listing::Refused { number, place }
+        }
+    }
+}
+
+/// What a quick answer returned, and its three numbers.
+fn quick_answer((returned, answer): (u32, [u32; 3])) -> Quick {
+    assert_eq!(returned, answer[0]);
+    match answer {
+        [0, yes, codes] => {
+            assert!(yes <= 1);
+            Quick::Answered { yes: yes == 1, codes }
+        }
+        [number, place, rest] => {
+            assert_eq!(rest, UNWRITTEN, "a refusal leaves the rest of the answer unchanged");
+            Quick::Refused { number, place }
+        }
+    }
+}
+
 pub struct Proved;
 
 impl Engine for Proved {
     fn listing(&self, section: &[u32], selection: &[u32], work: &mut [u32], buffer: &mut [u32]) -> Listing {
-        let (returned, answer) = listing(section, selection, work, buffer);
-        assert_eq!(returned, answer[0]);
-        match answer {
-            [0, matches, strings, yes] => {
-                assert!(yes <= 1);
-                Listing::Listed { matches, strings, yes: yes == 1 }
-            }
-            [number, place, rest @ ..] => {
-                assert_eq!(rest, [UNWRITTEN; 2], "a refusal leaves the rest of the answer unchanged");
-                Listing::Refused { number, place }
-            }
-        }
+        listing_answer(listing(section, selection, work, buffer))
     }
 
     fn quick(&self, section: &[u32], selection: &[u32], work: &mut [u32]) -> Quick {
-        let (returned, answer) = quick(section, selection, work);
-        assert_eq!(returned, answer[0]);
-        match answer {
-            [0, yes, codes] => {
-                assert!(yes <= 1);
-                Quick::Answered { yes: yes == 1, codes }
-            }
-            [number, place, rest] => {
-                assert_eq!(rest, UNWRITTEN, "a refusal leaves the rest of the answer unchanged");
-                Quick::Refused { number, place }
-            }
-        }
+        quick_answer(quick(section, selection, work))
     }
 
     fn snippet<'a>(&self, section: &'a [u32], from: u32, to: u32) -> &'a [u32] {
         snippet(section, from, to)
+    }
+
+    #[cfg(feature = "typed")]
+    fn read(&self, text: &[u8], selection: &mut [u32]) -> Result<u32, second_engine::Refusal> {
+        typed::read_answer(typed::read(text, selection))
+    }
+
+    #[cfg(feature = "typed")]
+    fn typed_listing(&self, section: &[u32], text: &[u8], work: &mut [u32], buffer: &mut [u32]) -> Listing {
+        listing_answer(typed::listing(section, text, work, buffer))
+    }
+
+    #[cfg(feature = "typed")]
+    fn typed_quick(&self, section: &[u32], text: &[u8], work: &mut [u32]) -> Quick {
+        quick_answer(typed::quick(section, text, work))
     }
 }
