@@ -1,0 +1,3 @@
+-- What the scanner's contracts say.
+pub mod Words
+pub mod Scanned
