@@ -44,6 +44,12 @@ pub record Further (size at count at' count' : ℕ) : Type 0 where
   pub end-within : at' ≤ size
   pub few : count' + at ≤ count + at'
 
+-- .. or no further
+pub record NoLess (size at count at' count' : ℕ) : Type 0 where
+  pub on : at ≤ at'
+  pub end-within : at' ≤ size
+  pub few : count' + at ≤ count + at'
+
 pub record ReadsTo (o : Outcome) (text : List ℕ) (entry exit : List ℕ) (count at' count' : ℕ) : Type 0 where
   pub codes : List Code
   pub is : o ≡ read codes (streamAt text at')

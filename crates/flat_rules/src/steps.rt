@@ -20,6 +20,7 @@ pub fn read(at: u32, count: u32) -> u64
 // An error at a token's first byte.
 pub fn error_at(number: u32, token: u64) -> u64
     requires { ⌜ (1 ≤ number) × (number ≤ 1024) ⌝ }
+    requires { ⌜ startOf token ≤ maxText ⌝ }
     ensures { λ r. ⌜ stepOf r ≡ stopped number (startOf token + 1) ⌝ }
 {
     let place = scanner::start_of(token) as u64 + 1;
