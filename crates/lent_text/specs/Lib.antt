@@ -1,0 +1,2 @@
+-- What the copy of a text is.
+pub mod Copied
