@@ -3,4 +3,5 @@ pub mod StreamLaws
 pub mod SymbolsLaws
 pub mod JoiningLaws
 pub mod CompletingLaws
+pub mod GoingLaws
 pub mod ExamplesLaws

@@ -97,14 +97,15 @@ both true true h = (refl, refl)
 both true false h = let z : _≡_ {A = ℕ} 0 1 = cc in absurd (omega arith)
 both false b h = let z : _≡_ {A = ℕ} 0 1 = cc in absurd (omega arith)
 
+pub keyword-range : (n : ℕ) → isKeyword n ≡ true → (1 ≤ n) × (n ≤ 23)
+keyword-range n k = let b = both (leb 1 n) (leb n 23) k in (leb-true _ _ (b .0), leb-true _ _ (b .1))
+
 pub symbol-keyword : (n : ℕ) → isKeyword n ≡ true → (t : Token) → symbolOf t ≡ n → Keyword (spelling n) t
 symbol-keyword n k t =
-    let b = both (leb 1 n) (leb n 23) k in
-    let low : 1 ≤ n = leb-true _ _ (b .0) in
-    let high : n ≤ 23 = leb-true _ _ (b .1) in
+    let r = keyword-range n k in
     symbol-cases (λ s. s ≡ n → Keyword (spelling n) t) t
-    (λ h e. record { letters = h; spelled = number-spells 1 keywords (t .bytes) (n - 1) (omega arith) (omega arith) })
-    (λ h e. absurd (omega arith))
+    (λ h e. record { letters = h; spelled = number-spells 1 keywords (t .bytes) (n - 1) (omega (arith, r .0, r .1)) (omega (arith, r .0)) })
+    (λ h e. absurd (omega (arith, r .1)))
 
 -- a sign or a number
 pub symbol-sort : (t : Token) (b : ℕ) → symbolOf t ≡ 100 + b → t .sort ≡ b
