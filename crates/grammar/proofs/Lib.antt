@@ -4,4 +4,5 @@ pub mod SymbolsLaws
 pub mod JoiningLaws
 pub mod CompletingLaws
 pub mod GoingLaws
+pub mod RulesLaws
 pub mod ExamplesLaws
