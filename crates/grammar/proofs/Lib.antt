@@ -5,4 +5,6 @@ pub mod JoiningLaws
 pub mod CompletingLaws
 pub mod GoingLaws
 pub mod RulesLaws
+pub mod TextsLaws
+pub mod PartingLaws
 pub mod ExamplesLaws
