@@ -7,4 +7,6 @@ pub mod GoingLaws
 pub mod RulesLaws
 pub mod TextsLaws
 pub mod PartingLaws
+pub mod WholeLaws
+pub mod AnswerLaws
 pub mod ExamplesLaws
