@@ -1,5 +1,5 @@
 -- Every text has exactly one answer by the productions, and the grammar as functions computes it.
-use Prim.Native.Nat.{ℕ, suc, _≤_, _<_}
+use Prim.Native.Nat.{ℕ}
 use native.Mathlib.Omega.{arith}
 use mathlib.Core.Path.{_≡_, refl, sym, ap, _∙_}
 use mathlib.Core.Bool.{Bool, true, false, cond}
@@ -13,11 +13,10 @@ use Rattle.model.specs.Checks.{refusal}
 use Rattle.model.specs.Limits.{maxText}
 use Rattle.model.specs.Productions.{FTSelection}
 use Rattle.model.specs.TextAnswer.{TextAnswer, codes, error, Begins, Alike, StartAlike, both-end, both-go-on, firstPlace, Point, NotAllowed, TooLarge, TokensAnswer, selects, not-allowed, too-large, AnswerOf, too-long, by-tokens}
-use Rattle.model.specs.Tokens.{Token, Tokens}
-use Rattle.grammar.specs.Stream.{ends}
+use Rattle.model.specs.Tokens.{Token}
 use Rattle.grammar.specs.Grammar.{answerIn, outcomeOf, readText}
 use Rattle.grammar.proofs.GoingLaws.{aNumber, a-number}
-use Rattle.grammar.proofs.JoiningLaws.{tokensOf, _⊕_}
+use Rattle.grammar.proofs.JoiningLaws.{tokensOf}
 use Rattle.grammar.proofs.PartingLaws.{tokens-exactly}
 use Rattle.grammar.proofs.WholeLaws.{whole-complete, outcome-answer}
 

@@ -1,6 +1,6 @@
 -- How a rule goes: by the tokens that it reads and the one at which it stops, so from any rest that begins with the same symbol it does the same.
 -- What it has read is derived; where it fails, what stands before that begins something derived.
-use Prim.Native.Nat.{ℕ, suc, _+_, _≤_, _<_}
+use Prim.Native.Nat.{ℕ, _+_, _≤_, _<_}
 use Prim.Native.String.{String}
 use native.Mathlib.Omega.{arith}
 use mathlib.Core.Path.{_≡_, refl, sym, ap, _∙_}
@@ -20,9 +20,21 @@ use Rattle.grammar.specs.Grammar.{Outcome, failed, read, Rule, behind, _
 use Rattle.grammar.proofs.JoiningLaws.{_⊕_, join-append}
 use Rattle.grammar.proofs.SymbolsLaws.{spelling, isKeyword, keyword-range, symbol-keyword, symbol-sort, number-symbol}
 
--- what some tokens are, and with which codes
-abbrev pub Kind : Type 1
-Kind = List Token → List Code → Type 0
+-- which tokens are derived, and with which codes
+abbrev pub Production : Type 1
+Production = List Token → List Code → Type 0
+
+-- what P derives, Q does
+abbrev pub Within : Production → Production → Type 0
+Within P Q = (ts : List Token) (cs : List Code) → P ts cs → Q ts cs
+
+-- a T, and after it what A derives, make what R derives
+abbrev pub Joins : (Token → Type 0) → Production → Production → Type 0
+Joins T A R = (t : Token) (vs : List Token) (ds : List Code) → T t → A vs ds → R (t ∷ vs) ds
+
+-- so do a number, and after it what A derives with that number
+abbrev pub NumberJoins : ℕ → (ℕ → Production) → Production → Type 0
+NumberJoins most A R = (t : Token) (vs : List Token) (ds : List Code) → Number most t → A (valueOf t) vs ds → R (t ∷ vs) ds
 
 -- ---- rests that begin with the same symbol
 
@@ -36,26 +48,26 @@ near-join (t ∷ ts) n = record { symbol = refl }
 
 -- ---- what is derived, and what begins it
 
-pub record Viable (P : Kind) (pre : List Token) : Type 0 where
+pub record Viable (P : Production) (pre : List Token) : Type 0 where
   pub more : List Token
   pub codes : List Code
   pub holds : P (pre ++ more) codes
 
 -- why a rule fails: the token is none that can stand there; or a number can, and this one is over its limit
-pub data Why (P : Kind) (pre : List Token) (rest : Stream) : ℕ → Type 0 where
+pub data Why (P : Production) (pre : List Token) (rest : Stream) : ℕ → Type 0 where
   ten : Viable P pre → Why P pre rest 10
   eleven : (most : ℕ) → (most ≡ maxWord) ⊎ (most ≡ maxNumber) → symbolIn rest ≡ s-number → most < valueIn rest
       → ((n : Token) → Number most n → Viable P (pre ++ (n ∷ []))) → Why P pre rest 11
 
 -- `r i` is the rule with i more fuel
-pub data Went (P : Kind) (r : ℕ → Rule) (ts : Stream) : Outcome → Type 0 where
+pub data Went (P : Production) (r : ℕ → Rule) (ts : Stream) : Outcome → Type 0 where
   reads : {cs : List Code} {rest : Stream} (pre : List Token) → ts ≡ pre ⊕ rest → P pre cs
       → ((i : ℕ) (later : Stream) → Near rest later → r i (pre ⊕ later) ≡ read cs later) → Went P r ts (read cs rest)
   fails : {n place : ℕ} (pre : List Token) (rest : Stream) → ts ≡ pre ⊕ rest → place ≡ placeIn rest → Why P pre rest n
       → ((i : ℕ) (later : Stream) → Near rest later → (n ≡ 11 → bytesIn later ≡ bytesIn rest) → r i (pre ⊕ later) ≡ failed n (placeIn later))
       → Went P r ts (failed n place)
 
-module _ {Q R : Kind} where
+module _ {Q R : Production} where
   left-viable : (left : List Token) → ((ts : List Token) (cs : List Code) → Q ts cs → (ds : List Code) × R (left ++ ts) ds) → (pre : List Token)
       → Viable Q pre → Viable R (left ++ pre)
   left-viable left f pre v =
@@ -76,14 +88,14 @@ module _ {Q R : Kind} where
   why-right right f {pre} (ten v) = ten (right-viable right f pre v)
   why-right right f {pre} (eleven most l d o v) = eleven most l d o (λ n h. right-viable right f (pre ++ (n ∷ [])) (v n h))
 
-  map-viable : ((ts : List Token) (cs : List Code) → Q ts cs → R ts cs) → (pre : List Token) → Viable Q pre → Viable R pre
+  map-viable : Within Q R → (pre : List Token) → Viable Q pre → Viable R pre
   map-viable f pre v = record { more = v .more; codes = v .codes; holds = f _ _ (v .holds) }
 
-  why-map : ((ts : List Token) (cs : List Code) → Q ts cs → R ts cs) → {pre : List Token} {rest : Stream} {n : ℕ} → Why Q pre rest n → Why R pre rest n
+  why-map : Within Q R → {pre : List Token} {rest : Stream} {n : ℕ} → Why Q pre rest n → Why R pre rest n
   why-map f {pre} (ten v) = ten (map-viable f pre v)
   why-map f {pre} (eleven most l d o v) = eleven most l d o (λ n h. map-viable f (pre ++ (n ∷ [])) (v n h))
 
-  pub went-map : {r : ℕ → Rule} {ts : Stream} {o : Outcome} → ((ts : List Token) (cs : List Code) → Q ts cs → R ts cs) → Went Q r ts o → Went R r ts o
+  pub went-map : {r : ℕ → Rule} {ts : Stream} {o : Outcome} → Within Q R → Went Q r ts o → Went R r ts o
   went-map f (reads pre e d a) = reads pre e (f _ _ d) a
   went-map f (fails pre rest e p y a) = fails pre rest e p (why-map f y) a
 
@@ -97,10 +109,10 @@ module _ {Q R : Kind} where
 
 -- ---- one rule and then another
 
-pub data Seq (P Q : Kind) : List Token → List Code → Type 0 where
+pub data Seq (P Q : Production) : List Token → List Code → Type 0 where
   seq : {ts us : List Token} {cs ds : List Code} → P ts cs → Q us ds → Seq P Q (ts ++ us) (cs ++ ds)
 
-module _ {P Q : Kind} (r s : ℕ → Rule) (s₀ : Rule) (some : Viable Q []) (ts : Stream) where
+module _ {P Q : Production} (r s : ℕ → Rule) (s₀ : Rule) (some : Viable Q []) (ts : Stream) where
   second : {cs : List Code} {rest : Stream} (pre : List Token) → ts ≡ pre ⊕ rest → P pre cs
       → ((i : ℕ) (later : Stream) → Near rest later → r i (pre ⊕ later) ≡ read cs later)
       → {o : Outcome} → Went Q s rest o → Went (Seq P Q) (λ i us. r i us then s i) ts (behind cs o)
@@ -126,7 +138,7 @@ kept : (test : ℕ → Bool) (ts : Stream) (x : Bool) → test (symbolIn ts) ≡
     → Near rest later → test (symbolIn (pre ⊕ later)) ≡ x
 kept test ts x h pre rest later e n = ap test (near-join pre n .symbol ∙ sym (ap symbolIn e)) ∙ h
 
-module _ {R : Kind} (test : ℕ → Bool) (a : ℕ → Rule) (a₀ : Rule) (b : ℕ → Rule) (b₀ : Rule) (ts : Stream) where
+module _ {R : Production} (test : ℕ → Bool) (a : ℕ → Rule) (a₀ : Rule) (b : ℕ → Rule) (b₀ : Rule) (ts : Stream) where
   if-true : {o : Outcome} → test (symbolIn ts) ≡ true → Went R a ts o → Went R (λ i us. cond (test (symbolIn us)) (a i us) (b i us)) ts o
   if-true h (reads pre e d g) = reads pre e d (λ i later n. rw (kept test ts true h pre _ later e n) (g i later n))
   if-true h (fails pre rest e p y g) = fails pre rest e p y (λ i later n x. rw (kept test ts true h pre rest later e n) (g i later n x))
@@ -154,7 +166,7 @@ pub went-read : (c : List Code) (ts : Stream) → Went (Wrote c) (λ i us. read 
 unfolding _⊕_
 went-read c ts = reads [] refl wrote (λ i later n. refl)
 
-pub went-refused : {R : Kind} → Viable R [] → (ts : Stream) → Went R (λ i us. refused us) ts (refused ts)
+pub went-refused : {R : Production} → Viable R [] → (ts : Stream) → Went R (λ i us. refused us) ts (refused ts)
 unfolding _⊕_
 went-refused v ts = fails [] ts refl refl (ten v) (λ i later n b. refl)
 
@@ -171,8 +183,8 @@ pub sign-taken : (b : ℕ) → Taken (λ s. eqb s (100 + b)) (Sign b)
 sign-taken b = record { at-end = ne-eqb noMore (100 + b) (λ e. omega arith); is = λ t h. record { is = symbol-sort t b (eqb-true _ _ h) } }
 
 -- it takes the token and goes on after it, or does another thing
-module _ {R A : Kind} {T : Token → Type 0} (test : ℕ → Bool) (k : Taken test T) (a : ℕ → Rule) (a₀ : Rule) (b : ℕ → Rule) (b₀ : Rule)
-    (f : (t : Token) (vs : List Token) (ds : List Code) → T t → A vs ds → R (t ∷ vs) ds) where
+module _ {R A : Production} {T : Token → Type 0} (test : ℕ → Bool) (k : Taken test T) (a : ℕ → Rule) (a₀ : Rule) (b : ℕ → Rule) (b₀ : Rule)
+    (f : Joins T A R) where
   pub went-case : (ts : Stream) → ((t : Token) (us : Stream) → ts ≡ token t us → T t → Went A a us (a₀ us))
       → (test (symbolIn ts) ≡ false → Went R b ts (b₀ ts))
       → Went R (λ i us. cond (test (symbolIn us)) (a i (restOf us)) (b i us)) ts (cond (test (symbolIn ts)) (a₀ (restOf ts)) (b₀ ts))
@@ -189,7 +201,7 @@ pub data One (T : Token → Type 0) : List Token → List Code → Type 0 where
 pub one-some : {T : Token → Type 0} (t : Token) → T t → Viable (One T) []
 one-some t h = record { more = t ∷ []; codes = []; holds = one h }
 
-one-wrote : {T : Token → Type 0} (t : Token) (vs : List Token) (ds : List Code) → T t → Wrote [] vs ds → One T (t ∷ vs) ds
+one-wrote : {T : Token → Type 0} → Joins T (Wrote []) (One T)
 one-wrote t vs ds h wrote = one h
 
 went-one : {T : Token → Type 0} (x : Token) (s : ℕ) → Taken (λ r. eqb r s) T → T x → (ts : Stream) → Went (One T) (λ i. expect s) ts (expect s ts)
@@ -230,9 +242,8 @@ pub sign-some : (b : ℕ) → Viable (One (Sign b)) []
 sign-some b = one-some (aSign b) (a-sign b)
 
 -- a number, and what follows it
-module _ {R : Kind} (A : ℕ → Kind) (most : ℕ) (limit : (most ≡ maxWord) ⊎ (most ≡ maxNumber)) (a : ℕ → ℕ → Rule) (a₀ : ℕ → Rule)
-    (f : (t : Token) (vs : List Token) (ds : List Code) → Number most t → A (valueOf t) vs ds → R (t ∷ vs) ds)
-    (some : (v : ℕ) → v ≤ most → Viable (A v) []) where
+module _ {R : Production} (A : ℕ → Production) (most : ℕ) (limit : (most ≡ maxWord) ⊎ (most ≡ maxNumber)) (a : ℕ → ℕ → Rule) (a₀ : ℕ → Rule)
+    (f : NumberJoins most A R) (some : (v : ℕ) → v ≤ most → Viable (A v) []) where
   some-number : (n : Token) → Number most n → Viable R (n ∷ [])
   some-number n h = let v = some (valueOf n) (h .within) in record { more = v .more; codes = v .codes; holds = f n _ _ h (v .holds) }
 
@@ -262,6 +273,8 @@ module _ {R : Kind} (A : ℕ → Kind) (most : ℕ) (limit : (most ≡ maxWord) 
         → Went R (λ i. number most (a i)) (token t us) (cond c (cond d (a₀ (valueOf t) us) (failed 11 (t .place))) (failed 10 (t .place)))
     at false h d k = no-number (token t us) h
     at true h true k =
-        let n : Number most t = record { digits = symbol-sort t digit (eqb-true _ _ h); within = leb-true _ _ k } in number-skip t us n (x t us refl n)
+        let n : Number most t = record { digits = symbol-sort t digit (eqb-true _ _ h); within = leb-true _ _ k } in
+        number-skip t us n (x t us refl n)
     at true h false k =
-        fails [] (token t us) refl refl (eleven most limit (eqb-true _ _ h) (leb-false _ _ k) some-number) (λ i later n b. rw (n .symbol, h, b refl, k))
+        fails [] (token t us) refl refl (eleven most limit (eqb-true _ _ h) (leb-false _ _ k) some-number)
+        (λ i later n b. rw (n .symbol, h, b refl, k))

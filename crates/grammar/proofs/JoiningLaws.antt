@@ -1,13 +1,13 @@
 -- Tokens before the rest of a stream, and outcomes after codes.
 use Prim.Native.Nat.{ℕ, zero, suc, _+_}
 use native.Mathlib.Omega.{arith}
-use mathlib.Core.Path.{_≡_, refl, sym, ap, _∙_}
+use mathlib.Core.Path.{_≡_, refl, sym, ap}
 use mathlib.Core.List.{List, [], _∷_, _++_, append-assoc}
 use lib.ListN.{length}
 use Rattle.model.specs.declared.Code.{Code}
 use Rattle.model.specs.Tokens.{Token}
 use Rattle.grammar.specs.Stream.{Stream, ends, token, streamAt}
-use Rattle.grammar.specs.Grammar.{Outcome, failed, read, Rule, behind, _then_}
+use Rattle.grammar.specs.Grammar.{Outcome, failed, read, behind}
 
 unfoldable pub listOf : Stream → List Token
 listOf (ends p) = []

@@ -11,7 +11,7 @@ use lib.ListN.{length, take, drop, take-append-drop, length-drop}
 use lib.Seq.{take-at, drop-at}
 use Rattle.model.specs.Lists.{Every}
 use Rattle.model.specs.Tokens.{Token, blank, digit, letter, Letter, Digit, Stops, stops-end, stops-other, Tokens, no-more, a-blank, a-word, a-number, a-sign}
-use Rattle.grammar.specs.Stream.{Stream, ends, token, sortOf, makesRuns, alone, piecesFrom, withoutBlanks, runLength, streamAt}
+use Rattle.grammar.specs.Stream.{Stream, token, sortOf, makesRuns, alone, piecesFrom, withoutBlanks, runLength, streamAt}
 use Rattle.grammar.proofs.JoiningLaws.{listOf, tokensOf}
 use Rattle.grammar.proofs.StreamLaws.{sort-letter, sort-digit, sort-low, sort-middle, sort-high, no-runs, runs-letter, runs-digit, before-alone, pieces-run, blanks-keep}
 

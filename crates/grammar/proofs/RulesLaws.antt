@@ -1,7 +1,7 @@
 -- How each rule of the grammar goes: its production derives what it reads, and it fails at the first token that can't go on.
 use Prim.Native.Nat.{ℕ, zero, suc, _+_, _≤_, _<_}
 use native.Mathlib.Omega.{arith}
-use mathlib.Core.Path.{_≡_, refl, sym, ap, _∙_}
+use mathlib.Core.Path.{_≡_, refl, ap, _∙_}
 use mathlib.Core.Bool.{Bool, true, false, _&&_, not, cond}
 use mathlib.Core.List.{List, [], _∷_, _++_, append-assoc, append-nil}
 use mathlib.Core.Logic.{inl, inr}
@@ -18,9 +18,9 @@ use Rattle.model.specs.Productions.{Sign, Keyword, Number, Words, no-word, word
 use Rattle.model.specs.Tokens.{Token, quote, opening, closing, valueOf}
 use Rattle.grammar.specs.Stream.{Stream, ends, token, restOf}
 use Rattle.grammar.specs.Symbols.{k-ftor, k-ftand, k-ftnot, k-not, k-in, k-ordered, k-window, k-distance, k-same, k-different, k-at, k-entire, k-start, k-end, k-sentence, k-paragraph, k-content, k-exactly, k-from, k-to, k-least, k-most, k-words, noMore, s-quote, s-opening, s-closing, symbolOf, symbolIn}
-use Rattle.grammar.specs.Grammar.{Outcome, read, Rule, _then_, refused, writes, expect, number, words, coded, measured, distanceFrom, distanceAt, distance, either, startsFilter, filter, filters, row, notIn, ftPrimary, ftUnaryNot, ftMildNot, ftAnd, ftOr, ftSelection}
+use Rattle.grammar.specs.Grammar.{read, Rule, _then_, refused, writes, expect, number, words, coded, measured, distanceFrom, distanceAt, distance, either, startsFilter, filter, filters, row, notIn, ftPrimary, ftUnaryNot, ftMildNot, ftAnd, ftOr, ftSelection}
 use Rattle.grammar.proofs.CompletingLaws.{no-filter, filter-length, row-stops, filters-stop}
-use Rattle.grammar.proofs.GoingLaws.{Kind, Near, Viable, Went, reads, went-map, Seq, seq, went-then, went-if, Wrote, wrote, wrote-some, went-read, went-refused, Taken, keyword-taken, sign-taken, went-case, One, one, aWord, a-word, aSign, a-sign, aNumber, a-number, went-word, word-some, went-sign, sign-some, went-number}
+use Rattle.grammar.proofs.GoingLaws.{Production, Within, Joins, NumberJoins, Near, Viable, Went, reads, went-map, Seq, seq, went-then, went-if, Wrote, wrote, wrote-some, went-read, went-refused, Taken, keyword-taken, sign-taken, went-case, One, one, aWord, a-word, aSign, a-sign, aNumber, a-number, went-word, word-some, went-sign, sign-some, went-number}
 use Rattle.grammar.proofs.JoiningLaws.{_⊕_, size, plus, size-join}
 use Rattle.grammar.proofs.SymbolsLaws.{spelling, isKeyword, symbol-sort}
 
@@ -29,7 +29,7 @@ use Rattle.grammar.proofs.SymbolsLaws.{spelling, isKeyword, symbol-sort
 data Coded (T : Token → Type 0) (c : Code) : List Token → List Code → Type 0 where
   coded-by : {t : Token} → T t → Coded T c (t ∷ []) (c ∷ [])
 
-coded-join : {T : Token → Type 0} (c : Code) (vs : List Token) (ds : List Code) → Seq (One T) (Wrote (c ∷ [])) vs ds → Coded T c vs ds
+coded-join : {T : Token → Type 0} (c : Code) → Within (Seq (One T) (Wrote (c ∷ []))) (Coded T c)
 coded-join c vs ds (seq (one h) wrote) = coded-by h
 
 went-coded : (n : ℕ) → isKeyword n ≡ true → (c : Code) (ts : Stream) → Went (Coded (Keyword (spelling n)) c) (λ i. coded n c) ts (coded n c ts)
@@ -43,8 +43,7 @@ data Measured (f : ℕ → Code) : List Token → List Code → Type 0 where
 measured-some : (f : ℕ → Code) → Viable (Measured f) []
 measured-some f = record { more = aNumber ∷ aWord "words" ∷ []; codes = _; holds = measured-by (a-number maxNumber) (a-word "words") }
 
-measured-join : (f : ℕ → Code) (t : Token) (vs : List Token) (ds : List Code) → Number maxNumber t → Coded (Keyword "words") (f (valueOf t)) vs ds
-    → Measured f (t ∷ vs) ds
+measured-join : (f : ℕ → Code) → NumberJoins maxNumber (λ v. Coded (Keyword "words") (f v)) (Measured f)
 measured-join f t vs ds n (coded-by w) = measured-by n w
 
 went-measured : (f : ℕ → Code) (ts : Stream) → Went (Measured f) (λ i. measured f) ts (measured f ts)
@@ -59,8 +58,7 @@ data FromTo : List Token → List Code → Type 0 where
   from-to : {m c n z : Token} → Number maxNumber m → Keyword "to" c → Number maxNumber n → Keyword "words" z
       → FromTo (m ∷ c ∷ n ∷ z ∷ []) (Filtered (Distance (valueOf m) (valueOf n)) ∷ [])
 
-from-join : (t : Token) (vs : List Token) (ds : List Code) → Number maxNumber t
-    → Seq (One (Keyword "to")) (Measured (λ b. Filtered (Distance (valueOf t) b))) vs ds → FromTo (t ∷ vs) ds
+from-join : NumberJoins maxNumber (λ v. Seq (One (Keyword "to")) (Measured (λ b. Filtered (Distance v b)))) FromTo
 from-join t vs ds n (seq (one w) (measured-by k z)) = from-to n w k z
 
 went-from : (ts : Stream) → Went FromTo (λ i. distanceFrom) ts (distanceFrom ts)
@@ -89,10 +87,10 @@ data AtLevel : List Token → List Code → Type 0 where
   at-least : {c n z : Token} → Keyword "least" c → Number maxNumber n → Keyword "words" z → AtLevel (c ∷ n ∷ z ∷ []) (leastCode (valueOf n) ∷ [])
   at-most : {c n z : Token} → Keyword "most" c → Number maxNumber n → Keyword "words" z → AtLevel (c ∷ n ∷ z ∷ []) (mostCode (valueOf n) ∷ [])
 
-least-join : (t : Token) (vs : List Token) (ds : List Code) → Keyword "least" t → Measured leastCode vs ds → AtLevel (t ∷ vs) ds
+least-join : Joins (Keyword "least") (Measured leastCode) AtLevel
 least-join t vs ds w (measured-by n z) = at-least w n z
 
-most-join : (vs : List Token) (ds : List Code) → Seq (One (Keyword "most")) (Measured mostCode) vs ds → AtLevel vs ds
+most-join : Within (Seq (One (Keyword "most")) (Measured mostCode)) AtLevel
 most-join vs ds (seq (one w) (measured-by n z)) = at-most w n z
 
 went-at : (ts : Stream) → Went AtLevel (λ i. distanceAt) ts (distanceAt ts)
@@ -112,10 +110,10 @@ data Distances : List Token → List Code → Type 0 where
   ranging : {t : Token} {vs : List Token} {ds : List Code} → Keyword "from" t → FromTo vs ds → Distances (t ∷ vs) ds
   levelled : {t : Token} {vs : List Token} {ds : List Code} → Keyword "at" t → AtLevel vs ds → Distances (t ∷ vs) ds
 
-exactly-join : (t : Token) (vs : List Token) (ds : List Code) → Keyword "exactly" t → Measured exactCode vs ds → Distances (t ∷ vs) ds
+exactly-join : Joins (Keyword "exactly") (Measured exactCode) Distances
 exactly-join t vs ds w (measured-by n z) = exactly w n z
 
-levelled-join : (vs : List Token) (ds : List Code) → Seq (One (Keyword "at")) AtLevel vs ds → Distances vs ds
+levelled-join : Within (Seq (One (Keyword "at")) AtLevel) Distances
 levelled-join vs ds (seq (one w) d) = levelled w d
 
 went-distance : (ts : Stream) → Went Distances (λ i. distance) ts (distance ts)
@@ -135,10 +133,10 @@ data Either (T U : Token → Type 0) (c d : Code) : List Token → List Code →
   other : {t : Token} → U t → Either T U c d (t ∷ []) (d ∷ [])
 
 module _ {T U : Token → Type 0} (c d : Code) where
-  first-join : (t : Token) (vs : List Token) (ds : List Code) → T t → Wrote (c ∷ []) vs ds → Either T U c d (t ∷ vs) ds
+  first-join : Joins T (Wrote (c ∷ [])) (Either T U c d)
   first-join t vs ds h wrote = first h
 
-  other-join : (vs : List Token) (ds : List Code) → Coded U d vs ds → Either T U c d vs ds
+  other-join : Within (Coded U d) (Either T U c d)
   other-join vs ds (coded-by h) = other h
 
 went-either : (n : ℕ) → isKeyword n ≡ true → (c : Code) (m : ℕ) → isKeyword m ≡ true → (d : Code) (ts : Stream)
@@ -152,40 +150,37 @@ went-either n k c m l d ts =
 data FilterCodes : List Token → List Code → Type 0 where
   filter-codes : {us : List Token} {f : Filter} → FTPosFilter us f → FilterCodes us (Filtered f ∷ [])
 
-ordered-join : (t : Token) (vs : List Token) (ds : List Code) → Keyword "ordered" t → Wrote (Filtered Ordered ∷ []) vs ds → FilterCodes (t ∷ vs) ds
+ordered-join : Joins (Keyword "ordered") (Wrote (Filtered Ordered ∷ [])) FilterCodes
 ordered-join t vs ds a wrote = filter-codes (ordered a)
 
 abbrev windowCode : ℕ → Code
 windowCode n = Filtered (Window n)
 
-window-join : (t : Token) (vs : List Token) (ds : List Code) → Keyword "window" t → Measured windowCode vs ds → FilterCodes (t ∷ vs) ds
+window-join : Joins (Keyword "window") (Measured windowCode) FilterCodes
 window-join t vs ds a (measured-by n z) = filter-codes (window a n z)
 
-distance-join : (t : Token) (vs : List Token) (ds : List Code) → Keyword "distance" t → Distances vs ds → FilterCodes (t ∷ vs) ds
+distance-join : Joins (Keyword "distance") Distances FilterCodes
 distance-join t vs ds a (exactly b n z) = filter-codes (distance-exactly a b n z)
 distance-join t vs ds a (ranging b (from-to m c n z)) = filter-codes (distance-from a b m c n z)
 distance-join t vs ds a (levelled b (at-least c n z)) = filter-codes (distance-least a b c n z)
 distance-join t vs ds a (levelled b (at-most c n z)) = filter-codes (distance-most a b c n z)
 
-abbrev UnitFilter : Filter → Filter → Kind
+abbrev UnitFilter : Filter → Filter → Production
 UnitFilter f g = Either (Keyword "sentence") (Keyword "paragraph") (Filtered f) (Filtered g)
 
-same-join : (t : Token) (vs : List Token) (ds : List Code) → Keyword "same" t → UnitFilter SameSentence SameParagraph vs ds → FilterCodes (t ∷ vs) ds
+same-join : Joins (Keyword "same") (UnitFilter SameSentence SameParagraph) FilterCodes
 same-join t vs ds a (first b) = filter-codes (same-sentence a b)
 same-join t vs ds a (other b) = filter-codes (same-paragraph a b)
 
-different-join : (t : Token) (vs : List Token) (ds : List Code) → Keyword "different" t → UnitFilter DifferentSentence DifferentParagraph vs ds
-    → FilterCodes (t ∷ vs) ds
+different-join : Joins (Keyword "different") (UnitFilter DifferentSentence DifferentParagraph) FilterCodes
 different-join t vs ds a (first b) = filter-codes (different-sentence a b)
 different-join t vs ds a (other b) = filter-codes (different-paragraph a b)
 
-at-join : (t : Token) (vs : List Token) (ds : List Code) → Keyword "at" t
-    → Either (Keyword "start") (Keyword "end") (Filtered AtStart) (Filtered AtEnd) vs ds → FilterCodes (t ∷ vs) ds
+at-join : Joins (Keyword "at") (Either (Keyword "start") (Keyword "end") (Filtered AtStart) (Filtered AtEnd)) FilterCodes
 at-join t vs ds a (first b) = filter-codes (at-start a b)
 at-join t vs ds a (other b) = filter-codes (at-end a b)
 
-entire-join : (vs : List Token) (ds : List Code) → Seq (One (Keyword "entire")) (Coded (Keyword "content") (Filtered EntireContent)) vs ds
-    → FilterCodes vs ds
+entire-join : Within (Seq (One (Keyword "entire")) (Coded (Keyword "content") (Filtered EntireContent))) FilterCodes
 entire-join vs ds (seq (one a) (coded-by b)) = filter-codes (entire-content a b)
 
 went-filter : (ts : Stream) → Went FilterCodes (λ i. filter) ts (filter ts)
@@ -243,11 +238,10 @@ quote-taken k = record { at-end = refl; is = λ t h. is-quote t (eqb (symbolOf t
   is-quote t true e true f h = let z : _≡_ {A = ℕ} 0 1 = cc in absurd (omega arith)
   is-quote t false e y f h = let z : _≡_ {A = ℕ} 0 1 = cc in absurd (omega arith)
 
-quote-join : (left k : ℕ) (t : Token) (vs : List Token) (ds : List Code) → Quote k t → Wrote (Phrase k ∷ []) vs ds → Tail left k (t ∷ vs) ds
+quote-join : (left k : ℕ) → Joins (Quote k) (Wrote (Phrase k ∷ [])) (Tail left k)
 quote-join left k t vs ds q wrote = tail {m = k} no-word (omega arith) (q .counted) (omega arith) (q .quoted)
 
-more-join : (left k : ℕ) (t : Token) (vs : List Token) (ds : List Code) → Number maxWord t
-    → Seq (Wrote (Word (valueOf t) ∷ [])) (Tail left (k + 1)) vs ds → Tail (suc left) k (t ∷ vs) ds
+more-join : (left k : ℕ) → NumberJoins maxWord (λ v. Seq (Wrote (Word v ∷ [])) (Tail left (k + 1))) (Tail (suc left) k)
 more-join left k t vs ds n (seq wrote (tail {m = m} d e l h q)) = tail {m = m} (word-more n d) (omega arith) l (omega arith) q
 
 more-some : (left k v : ℕ) → Viable (Seq (Wrote (Word v ∷ [])) (Tail left (k + 1))) []
@@ -272,34 +266,37 @@ went-words (suc left) k h ts =
 -- ---- rows
 
 -- what goes on something derived
-abbrev On : Kind → Kind
+abbrev On : Production → Production
 On D us ds = (ls : List Token) (bs : List Code) → D ls bs → D (ls ++ us) (bs ++ ds)
 
 rest-size : (ts : Stream) (pre : List Token) (rest : Stream) → ts ≡ pre ⊕ rest → size ts ≡ length pre + size rest
 rest-size ts pre rest e = ap size e ∙ size-join pre rest
 
-module _ (D : Kind) where
-  on-nil : (us : List Token) (ds : List Code) → Wrote [] us ds → On D us ds
+module _ (D : Production) where
+  on-nil : Within (Wrote []) (On D)
   on-nil us ds wrote cs bs d = rw (append-nil cs, append-nil bs) d
 
   on-some : Viable (On D) []
   on-some = record { more = []; codes = []; holds = on-nil [] [] wrote }
 
-  on-on : (X : Kind) → ((us : List Token) (ds : List Code) → X us ds → On D us ds) → (us : List Token) (ds : List Code) → Seq X (On D) us ds → On D us ds
+  on-on : (X : Production) → Within X (On D) → Within (Seq X (On D)) (On D)
   on-on X f us ds (seq {ts = ps} {us = qs} {cs = cs} {ds = es} x g) ls bs d =
       rw (← (append-assoc ls ps qs), ← (append-assoc bs cs es)) (g _ _ (f _ _ x _ _ d))
 
-  onto : (P : Kind) → ((us : List Token) (ds : List Code) → P us ds → D us ds) → (us : List Token) (ds : List Code) → Seq P (On D) us ds → D us ds
+  onto : (P : Production) → Within P D → Within (Seq P (On D)) D
   onto P f us ds (seq p g) = g _ _ (f _ _ p)
 
+-- at least one token
+abbrev Grows : Production → Type 0
+Grows P = (ts : List Token) (cs : List Code) → P ts cs → 1 ≤ length ts
+
 -- one operator with its operand, and its code
-abbrev Turn : Kind → Kind → Code → Kind
+abbrev Turn : Production → Production → Code → Production
 Turn Op O c = Seq (Seq Op O) (Wrote (c ∷ []))
 
-module _ (Op O D : Kind) (s : ℕ) (more : eqb noMore s ≡ false) (op : Rule) (c : Code) (operand : ℕ → Rule) (operand₀ : Rule) (n : ℕ)
+module _ (Op O D : Production) (s : ℕ) (more : eqb noMore s ≡ false) (op : Rule) (c : Code) (operand : ℕ → Rule) (operand₀ : Rule) (n : ℕ)
     (went-op : (ts : Stream) → Went Op (λ i. op) ts (op ts)) (went-operand : (ts : Stream) → size ts ≤ n → Went O operand ts (operand₀ ts))
-    (some : Viable O []) (grows : (us : List Token) (ds : List Code) → Turn Op O c us ds → 1 ≤ length us)
-    (turn : (us : List Token) (ds : List Code) → Turn Op O c us ds → On D us ds) where
+    (some : Viable O []) (grows : Grows (Turn Op O c)) (turn : Within (Turn Op O c) (On D)) where
   went-row : (k : ℕ) (ts : Stream) → size ts ≤ k → size ts ≤ n → Went (On D) (λ i. row (plus k i) s op c (operand i)) ts (row k s op c operand₀ ts)
   unfolding row size _⊕_ plus
   went-row zero (ends p) h m =
@@ -316,10 +313,10 @@ module _ (Op O D : Kind) (s : ℕ) (more : eqb noMore s ≡ false) (op : Rule) (
       (λ pre rest cs x d. went-row k rest (omega (arith, rest-size ts pre rest x, grows pre cs d)) (omega (arith, rest-size ts pre rest x)))))
       (λ e. went-map (on-nil D) (went-read [] ts))
 
-filter-on : (us : List Token) (ds : List Code) → FilterCodes us ds → On FTSelection us ds
+filter-on : Within FilterCodes (On FTSelection)
 filter-on us ds (filter-codes f) ls bs d = selection-filter d f
 
-filter-grows : (us : List Token) (ds : List Code) → FilterCodes us ds → 1 ≤ length us
+filter-grows : Grows FilterCodes
 filter-grows us ds (filter-codes f) = filter-length us f
 
 near-filter : (a b : Stream) → Near a b → startsFilter b ≡ startsFilter a
@@ -357,31 +354,31 @@ mild-some = let v = unary-some in record { more = v .more; codes = v .codes; hol
 and-some : Viable FTAnd []
 and-some = let v = mild-some in record { more = v .more; codes = v .codes; holds = and-mild (v .holds) }
 
-phrase-join : (t : Token) (vs : List Token) (ds : List Code) → Sign quote t → Tail maxWaiting 0 vs ds → FTPrimary (t ∷ vs) ds
+phrase-join : Joins (Sign quote) (Tail maxWaiting 0) FTPrimary
 phrase-join t vs ds q (tail {j = j} {m = m} d e l h r) = let f : m ≡ j = omega arith in rw f (phrase q d (omega arith) h r)
 
-nested-join : (t : Token) (vs : List Token) (ds : List Code) → Sign opening t → Seq FTSelection (One (Sign closing)) vs ds → FTPrimary (t ∷ vs) ds
+nested-join : Joins (Sign opening) (Seq FTSelection (One (Sign closing))) FTPrimary
 nested-join t vs ds o (seq {cs = cs} d (one c)) = rw (append-nil cs) (nested o d c)
 
-not-join : (t : Token) (vs : List Token) (ds : List Code) → Keyword "ftnot" t → Seq FTPrimary (Wrote (Not ∷ [])) vs ds → FTUnaryNot (t ∷ vs) ds
+not-join : Joins (Keyword "ftnot") (Seq FTPrimary (Wrote (Not ∷ []))) FTUnaryNot
 not-join t vs ds w (seq {ts = ts} d wrote) = rw (append-nil ts) (unary-not w d)
 
-or-turn : (us : List Token) (ds : List Code) → Turn (One (Keyword "ftor")) FTAnd (Combine Or) us ds → On FTOr us ds
+or-turn : Within (Turn (One (Keyword "ftor")) FTAnd (Combine Or)) (On FTOr)
 or-turn us ds (seq (seq {us = vs} (one w) e) wrote) ls bs d = rw (append-nil vs) (or-more d w e)
 
-and-turn : (us : List Token) (ds : List Code) → Turn (One (Keyword "ftand")) FTMildNot (Combine And) us ds → On FTAnd us ds
+and-turn : Within (Turn (One (Keyword "ftand")) FTMildNot (Combine And)) (On FTAnd)
 and-turn us ds (seq (seq {us = vs} (one w) e) wrote) ls bs d = rw (append-nil vs) (and-more d w e)
 
-abbrev NotIn : Kind
+abbrev NotIn : Production
 NotIn = Seq (One (Keyword "not")) (One (Keyword "in"))
 
-mild-turn : (us : List Token) (ds : List Code) → Turn NotIn FTUnaryNot (Combine MildNot) us ds → On FTMildNot us ds
+mild-turn : Within (Turn NotIn FTUnaryNot (Combine MildNot)) (On FTMildNot)
 mild-turn us ds (seq (seq {us = vs} (seq (one w) (one i)) e) wrote) ls bs d = rw (append-nil vs) (mild-more d w i e)
 
-one-grows : {O : Kind} {T : Token → Type 0} (c : Code) (us : List Token) (ds : List Code) → Turn (One T) O c us ds → 1 ≤ length us
+one-grows : {O : Production} {T : Token → Type 0} (c : Code) → Grows (Turn (One T) O c)
 one-grows c us ds (seq (seq (one w) e) wrote) = omega arith
 
-two-grows : {O : Kind} {T U : Token → Type 0} (c : Code) (us : List Token) (ds : List Code) → Turn (Seq (One T) (One U)) O c us ds → 1 ≤ length us
+two-grows : {O : Production} {T U : Token → Type 0} (c : Code) → Grows (Turn (Seq (One T) (One U)) O c)
 two-grows c us ds (seq (seq (seq (one w) (one i)) e) wrote) = omega arith
 
 went-not-in : (ts : Stream) → Went NotIn (λ i. notIn) ts (notIn ts)

@@ -11,9 +11,8 @@ use lib.ListN.{length}
 use Rattle.model.specs.Bytes.{bytes}
 use Rattle.model.specs.Productions.{Sign, Keyword, Number}
 use Rattle.model.specs.TextAnswer.{Alike}
-use Rattle.model.specs.Tokens.{Token, digit, letter}
-use Rattle.grammar.specs.Stream.{Stream, ends, token}
-use Rattle.grammar.specs.Symbols.{noMore, s-number, keywords, sameBytes, numberAmong, symbolOf, symbolIn}
+use Rattle.model.specs.Tokens.{Token, letter}
+use Rattle.grammar.specs.Symbols.{k-ftor, k-words, noMore, s-number, keywords, sameBytes, numberAmong, symbolOf}
 
 -- ---- bytes
 
@@ -44,7 +43,7 @@ abbrev pub spelling : ℕ → String
 spelling n = keywordAt keywords (n - 1)
 
 abbrev pub isKeyword : ℕ → Bool
-isKeyword n = leb 1 n && leb n 23
+isKeyword n = leb k-ftor n && leb n k-words
 
 number-least : (n : ℕ) (ks : List String) (w : List ℕ) → n ≤ numberAmong n ks w
 unfolding numberAmong
@@ -97,8 +96,8 @@ both true true h = (refl, refl)
 both true false h = let z : _≡_ {A = ℕ} 0 1 = cc in absurd (omega arith)
 both false b h = let z : _≡_ {A = ℕ} 0 1 = cc in absurd (omega arith)
 
-pub keyword-range : (n : ℕ) → isKeyword n ≡ true → (1 ≤ n) × (n ≤ 23)
-keyword-range n k = let b = both (leb 1 n) (leb n 23) k in (leb-true _ _ (b .0), leb-true _ _ (b .1))
+pub keyword-range : (n : ℕ) → isKeyword n ≡ true → (k-ftor ≤ n) × (n ≤ k-words)
+keyword-range n k = let b = both (leb k-ftor n) (leb n k-words) k in (leb-true _ _ (b .0), leb-true _ _ (b .1))
 
 pub symbol-keyword : (n : ℕ) → isKeyword n ≡ true → (t : Token) → symbolOf t ≡ n → Keyword (spelling n) t
 symbol-keyword n k t =

@@ -1,8 +1,8 @@
--- The rule of a whole text: it reads what the productions derive, and where it stops no selection goes on; so what it answers is an answer of the tokens.
-use Prim.Native.Nat.{ℕ, suc, _+_, _≤_, _<_}
+-- The rule of a whole text: it reads what the productions derive, and where it stops no selection goes on. So it gives an answer of the tokens.
+use Prim.Native.Nat.{ℕ, suc, _≤_, _<_}
 use native.Mathlib.Omega.{arith}
 use mathlib.Core.Path.{_≡_, refl, sym, ap, _∙_}
-use mathlib.Core.Bool.{true, false, cond}
+use mathlib.Core.Bool.{false}
 use mathlib.Core.List.{List, [], _∷_, _++_, append-assoc, append-nil}
 use borrow.Author.Tests.{ne-eqb}
 use lib.Dec.{eqb}
@@ -15,7 +15,7 @@ use Rattle.grammar.specs.Stream.{Stream, ends, token, placeIn, bytesIn, 
 use Rattle.grammar.specs.Symbols.{noMore, symbolOf, symbolIn}
 use Rattle.grammar.specs.Grammar.{Outcome, failed, read, Rule, behind, _then_, expect, ftSelection, answerIn, outcomeOf}
 use Rattle.grammar.proofs.CompletingLaws.{no-filter, filtered, closes-end, selection-complete}
-use Rattle.grammar.proofs.GoingLaws.{Near, Viable, ten, eleven, Went, reads, fails, went-map, Seq, seq, went-then, Wrote, wrote, wrote-some}
+use Rattle.grammar.proofs.GoingLaws.{Within, Near, Viable, ten, eleven, Went, reads, fails, went-map, Seq, seq, went-then, Wrote, wrote, wrote-some}
 use Rattle.grammar.proofs.JoiningLaws.{listOf, tokensOf, _⊕_, size, plus, plus-sum, join-append}
 use Rattle.grammar.proofs.RulesLaws.{went-selection}
 use Rattle.grammar.proofs.SymbolsLaws.{symbol-sort, symbol-more, alike-symbol}
@@ -45,7 +45,7 @@ unfolding _⊕_
 went-end (ends p) = reads [] refl wrote (λ i later n. at-end later (n .symbol))
 went-end (token t ts) = rw (not-end t) (fails [] (token t ts) refl refl (ten (wrote-some [])) (λ i later n b. rw (n .symbol, not-end t)))
 
-whole-join : (us : List Token) (ds : List Code) → Seq FTSelection (Wrote []) us ds → FTSelection us ds
+whole-join : Within (Seq FTSelection (Wrote [])) FTSelection
 whole-join us ds (seq {ts = ts} {cs = cs} d wrote) = rw (append-nil ts, append-nil cs) d
 
 went-whole : (n : ℕ) (ts : Stream) → size ts < n → Went FTSelection (λ i. whole (plus n i)) ts (whole n ts)
