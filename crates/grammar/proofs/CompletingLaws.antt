@@ -4,7 +4,7 @@ use native.Mathlib.Omega.{arith}
 use mathlib.Core.Path.{_≡_, refl, ap, _∙_}
 use mathlib.Core.Bool.{Bool, true, false, _&&_}
 use mathlib.Core.List.{List, [], _∷_, _++_, append-nil}
-use borrow.Author.Tests.{eq-eqb, ne-eqb, le-leb, leb-true}
+use borrow.Author.Tests.{eq-eqb, ne-eqb, leb-true}
 use lib.Dec.{eqb, leb}
 use lib.ListN.{length, length-append}
 use Rattle.model.specs.declared.Code.{Code}
@@ -18,21 +18,21 @@ use Rattle.grammar.specs.Stream.{Stream, ends, token, valueIn}
 use Rattle.grammar.specs.Symbols.{k-ftor, k-ftand, k-ftnot, k-not, k-in, k-ordered, k-entire, sameBytes, numberAmong, symbolOf, symbolIn}
 use Rattle.grammar.specs.Grammar.{Outcome, read, Rule, behind, _then_, expect, words, coded, measured, distanceFrom, distanceAt, distance, either, startsFilter, filter, filters, row, notIn, ftPrimary, ftUnaryNot, ftMildNot, ftAnd, ftOr, ftSelection}
 use Rattle.grammar.proofs.JoiningLaws.{_⊕_, size, join-append, size-join, behind-behind}
-use Rattle.grammar.proofs.SymbolsLaws.{keyword-symbol, sign-symbol, number-symbol}
+use Rattle.grammar.proofs.SymbolsLaws.{keyword-symbol, sign-symbol, number-symbol, number-within}
 
 -- ---- filters
 
-pub filter-complete : {us : List Token} {f : Filter} (rest : Stream) → FTPosFilter us f → filter (us ⊕ rest) ≡ read (Filtered f ∷ []) rest
+filter-complete : {us : List Token} {f : Filter} (rest : Stream) → FTPosFilter us f → filter (us ⊕ rest) ≡ read (Filtered f ∷ []) rest
 unfolding _⊕_ filter distance distanceAt distanceFrom either coded measured numberAmong sameBytes valueIn _then_ behind
 filter-complete rest (ordered a) = rw (keyword-symbol a)
-filter-complete rest (window a n z) = rw (keyword-symbol a, number-symbol n, le-leb _ _ (n .within), keyword-symbol z)
-filter-complete rest (distance-exactly a b n z) = rw (keyword-symbol a, keyword-symbol b, number-symbol n, le-leb _ _ (n .within), keyword-symbol z)
+filter-complete rest (window a n z) = rw (keyword-symbol a, number-symbol n, number-within n, keyword-symbol z)
+filter-complete rest (distance-exactly a b n z) = rw (keyword-symbol a, keyword-symbol b, number-symbol n, number-within n, keyword-symbol z)
 filter-complete rest (distance-least a b c n z) =
-    rw (keyword-symbol a, keyword-symbol b, keyword-symbol c, number-symbol n, le-leb _ _ (n .within), keyword-symbol z)
+    rw (keyword-symbol a, keyword-symbol b, keyword-symbol c, number-symbol n, number-within n, keyword-symbol z)
 filter-complete rest (distance-most a b c n z) =
-    rw (keyword-symbol a, keyword-symbol b, keyword-symbol c, number-symbol n, le-leb _ _ (n .within), keyword-symbol z)
+    rw (keyword-symbol a, keyword-symbol b, keyword-symbol c, number-symbol n, number-within n, keyword-symbol z)
 filter-complete rest (distance-from a b m c n z) =
-    rw (keyword-symbol a, keyword-symbol b, number-symbol m, le-leb _ _ (m .within), keyword-symbol c, number-symbol n, le-leb _ _ (n .within), keyword-symbol z)
+    rw (keyword-symbol a, keyword-symbol b, number-symbol m, number-within m, keyword-symbol c, number-symbol n, number-within n, keyword-symbol z)
 filter-complete rest (same-sentence a b) = rw (keyword-symbol a, keyword-symbol b)
 filter-complete rest (same-paragraph a b) = rw (keyword-symbol a, keyword-symbol b)
 filter-complete rest (different-sentence a b) = rw (keyword-symbol a, keyword-symbol b)
@@ -63,7 +63,10 @@ no-filter p = refl
 
 pub filter-length : {f : Filter} (us : List Token) → FTPosFilter us f → 1 ≤ length us
 unfolding _⊕_
-filter-length [] d = let e : startsFilter (ends 0) ≡ true = filter-starts (ends 0) d in let z : _≡_ {A = ℕ} 0 1 = cc (no-filter 0) in absurd (omega arith)
+filter-length [] d =
+    let e : startsFilter (ends 0) ≡ true = filter-starts (ends 0) d in
+    let z : _≡_ {A = ℕ} 0 1 = cc (no-filter 0) in
+    absurd (omega arith)
 filter-length (u ∷ us) d = omega arith
 
 -- ---- phrases
@@ -77,7 +80,7 @@ words-complete zero k rest s h l (word-more n d) = absurd (omega arith)
 words-complete (suc left) k rest s h l (word-more {k = j} n d) =
     let e : k + 1 + j ≡ k + suc j = omega arith in
     let later = words-complete left (k + 1) rest s (omega arith) (omega arith) d in
-    rw (number-symbol n, le-leb _ _ (n .within), later, e)
+    rw (number-symbol n, number-within n, later, e)
 
 -- ---- rows
 
@@ -274,10 +277,12 @@ SelectionRead ts cs = (n : ℕ) (rest : Stream) → length ts + size rest ≤ n 
 
 abbrev OrRead : List Token → List Code → Type 0
 OrRead ts cs =
-    (n : ℕ) (rest : Stream) → length ts + size rest ≤ n → Other k-not rest → Other k-ftand rest → Rowed (ftOr n (ftSelection n) (ts ⊕ rest)) cs (orRow n) rest
+    (n : ℕ) (rest : Stream) → length ts + size rest ≤ n → Other k-not rest → Other k-ftand rest
+    → Rowed (ftOr n (ftSelection n) (ts ⊕ rest)) cs (orRow n) rest
 
 abbrev AndRead : List Token → List Code → Type 0
-AndRead ts cs = (n : ℕ) (rest : Stream) → length ts + size rest ≤ n → Other k-not rest → Rowed (ftAnd n (ftSelection n) (ts ⊕ rest)) cs (andRow n) rest
+AndRead ts cs =
+    (n : ℕ) (rest : Stream) → length ts + size rest ≤ n → Other k-not rest → Rowed (ftAnd n (ftSelection n) (ts ⊕ rest)) cs (andRow n) rest
 
 abbrev MildRead : List Token → List Code → Type 0
 MildRead ts cs = (n : ℕ) (rest : Stream) → length ts + size rest ≤ n → Rowed (ftMildNot n (ftSelection n) (ts ⊕ rest)) cs (mildRow n) rest
@@ -309,7 +314,8 @@ selection-complete d =
       | and-more {ts = ts} {us = us} {t = t} (d → g) w (e → h) ↦ λ n rest l x.
           let s = and-symbol w in
           rw (join-append ts (t ∷ us) rest)
-          (joined k-ftand (Combine And) _ t us rest s (g n ((t ∷ us) ⊕ rest) (split-length ts (t ∷ us) rest n l) (symbol-other k-not t us rest s refl))
+          (joined k-ftand (Combine And) _ t us rest s
+          (g n ((t ∷ us) ⊕ rest) (split-length ts (t ∷ us) rest n l) (symbol-other k-not t us rest s refl))
           (stopped k-not _ (Combine MildNot) _ x (h n rest (omega (arith, length-append ts (t ∷ us))))))
       | mild-unary (d → g) ↦ λ n rest l. mild-first _ n rest (g n rest l) (omega arith)
       | mild-more {ts = ts} {us = us} {t = t} {u = u} (d → g) w i (e → h) ↦ λ n rest l.

@@ -7,7 +7,7 @@ use mathlib.Core.Path.{_≡_, refl, sym, ap, _∙_}
 use mathlib.Core.Bool.{Bool, true, false, cond}
 use mathlib.Core.List.{List, [], _∷_, _++_, append-assoc}
 use mathlib.Core.Logic.{_⊎_}
-use borrow.Author.Tests.{ne-eqb, eqb-true, le-leb, leb-true, leb-false}
+use borrow.Author.Tests.{ne-eqb, eqb-true, leb-true, leb-false}
 use lib.Dec.{eqb, leb}
 use Rattle.model.specs.declared.Code.{Code}
 use Rattle.model.specs.Bytes.{bytes}
@@ -18,7 +18,7 @@ use Rattle.grammar.specs.Stream.{Stream, ends, token, placeIn, bytesIn, 
 use Rattle.grammar.specs.Symbols.{noMore, s-number, symbolOf, symbolIn}
 use Rattle.grammar.specs.Grammar.{Outcome, failed, read, Rule, behind, _then_, refused, expect, number}
 use Rattle.grammar.proofs.JoiningLaws.{_⊕_, join-append}
-use Rattle.grammar.proofs.SymbolsLaws.{spelling, isKeyword, keyword-range, symbol-keyword, symbol-sort, number-symbol}
+use Rattle.grammar.proofs.SymbolsLaws.{spelling, isKeyword, keyword-range, symbol-keyword, symbol-sort, number-symbol, number-within}
 
 -- which tokens are derived, and with which codes
 abbrev pub Production : Type 1
@@ -41,7 +41,7 @@ NumberJoins most A R = (t : Token) (vs : List Token) (ds : List Code) → Number
 pub record Near (a b : Stream) : Type 0 where
   pub symbol : symbolIn b ≡ symbolIn a
 
-pub near-join : (pre : List Token) {a b : Stream} → Near a b → Near (pre ⊕ a) (pre ⊕ b)
+near-join : (pre : List Token) {a b : Stream} → Near a b → Near (pre ⊕ a) (pre ⊕ b)
 unfolding _⊕_
 near-join [] n = n
 near-join (t ∷ ts) n = record { symbol = refl }
@@ -132,6 +132,10 @@ module _ {P Q : Production} (r s : ℕ → Rule) (s₀ : Rule) (some : Viable Q 
   went-then (fails pre rest e p y g) next =
       fails pre rest e p (why-right (some .more) (λ us cs d. (cs ++ some .codes, seq d (some .holds))) y) (λ i later n b. rw (g i later n b))
 
+pub went-both : {P Q : Production} (r s : Rule) → Viable Q [] → (ts : Stream) → Went P (λ i. r) ts (r ts)
+    → ((rest : Stream) → Went Q (λ i. s) rest (s rest)) → Went (Seq P Q) (λ i us. r us then s) ts (r ts then s)
+went-both r s some ts x y = went-then (λ i. r) (λ i. s) s some ts x (λ pre rest cs e d. y rest)
+
 -- ---- tests of the first symbol
 
 kept : (test : ℕ → Bool) (ts : Stream) (x : Bool) → test (symbolIn ts) ≡ x → (pre : List Token) (rest later : Stream) → ts ≡ pre ⊕ rest
@@ -198,7 +202,7 @@ module _ {R A : Production} {T : Token → Type 0} (test : ℕ → Bool) (k : Ta
 pub data One (T : Token → Type 0) : List Token → List Code → Type 0 where
   one : {t : Token} → T t → One T (t ∷ []) []
 
-pub one-some : {T : Token → Type 0} (t : Token) → T t → Viable (One T) []
+one-some : {T : Token → Type 0} (t : Token) → T t → Viable (One T) []
 one-some t h = record { more = t ∷ []; codes = []; holds = one h }
 
 one-wrote : {T : Token → Type 0} → Joins T (Wrote []) (One T)
@@ -208,6 +212,12 @@ went-one : {T : Token → Type 0} (x : Token) (s : ℕ) → Taken (λ r. eqb r s
 went-one x s k h ts =
     went-case (λ r. eqb r s) k (λ i us. read [] us) (λ us. read [] us) (λ i us. refused us) (λ us. refused us) one-wrote
     ts (λ t us e q. went-read [] us) (λ e. went-refused (one-some x h) ts)
+
+-- rules that have no fuel, after a keyword
+module _ {R A : Production} (n : ℕ) (k : isKeyword n ≡ true) (a b : Rule) (f : Joins (Keyword (spelling n)) A R) where
+  pub went-keyword : (ts : Stream) → ((us : Stream) → Went A (λ i. a) us (a us)) → Went R (λ i. b) ts (b ts)
+      → Went R (λ i us. cond (eqb (symbolIn us) n) (a (restOf us)) (b us)) ts (cond (eqb (symbolIn ts) n) (a (restOf ts)) (b ts))
+  went-keyword ts x y = went-case (λ s. eqb s n) (keyword-taken n k) (λ i. a) a (λ i. b) b f ts (λ t us e h. x us) (λ e. y)
 
 -- some token of each kind
 abbrev pub aWord : String → Token
@@ -254,10 +264,10 @@ module _ {R : Production} (A : ℕ → Production) (most : ℕ) (limit : (most �
       → Went R (λ i. number most (a i)) (token t us) o
   unfolding valueIn _⊕_
   number-skip t us h (reads pre e d g) =
-      reads (t ∷ pre) (ap (token t) e) (f t _ _ h d) (λ i later n. rw (number-symbol h, le-leb _ _ (h .within)) (g i later n))
+      reads (t ∷ pre) (ap (token t) e) (f t _ _ h d) (λ i later n. rw (number-symbol h, number-within h) (g i later n))
   number-skip t us h (fails pre rest e p y g) =
       fails (t ∷ pre) rest (ap (token t) e) p (why-left (t ∷ []) (λ vs ds q. (ds, f t vs ds h q)) y)
-      (λ i later n b. rw (number-symbol h, le-leb _ _ (h .within)) (g i later n b))
+      (λ i later n b. rw (number-symbol h, number-within h) (g i later n b))
 
   no-number : (ts : Stream) → eqb (symbolIn ts) s-number ≡ false → Went R (λ i. number most (a i)) ts (refused ts)
   unfolding _⊕_

@@ -164,15 +164,13 @@ byte-parted p b bs later = at (classOf b) (eqb b blank) refl where
 
   at : Class b → (x : Bool) → eqb b blank ≡ x → Parted p (b ∷ bs)
   at (of-letters h) x e =
-      run letter (λ more f d. record {
-        tokens = _;
-        parts = a-word h (every-run Letter letter letter-sort sort-is-letter bs) (rw f (stops-run Letter letter letter-sort sort-is-letter bs)) (d .parts);
-      })
+      let every = every-run Letter letter letter-sort sort-is-letter bs in
+      let stops = stops-run Letter letter letter-sort sort-is-letter bs in
+      run letter (λ more f d. record { tokens = _; parts = a-word h every (rw f stops) (d .parts) })
   at (of-digits h) x e =
-      run digit (λ more f d. record {
-        tokens = _;
-        parts = a-number h (every-run Digit digit digit-sort sort-is-digit bs) (rw f (stops-run Digit digit digit-sort sort-is-digit bs)) (d .parts);
-      })
+      let every = every-run Digit digit digit-sort sort-is-digit bs in
+      let stops = stops-run Digit digit digit-sort sort-is-digit bs in
+      run digit (λ more f d. record { tokens = _; parts = a-number h every (rw f stops) (d .parts) })
   at (of-neither h k f) true e =
       let d = later (suc p) bs (omega arith) in
       let g : b ≡ blank = eqb-true _ _ e in

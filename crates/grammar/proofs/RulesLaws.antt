@@ -20,7 +20,7 @@ use Rattle.grammar.specs.Stream.{Stream, ends, token, restOf}
 use Rattle.grammar.specs.Symbols.{k-ftor, k-ftand, k-ftnot, k-not, k-in, k-ordered, k-window, k-distance, k-same, k-different, k-at, k-entire, k-start, k-end, k-sentence, k-paragraph, k-content, k-exactly, k-from, k-to, k-least, k-most, k-words, noMore, s-quote, s-opening, s-closing, symbolOf, symbolIn}
 use Rattle.grammar.specs.Grammar.{read, Rule, _then_, refused, writes, expect, number, words, coded, measured, distanceFrom, distanceAt, distance, either, startsFilter, filter, filters, row, notIn, ftPrimary, ftUnaryNot, ftMildNot, ftAnd, ftOr, ftSelection}
 use Rattle.grammar.proofs.CompletingLaws.{no-filter, filter-length, row-stops, filters-stop}
-use Rattle.grammar.proofs.GoingLaws.{Production, Within, Joins, NumberJoins, Near, Viable, Went, reads, went-map, Seq, seq, went-then, went-if, Wrote, wrote, wrote-some, went-read, went-refused, Taken, keyword-taken, sign-taken, went-case, One, one, aWord, a-word, aSign, a-sign, aNumber, a-number, went-word, word-some, went-sign, sign-some, went-number}
+use Rattle.grammar.proofs.GoingLaws.{Production, Within, Joins, NumberJoins, Near, Viable, Went, reads, went-map, Seq, seq, went-then, went-both, went-if, Wrote, wrote, wrote-some, went-read, went-refused, Taken, keyword-taken, sign-taken, went-case, went-keyword, One, one, aWord, a-word, aSign, a-sign, aNumber, a-number, went-word, word-some, went-sign, sign-some, went-number}
 use Rattle.grammar.proofs.JoiningLaws.{_⊕_, size, plus, size-join}
 use Rattle.grammar.proofs.SymbolsLaws.{spelling, isKeyword, symbol-sort}
 
@@ -34,8 +34,7 @@ coded-join c vs ds (seq (one h) wrote) = coded-by h
 
 went-coded : (n : ℕ) → isKeyword n ≡ true → (c : Code) (ts : Stream) → Went (Coded (Keyword (spelling n)) c) (λ i. coded n c) ts (coded n c ts)
 unfolding coded
-went-coded n k c ts =
-    went-map (coded-join c) (went-then (λ i. expect n) (λ i. writes c) (writes c) (wrote-some _) ts (went-word n k ts) (λ pre rest cs x d. went-read _ rest))
+went-coded n k c ts = went-map (coded-join c) (went-both (expect n) (writes c) (wrote-some (c ∷ [])) ts (went-word n k ts) (went-read (c ∷ [])))
 
 data Measured (f : ℕ → Code) : List Token → List Code → Type 0 where
   measured-by : {n z : Token} → Number maxNumber n → Keyword "words" z → Measured f (n ∷ z ∷ []) (f (valueOf n) ∷ [])
@@ -71,8 +70,9 @@ went-from ts =
       codes = _;
       holds = seq (one (a-word "to")) (measured-by (a-number maxNumber) (a-word "words"));
     })
-    ts (λ t us e n. let f : ℕ → Code = λ b. Filtered (Distance (valueOf t) b) in
-    went-then (λ i. expect k-to) (λ i. measured f) (measured f) (measured-some f) us (went-word k-to refl us) (λ pre rest cs x d. went-measured f rest))
+    ts (λ t us e n.
+    let f : ℕ → Code = λ b. Filtered (Distance (valueOf t) b) in
+    went-both (expect k-to) (measured f) (measured-some f) us (went-word k-to refl us) (went-measured f))
 
 abbrev leastCode : ℕ → Code
 leastCode a = Filtered (Distance a maxDistance)
@@ -96,14 +96,16 @@ most-join vs ds (seq (one w) (measured-by n z)) = at-most w n z
 went-at : (ts : Stream) → Went AtLevel (λ i. distanceAt) ts (distanceAt ts)
 unfolding distanceAt
 went-at ts =
-    let other : Rule = λ us. expect k-most us then measured mostCode in
-    went-case (λ s. eqb s k-least) (keyword-taken k-least refl) (λ i. measured leastCode) (measured leastCode) (λ i. other) other least-join
-    ts (λ t us e w. went-measured leastCode us)
-    (λ e. went-map most-join (went-then (λ i. expect k-most) (λ i. measured mostCode) (measured mostCode) (measured-some mostCode)
-    ts (went-word k-most refl ts) (λ pre rest cs x d. went-measured mostCode rest)))
+    went-keyword k-least refl (measured leastCode) (λ us. expect k-most us then measured mostCode) least-join ts (went-measured leastCode)
+    (went-map most-join
+    (went-both (expect k-most) (measured mostCode) (measured-some mostCode) ts (went-word k-most refl ts) (went-measured mostCode)))
 
 at-some : Viable AtLevel []
-at-some = record { more = aWord "most" ∷ aNumber ∷ aWord "words" ∷ []; codes = _; holds = at-most (a-word "most") (a-number maxNumber) (a-word "words") }
+at-some = record {
+  more = aWord "most" ∷ aNumber ∷ aWord "words" ∷ [];
+  codes = _;
+  holds = at-most (a-word "most") (a-number maxNumber) (a-word "words");
+}
 
 data Distances : List Token → List Code → Type 0 where
   exactly : {c n z : Token} → Keyword "exactly" c → Number maxNumber n → Keyword "words" z → Distances (c ∷ n ∷ z ∷ []) (exactCode (valueOf n) ∷ [])
@@ -121,12 +123,9 @@ unfolding distance
 went-distance ts =
     let past : Rule = λ us. expect k-at us then distanceAt in
     let next : Rule = λ us. cond (eqb (symbolIn us) k-from) (distanceFrom (restOf us)) (past us) in
-    went-case (λ s. eqb s k-exactly) (keyword-taken k-exactly refl) (λ i. measured exactCode) (measured exactCode) (λ i. next) next exactly-join
-    ts (λ t us e w. went-measured exactCode us)
-    (λ e. went-case (λ s. eqb s k-from) (keyword-taken k-from refl) (λ i. distanceFrom) distanceFrom (λ i. past) past (λ t vs ds w d. ranging w d)
-    ts (λ t us f w. went-from us)
-    (λ f. went-map levelled-join (went-then (λ i. expect k-at) (λ i. distanceAt) distanceAt at-some ts (went-word k-at refl ts)
-    (λ pre rest cs x d. went-at rest))))
+    went-keyword k-exactly refl (measured exactCode) next exactly-join ts (went-measured exactCode)
+    (went-keyword k-from refl distanceFrom past (λ t vs ds w d. ranging w d) ts went-from
+    (went-map levelled-join (went-both (expect k-at) distanceAt at-some ts (went-word k-at refl ts) went-at)))
 
 data Either (T U : Token → Type 0) (c d : Code) : List Token → List Code → Type 0 where
   first : {t : Token} → T t → Either T U c d (t ∷ []) (c ∷ [])
@@ -143,8 +142,7 @@ went-either : (n : ℕ) → isKeyword n ≡ true → (c : Code) (m : ℕ) → is
     → Went (Either (Keyword (spelling n)) (Keyword (spelling m)) c d) (λ i. either n c m d) ts (either n c m d ts)
 unfolding either
 went-either n k c m l d ts =
-    went-case (λ s. eqb s n) (keyword-taken n k) (λ i us. read (c ∷ []) us) (λ us. read (c ∷ []) us) (λ i. coded m d) (coded m d) (first-join c d)
-    ts (λ t us e h. went-read _ us) (λ e. went-map (other-join c d) (went-coded m l d ts))
+    went-keyword n k (λ us. read (c ∷ []) us) (coded m d) (first-join c d) ts (went-read (c ∷ [])) (went-map (other-join c d) (went-coded m l d ts))
 
 -- a filter's one code
 data FilterCodes : List Token → List Code → Type 0 where
@@ -196,21 +194,15 @@ went-filter ts =
     let f3 : Rule = λ us. cond (eqb (symbolIn us) k-same) (same (restOf us)) (f4 us) in
     let f2 : Rule = λ us. cond (eqb (symbolIn us) k-distance) (distance (restOf us)) (f3 us) in
     let f1 : Rule = λ us. cond (eqb (symbolIn us) k-window) (measured windowCode (restOf us)) (f2 us) in
-    let plain : Rule = λ us. read (Filtered Ordered ∷ []) us in
-    went-case (λ s. eqb s k-ordered) (keyword-taken k-ordered refl) (λ i. plain) plain (λ i. f1) f1 ordered-join ts (λ t us e w. went-read _ us)
-    (λ e1. went-case (λ s. eqb s k-window) (keyword-taken k-window refl) (λ i. measured windowCode) (measured windowCode) (λ i. f2) f2 window-join
-    ts (λ t us e w. went-measured windowCode us)
-    (λ e2. went-case (λ s. eqb s k-distance) (keyword-taken k-distance refl) (λ i. distance) distance (λ i. f3) f3 distance-join
-    ts (λ t us e w. went-distance us)
-    (λ e3. went-case (λ s. eqb s k-same) (keyword-taken k-same refl) (λ i. same) same (λ i. f4) f4 same-join
-    ts (λ t us e w. went-either k-sentence refl _ k-paragraph refl _ us)
-    (λ e4. went-case (λ s. eqb s k-different) (keyword-taken k-different refl) (λ i. different) different (λ i. f5) f5 different-join
-    ts (λ t us e w. went-either k-sentence refl _ k-paragraph refl _ us)
-    (λ e5. went-case (λ s. eqb s k-at) (keyword-taken k-at refl) (λ i. at) at (λ i. f6) f6 at-join
-    ts (λ t us e w. went-either k-start refl _ k-end refl _ us)
-    (λ e6. went-map entire-join (went-then (λ i. expect k-entire) (λ i. content) content
+    went-keyword k-ordered refl (λ us. read (Filtered Ordered ∷ []) us) f1 ordered-join ts (went-read (Filtered Ordered ∷ []))
+    (went-keyword k-window refl (measured windowCode) f2 window-join ts (went-measured windowCode)
+    (went-keyword k-distance refl distance f3 distance-join ts went-distance
+    (went-keyword k-same refl same f4 same-join ts (went-either k-sentence refl _ k-paragraph refl _)
+    (went-keyword k-different refl different f5 different-join ts (went-either k-sentence refl _ k-paragraph refl _)
+    (went-keyword k-at refl at f6 at-join ts (went-either k-start refl _ k-end refl _)
+    (went-map entire-join (went-both (expect k-entire) content
     (record { more = aWord "content" ∷ []; codes = Filtered EntireContent ∷ []; holds = coded-by (a-word "content") })
-    ts (went-word k-entire refl ts) (λ pre rest cs x d. went-coded k-content refl _ rest))))))))
+    ts (went-word k-entire refl ts) (went-coded k-content refl _))))))))
 
 -- ---- phrases
 
@@ -260,8 +252,9 @@ went-words (suc left) k h ts =
     ts (λ t us e q. went-read _ us)
     (λ e. went-number (λ v. Seq (Wrote (Word v ∷ [])) (Tail left (k + 1))) maxWord (inl refl) (λ i. next) next (more-join left k)
     (λ v l. more-some left k v) ts
-    (λ t us f n. went-then (λ i vs. read (Word (valueOf t) ∷ []) vs) (λ i. words left (k + 1)) (words left (k + 1)) (tail-some left (k + 1) (omega arith))
-    us (went-read _ us) (λ pre rest cs x d. went-words left (k + 1) (omega arith) rest)))
+    (λ t us f n.
+    went-both (λ vs. read (Word (valueOf t) ∷ []) vs) (words left (k + 1)) (tail-some left (k + 1) (omega arith)) us (went-read _ us)
+    (went-words left (k + 1) (omega arith))))
 
 -- ---- rows
 
@@ -382,8 +375,7 @@ two-grows : {O : Production} {T U : Token → Type 0} (c : Code) → Grows (Turn
 two-grows c us ds (seq (seq (seq (one w) (one i)) e) wrote) = omega arith
 
 went-not-in : (ts : Stream) → Went NotIn (λ i. notIn) ts (notIn ts)
-went-not-in ts =
-    went-then (λ i. expect k-not) (λ i. expect k-in) (expect k-in) (word-some "in") ts (went-word k-not refl ts) (λ pre rest cs x d. went-word k-in refl rest)
+went-not-in ts = went-both (expect k-not) (expect k-in) (word-some "in") ts (went-word k-not refl ts) (went-word k-in refl)
 
 token-size : (t : Token) (us : Stream) → size (token t us) ≡ suc (size us)
 unfolding size
@@ -405,13 +397,15 @@ module _ (n : ℕ) (inner : (us : Stream) → size us < n → Went FTSelection (
       (inner us (omega (arith, token-size t us, ap size f))) (λ pre rest cs x d. went-sign closing rest))
       (λ f. went-refused primary-some ts))
 
-  went-unary : (ts : Stream) → size ts ≤ n → Went FTUnaryNot (λ i. ftUnaryNot (plus n i) (ftSelection (plus n i))) ts (ftUnaryNot n (ftSelection n) ts)
+  went-unary : (ts : Stream) → size ts ≤ n
+      → Went FTUnaryNot (λ i. ftUnaryNot (plus n i) (ftSelection (plus n i))) ts (ftUnaryNot n (ftSelection n) ts)
   unfolding ftUnaryNot
   went-unary ts h =
       let rule : ℕ → Rule = λ i. ftPrimary (plus n i) (ftSelection (plus n i)) in
       let rule₀ : Rule = ftPrimary n (ftSelection n) in
-      went-case (λ s. eqb s k-ftnot) (keyword-taken k-ftnot refl) (λ i us. rule i us then writes Not) (λ us. rule₀ us then writes Not) rule rule₀ not-join
-      ts (λ t us e w. went-then rule (λ i. writes Not) (writes Not) (wrote-some _) us (went-primary us (omega (arith, token-size t us, ap size e)))
+      went-case (λ s. eqb s k-ftnot) (keyword-taken k-ftnot refl) (λ i us. rule i us then writes Not) (λ us. rule₀ us then writes Not)
+      rule rule₀ not-join ts
+      (λ t us e w. went-then rule (λ i. writes Not) (writes Not) (wrote-some _) us (went-primary us (omega (arith, token-size t us, ap size e)))
       (λ pre rest cs x d. went-read _ rest))
       (λ e. went-map (λ us ds d. unary-primary d) (went-primary ts h))
 

@@ -129,7 +129,8 @@ module _ (s : ℕ) (runs : makesRuns s ≡ true) where
         ∙ ap (λ r. token (record { sort = s; place = p; bytes = b ∷ d ∷ take n ds }) (piecesFrom r (drop n ds))) k
     at false h later =
         let k : suc p ≡ suc p + 0 = omega arith in
-        before-other b p _ (λ q. eqb-false (sortOf d) s h (starts-same (sortOf d) (sortOf b) (piecesFrom (suc p) (d ∷ ds)) (before-sort d (suc p) _) q ∙ e))
+        let next = piecesFrom (suc p) (d ∷ ds) in
+        before-other b p next (λ q. eqb-false (sortOf d) s h (starts-same (sortOf d) (sortOf b) next (before-sort d (suc p) _) q ∙ e))
         ∙ ap (λ r. token (record { sort = r; place = p; bytes = b ∷ [] }) (piecesFrom (suc p) (d ∷ ds))) e
         ∙ ap (λ r. token (record { sort = s; place = p; bytes = b ∷ [] }) (piecesFrom r (d ∷ ds))) k
 

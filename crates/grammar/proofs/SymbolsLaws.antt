@@ -5,21 +5,16 @@ use native.Mathlib.Omega.{arith}
 use mathlib.Core.Path.{_≡_, refl, sym, ap, _∙_}
 use mathlib.Core.Bool.{Bool, true, false, _&&_, cond}
 use mathlib.Core.List.{List, [], _∷_}
-use borrow.Author.Tests.{eq-eqb, ne-eqb, eqb-true, eqb-false, leb-true}
+use borrow.Author.Tests.{ne-eqb, eqb-true, eqb-false, le-leb, leb-true}
 use lib.Dec.{eqb, leb}
 use lib.ListN.{length}
 use Rattle.model.specs.Bytes.{bytes}
 use Rattle.model.specs.Productions.{Sign, Keyword, Number}
 use Rattle.model.specs.TextAnswer.{Alike}
-use Rattle.model.specs.Tokens.{Token, letter}
+use Rattle.model.specs.Tokens.{Token, letter, valueOf}
 use Rattle.grammar.specs.Symbols.{k-ftor, k-words, noMore, s-number, keywords, sameBytes, numberAmong, symbolOf}
 
 -- ---- bytes
-
-pub same-bytes : (l : List ℕ) → sameBytes l l ≡ true
-unfolding sameBytes
-same-bytes [] = refl
-same-bytes (x ∷ xs) = rw (eq-eqb x x refl) (same-bytes xs)
 
 pub bytes-same : (a b : List ℕ) → sameBytes a b ≡ true → a ≡ b
 unfolding sameBytes
@@ -108,7 +103,8 @@ symbol-keyword n k t =
 
 -- a sign or a number
 pub symbol-sort : (t : Token) (b : ℕ) → symbolOf t ≡ 100 + b → t .sort ≡ b
-symbol-sort t b = symbol-cases (λ s. s ≡ 100 + b → t .sort ≡ b) t (λ h e. absurd (omega (arith, number-most 1 keywords (t .bytes)))) (λ h e. omega arith)
+symbol-sort t b =
+    symbol-cases (λ s. s ≡ 100 + b → t .sort ≡ b) t (λ h e. absurd (omega (arith, number-most 1 keywords (t .bytes)))) (λ h e. omega arith)
 
 -- no token is the text's end
 pub symbol-more : (t : Token) → ¬ (symbolOf t ≡ noMore)
@@ -124,6 +120,9 @@ sign-symbol {b} {t} h k = other-symbol t (λ e. eqb-false b letter k (sym (h .is
 
 pub number-symbol : {most : ℕ} {t : Token} → Number most t → symbolOf t ≡ s-number
 number-symbol {most} {t} h = other-symbol t (λ e. omega (arith, h .digits)) ∙ ap (λ s. 100 + s) (h .digits)
+
+pub number-within : {most : ℕ} {t : Token} → Number most t → leb (valueOf t) most ≡ true
+number-within h = le-leb _ _ (h .within)
 
 pub alike-symbol : {t u : Token} → Alike t u → symbolOf u ≡ symbolOf t
 alike-symbol {t} {u} a =

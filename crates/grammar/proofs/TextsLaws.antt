@@ -76,16 +76,7 @@ pub size-text : (text : List ℕ) → size (streamAt text 0) ≤ length text
 unfolding streamAt
 size-text text = omega (arith, size-blanks (piecesFrom 1 text), size-pieces 1 text)
 
--- ---- the text's tokens, and a rest of them
-
-list-last : (ts : Stream) → ts ≡ listOf ts ⊕ ends (lastOf ts)
-unfolding _⊕_ listOf lastOf
-list-last (ends p) = refl
-list-last (token t ts) = ap (token t) (list-last ts)
-
-pub stream-text : (text : List ℕ) → streamAt text 0 ≡ tokensOf text ⊕ ends (suc (length text))
-unfolding tokensOf
-stream-text text = list-last (streamAt text 0) ∙ ap (λ p. listOf (streamAt text 0) ⊕ ends p) (last-text text)
+-- ---- a rest of the text's tokens
 
 place-last : (rest : Stream) → placeIn rest ≡ firstPlace (lastOf rest) (listOf rest)
 unfolding listOf lastOf
