@@ -1,0 +1,104 @@
+use borrow.Author.Needs.{needs}
+use Rattle.scanner.proofs.token_at.Statement.{statement}
+use Rattle.scanner.proofs.token_at.Tie as tie
+use Rattle.scanner.proofs.token_at.Reads as reads
+use Rattle.scanner.proofs.token_at.Lts as lts
+use Rattle.scanner.proofs.run_end.Reads as run-end-reads
+use Rattle.scanner.proofs.sort_of.Reads as sort-of-reads
+use Rattle.scanner.proofs.symbols.word_symbol.Reads as word-symbol-reads
+use Rattle.scanner.proofs.token.Reads as token-reads
+
+-- src/lib.rt:76:9
+run-end-requires : tie.Need-run-end-requires
+run-end-requires c κs = search needs
+
+-- src/lib.rt:78:9
+token-requires : tie.Need-token-requires
+token-requires c κs = search needs
+
+-- src/lib.rt:78:9
+returns : tie.Need-returns
+returns c = ?
+
+-- src/lib.rt:80:24
+element-copy-out-sort-of : tie.Need-element-copy-out-sort-of
+element-copy-out-sort-of c = search needs
+
+-- src/lib.rt:80:9
+sort-of-requires : tie.Need-sort-of-requires
+sort-of-requires c κs = search needs
+
+-- src/lib.rt:82:39
+add-run-end : tie.Need-add-run-end
+add-run-end c = search needs
+
+-- src/lib.rt:82:13
+run-end-requires-2 : tie.Need-run-end-requires-2
+run-end-requires-2 c κs = search needs
+
+-- src/lib.rt:83:22
+word-symbol-requires : tie.Need-word-symbol-requires
+word-symbol-requires c κs = search needs
+
+-- src/lib.rt:83:9
+token-requires-2 : tie.Need-token-requires-2
+token-requires-2 c κs = ?
+
+-- src/lib.rt:83:9
+returns-2 : tie.Need-returns-2
+returns-2 c = ?
+
+-- src/lib.rt:86:39
+add-run-end-2 : tie.Need-add-run-end-2
+add-run-end-2 c = search needs
+
+-- src/lib.rt:86:13
+run-end-requires-3 : tie.Need-run-end-requires-3
+run-end-requires-3 c κs = search needs
+
+-- src/lib.rt:87:9
+token-requires-3 : tie.Need-token-requires-3
+token-requires-3 c κs = search needs
+
+-- src/lib.rt:87:9
+returns-3 : tie.Need-returns-3
+returns-3 c = ?
+
+-- src/lib.rt:89:11
+add-token : tie.Need-add-token
+add-token c = search needs
+
+-- src/lib.rt:89:32
+add-token-2 : tie.Need-add-token-2
+add-token-2 c = search needs
+
+-- src/lib.rt:89:5
+token-requires-4 : tie.Need-token-requires-4
+token-requires-4 c κs = search needs
+
+-- src/lib.rt:72:1
+returns-4 : tie.Need-returns-4
+returns-4 c = ?
+
+pub token-at-spec : {M : Type 1} → statement M
+token-at-spec =
+    tie.close
+    (tie.spec
+    run-end-requires
+    token-requires
+    returns
+    element-copy-out-sort-of
+    sort-of-requires
+    add-run-end
+    run-end-requires-2
+    word-symbol-requires
+    token-requires-2
+    returns-2
+    add-run-end-2
+    run-end-requires-3
+    token-requires-3
+    returns-3
+    add-token
+    add-token-2
+    token-requires-4
+    returns-4)
