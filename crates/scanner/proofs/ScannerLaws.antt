@@ -10,7 +10,7 @@ use lib.ListN.{length, take, drop, getD, length-drop}
 use lib.Seq.{drop-cons, getD-drop, getD-take, length-take-le, take-take}
 use Rattle.model.specs.Tokens.{blank, digit, letter, numberFrom}
 use Rattle.grammar.specs.Stream.{ends, token, sortOf, makesRuns, runLength, streamAt, placeIn, bytesIn, restOf}
-use Rattle.grammar.specs.Symbols.{keywords, noMore, numberAmong, symbolIn, symbolOf}
+use Rattle.grammar.specs.Symbols.{keywords, noMore, s-number, numberAmong, symbolIn, symbolOf}
 use Rattle.grammar.proofs.StreamLaws.{run-more, run-none, run-stops, length-run, number-capped, at-blanks, at-end, at-sign, at-run, no-runs, runs-letter, runs-digit}
 use Rattle.scanner.specs.Scanned.{Scanned, bytesFrom, symbolAt, startOf, endOf, ceiling, capped}
 
@@ -113,10 +113,10 @@ module _ (bytes : List ℕ) (size at start : ℕ) (held : size ≤ length bytes)
         let e : getD (drop at text) k 0 ≡ getD bytes start 0 = getD-drop at text k 0 ∙ ap (λ n. getD text n 0) (sym blanks) ∙ same-byte in
         run-stops blank (drop at text) (omega (arith, length-drop at text, long)) (ap sortOf e ∙ sym of-sort ∙ q)
 
-    pub scanned-sign : ¬ (s ≡ letter) → ¬ (s ≡ digit) → s < 256 → (t : ℕ) → (symbolAt t ≡ 100 + s) × (startOf t ≡ start) × (endOf t ≡ start + 1)
+    pub scanned-sign : ¬ (s ≡ letter) → ¬ (s ≡ digit) → (t : ℕ) → (symbolAt t ≡ 100 + s) × (startOf t ≡ start) × (endOf t ≡ start + 1)
         → Scanned bytes size at t
     unfolding symbolOf
-    scanned-sign f g small t is =
+    scanned-sign f g t is =
         let all : streamAt text at ≡ token (record { sort = s; place = suc start; bytes = getD text start 0 ∷ [] }) (streamAt text (suc start))
         = skipped ∙ at-sign text start s (omega (arith, long)) (ap sortOf same-byte ∙ sym of-sort) no-blank (no-runs s f g) in
         let one : bytesFrom bytes start (start + 1) ≡ getD bytes start 0 ∷ []
@@ -142,8 +142,21 @@ module _ (bytes : List ℕ) (size at start : ℕ) (held : size ≤ length bytes)
       first-run = skipped ∙ at-run text start s (omega (arith, long)) (ap sortOf same-byte ∙ sym of-sort) no-blank runs k refl
           ∙ rw (run-bytes, sym end-is)
 
-      scanned-run : (symbol t : ℕ) → symbolOf (record { sort = s; place = suc start; bytes = bytesFrom bytes start end }) ≡ symbol → ¬ (symbol ≡ noMore)
+      scanned-run : (symbol t : ℕ) → symbolOf (record { sort = s; place = suc start; bytes = bytesFrom bytes start end }) ≡ symbol
           → (symbolAt t ≡ symbol) × (startOf t ≡ start) × (endOf t ≡ end) → Scanned bytes size at t
-      scanned-run symbol t e f is =
+      scanned-run symbol t e is =
           scanned bytes size at t symbol start end is from (omega (arith, end-is)) end-within (λ _. omega (arith, end-is)) (ap symbolIn first-run ∙ e)
           (ap placeIn first-run ∙ sym (add-one start)) (ap bytesIn first-run) (ap restOf first-run)
+
+  -- a word, and a number
+  module _ (within : start < size) (end : ℕ) (end-within : end ≤ size) where
+    pub scanned-word : (symbol t : ℕ) → letter ≡ sortOf (getD bytes start 0) → end ≡ start + 1 + runLength letter (drop (start + 1) text)
+        → symbol ≡ numberAmong 1 keywords (bytesFrom bytes start end)
+        → (symbolAt t ≡ symbol) × (startOf t ≡ start) × (endOf t ≡ end) → Scanned bytes size at t
+    unfolding symbolOf
+    scanned-word symbol t s e is-symbol is = scanned-run letter within s runs-letter end e end-within symbol t (sym is-symbol) is
+
+    pub scanned-number : (t : ℕ) → digit ≡ sortOf (getD bytes start 0) → end ≡ start + 1 + runLength digit (drop (start + 1) text)
+        → (symbolAt t ≡ s-number) × (startOf t ≡ start) × (endOf t ≡ end) → Scanned bytes size at t
+    unfolding symbolOf
+    scanned-number t s e is = scanned-run digit within s runs-digit end e end-within s-number t refl is

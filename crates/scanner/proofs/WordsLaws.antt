@@ -11,7 +11,7 @@ use lib.Dec.{eqb}
 use lib.ListN.{length, take, drop, getD, length-drop, drop-of-length-le}
 use lib.Seq.{drop-cons, length-take-le}
 use Rattle.model.specs.Bytes.{bytes as bytesOf}
-use Rattle.grammar.specs.Symbols.{keywords, numberAmong, sameBytes}
+use Rattle.grammar.specs.Symbols.{keywords, otherWord, numberAmong, sameBytes}
 use Rattle.scanner.specs.Scanned.{bytesFrom}
 use Rattle.scanner.specs.Words.{operatorWords, filterWords, scopeWords, rangeWords}
 use Rattle.scanner.proofs.ScannerLaws.{part-more, part-none}
@@ -77,8 +77,8 @@ among-most n (k ∷ ks) w = at (sameBytes w (bytesOf k)) (among-most (suc n) ks 
   at true h = omega arith
   at false h = omega arith
 
-pub keyword-most : (w : List ℕ) → numberAmong 1 keywords w ≤ 24
-keyword-most w = among-most 1 keywords w
+pub keyword-most : (w : List ℕ) (r : ℕ) → r ≡ numberAmong 1 keywords w → r ≤ otherWord
+keyword-most w r e = omega (arith, e, among-most 1 keywords w)
 
 -- one row of keywords: the word is in it, or in a row behind it
 among-either : (n : ℕ) (ks ls : List String) (w : List ℕ)

@@ -1,3 +1,8 @@
+-- Blanks are passed; then the end, a run or one byte is the first token.
+use mathlib.Core.Path.{sym, _∙_}
+use native.Mathlib.Omega.{arith}
+use Rattle.scanner.proofs.ScannerLaws.{scanned-end, scanned-word, scanned-number, scanned-sign}
+use Rattle.scanner.proofs.WordsLaws.{keyword-most}
 use borrow.Author.Needs.{needs}
 use Rattle.scanner.proofs.token_at.Statement.{statement}
 use Rattle.scanner.proofs.token_at.Tie as tie
@@ -18,7 +23,7 @@ token-requires c κs = search needs
 
 -- src/lib.rt:78:9
 returns : tie.Need-returns
-returns c = ?
+returns c = scanned-end _ _ _ _ (c .before .before .before .pre .held) (c .before .before .run-end .ensures .0) (c .before .before .run-end .ensures .1 .0) (c .before .if1 .taken) _ (c .token .ensures)
 
 -- src/lib.rt:80:24
 element-copy-out-sort-of : tie.Need-element-copy-out-sort-of
@@ -42,11 +47,13 @@ word-symbol-requires c κs = search needs
 
 -- src/lib.rt:83:9
 token-requires-2 : tie.Need-token-requires-2
-token-requires-2 c κs = ?
+token-requires-2 c κs = (omega (arith, keyword-most _ _ (c .word-symbol .ensures)), search needs, search needs)
 
 -- src/lib.rt:83:9
 returns-2 : tie.Need-returns-2
-returns-2 c = ?
+returns-2 c = 
+    scanned-word _ _ _ _ (c .before .before .before .before .before .before .before .before .pre .held) (c .before .before .before .before .before .before .before .run-end .ensures .0) (c .before .before .before .before .before .before .before .run-end .ensures .1 .0) (omega (arith, c .before .before .before .before .before .before .before .run-end .ensures .1 .1, c .before .before .before .before .before .before .if1 .left)) _ (c .before .before .run-end2 .ensures .1 .1) _ _
+    (sym (c .before .before .before .if2 .taken) ∙ c .before .before .before .before .sort-of .ensures .0) (c .before .before .run-end2 .ensures .0) (c .before .word-symbol .ensures) (c .token2 .ensures)
 
 -- src/lib.rt:86:39
 add-run-end-2 : tie.Need-add-run-end-2
@@ -62,7 +69,9 @@ token-requires-3 c κs = search needs
 
 -- src/lib.rt:87:9
 returns-3 : tie.Need-returns-3
-returns-3 c = ?
+returns-3 c = 
+    scanned-number _ _ _ _ (c .before .before .before .before .before .before .before .before .pre .held) (c .before .before .before .before .before .before .before .run-end .ensures .0) (c .before .before .before .before .before .before .before .run-end .ensures .1 .0) (omega (arith, c .before .before .before .before .before .before .before .run-end .ensures .1 .1, c .before .before .before .before .before .before .if1 .left)) _ (c .before .run-end3 .ensures .1 .1) _
+    (sym (c .before .before .if3 .taken) ∙ c .before .before .before .before .sort-of .ensures .0) (c .before .run-end3 .ensures .0) (c .token3 .ensures)
 
 -- src/lib.rt:89:11
 add-token : tie.Need-add-token
@@ -78,7 +87,8 @@ token-requires-4 c κs = search needs
 
 -- src/lib.rt:72:1
 returns-4 : tie.Need-returns-4
-returns-4 c = ?
+returns-4 c = 
+    scanned-sign _ _ _ _ (c .before .before .before .before .before .before .before .pre .held) (c .before .before .before .before .before .before .run-end .ensures .0) (c .before .before .before .before .before .before .run-end .ensures .1 .0) _ (omega (arith, c .before .before .before .before .before .before .run-end .ensures .1 .1, c .before .before .before .before .before .if1 .left)) (c .before .before .before .sort-of .ensures .0) (c .before .before .if2 .left) (c .before .if3 .left) _ (c .token4 .ensures)
 
 pub token-at-spec : {M : Type 1} → statement M
 token-at-spec =
