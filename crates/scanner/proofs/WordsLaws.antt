@@ -1,5 +1,5 @@
 -- What the comparison of words and the search for a keyword rest on.
-use Prim.Native.Nat.{ℕ, zero, suc, _+_, _-_, _≤_, _<_}
+use Prim.Native.Nat.{ℕ, suc, _+_, _-_, _≤_, _<_}
 use Prim.Native.String.{String}
 use native.Mathlib.Omega.{arith}
 use native.Mathlib.Numerals.{add-one}
@@ -8,12 +8,11 @@ use mathlib.Core.Bool.{Bool, true, false, _&&_, cond}
 use mathlib.Core.List.{List, [], _∷_, _++_}
 use borrow.Author.Tests.{ne-eqb, eq-eqb}
 use lib.Dec.{eqb}
-use lib.ListN.{length, take, drop, getD, length-drop, drop-of-length-le}
+use lib.ListN.{length, drop, getD, length-drop, drop-of-length-le}
 use lib.Seq.{drop-cons, length-take-le}
 use Rattle.model.specs.Bytes.{bytes as bytesOf}
 use Rattle.grammar.specs.Symbols.{keywords, otherWord, numberAmong, sameBytes}
-use Rattle.scanner.specs.Scanned.{bytesFrom}
-use Rattle.scanner.specs.Words.{operatorWords, filterWords, scopeWords, rangeWords}
+use Rattle.scanner.specs.Scanned.{Inside, bytesFrom}
 use Rattle.scanner.proofs.ScannerLaws.{part-more, part-none}
 
 -- ---- bytes, compared one by one
@@ -28,7 +27,7 @@ same-lengths (x ∷ xs) (y ∷ ys) h = at (eqb x y) (same-lengths xs ys (λ q. h
   at true e = e
   at false e = refl
 
-module _ (bytes word : List ℕ) (start end : ℕ) (upto : start ≤ end) (held : end ≤ length bytes) where
+module _ (bytes word : List ℕ) (start end : ℕ) (inside : Inside bytes end start) where
   pub spells-longer : ¬ (end - start ≡ length word) → false ≡ sameBytes (bytesFrom bytes start end) word
   spells-longer h =
       let long : length (bytesFrom bytes start end) ≡ end - start
@@ -40,7 +39,7 @@ module _ (bytes word : List ℕ) (start end : ℕ) (upto : start ≤ end) (held 
     unfolding sameBytes
     spells-differ h f =
         let k : start + i < end = omega arith in
-        rw (part-more bytes (start + i) end k held, drop-cons word i 0 h, ne-eqb (getD bytes (start + i) 0) (getD word i 0) f) at left
+        rw (part-more bytes (start + i) end k (inside .held), drop-cons word i 0 h, ne-eqb (getD bytes (start + i) 0) (getD word i 0) f) at left
 
     pub spells-next : i < length word → getD bytes (start + i) 0 ≡ getD word i 0 → sameBytes (bytesFrom bytes (start + (i + 1)) end) (drop (i + 1) word) ≡ whole
     unfolding sameBytes
@@ -48,7 +47,7 @@ module _ (bytes word : List ℕ) (start end : ℕ) (upto : start ≤ end) (held 
         let k : start + i < end = omega arith in
         let n : start + (i + 1) ≡ start + i + 1 = omega arith in
         let next : sameBytes (bytesFrom bytes (start + i + 1) end) (drop (suc i) word) ≡ whole
-        = rw (part-more bytes (start + i) end k held, drop-cons word i 0 h, eq-eqb (getD bytes (start + i) 0) (getD word i 0) e) at left in
+        = rw (part-more bytes (start + i) end k (inside .held), drop-cons word i 0 h, eq-eqb (getD bytes (start + i) 0) (getD word i 0) e) at left in
         rw (n, add-one i) next
 
     pub spells-done : length word ≤ i → true ≡ whole

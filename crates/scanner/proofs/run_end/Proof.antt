@@ -31,8 +31,9 @@ sort-of-requires c κs = search needs
 
 -- src/lib.rt:56:13
 returns : tie.Need-returns Inv-loop μ-loop
-returns c = 
-    (run-stop _ _ _ _ _ (c .before .before .before .before .before .pre .held) _ (c .before .before .before .loop-test .taken) (c .before .sort-of .ensures .0) (c .if1 .taken) (c .before .before .before .before .loop .inv .2), search needs)
+returns c =
+    let l = c .before .before .before in
+    (run-stop _ _ _ _ _ (l .before .before .pre .held) _ (l .loop-test .taken) (c .before .sort-of .ensures .0) (c .if1 .taken) (l .before .loop .inv .2), search needs)
 
 -- src/lib.rt:58:9
 add-i : tie.Need-add-i Inv-loop μ-loop
@@ -44,9 +45,10 @@ loop-less c = search needs
 
 -- src/lib.rt:53:5
 loop-again : tie.Need-loop-again Inv-loop μ-loop
-loop-again c = 
-    ( search needs, search needs
-    , run-step _ _ _ _ _ (c .before .before .before .before .before .pre .held) _ (c .before .before .before .loop-test .taken) (c .before .sort-of .ensures .0) (c .if1 .left) (c .before .before .before .before .loop .inv .2))
+loop-again c =
+    let l = c .before .before .before in
+    let next = run-step _ _ _ _ _ (l .before .before .pre .held) _ (l .loop-test .taken) (c .before .sort-of .ensures .0) (c .if1 .left) (l .before .loop .inv .2) in
+    (search needs, search needs, next)
 
 -- src/lib.rt:47:1
 returns-2 : tie.Need-returns-2 Inv-loop μ-loop

@@ -51,9 +51,11 @@ token-requires-2 c κs = (omega (arith, keyword-most _ _ (c .word-symbol .ensure
 
 -- src/lib.rt:83:9
 returns-2 : tie.Need-returns-2
-returns-2 c = 
-    scanned-word _ _ _ _ (c .before .before .before .before .before .before .before .before .pre .held) (c .before .before .before .before .before .before .before .run-end .ensures .0) (c .before .before .before .before .before .before .before .run-end .ensures .1 .0) (omega (arith, c .before .before .before .before .before .before .before .run-end .ensures .1 .1, c .before .before .before .before .before .before .if1 .left)) _ (c .before .before .run-end2 .ensures .1 .1) _ _
-    (sym (c .before .before .before .if2 .taken) ∙ c .before .before .before .before .sort-of .ensures .0) (c .before .before .run-end2 .ensures .0) (c .before .word-symbol .ensures) (c .token2 .ensures)
+returns-2 c =
+    let sorted = c .before .before .before .before in
+    let ran = sorted .before .before .before in
+    scanned-word _ _ _ _ (ran .before .pre .held) (ran .run-end .ensures .0) (ran .run-end .ensures .1 .0) (omega (arith, ran .run-end .ensures .1 .1, sorted .before .before .if1 .left)) _ (c .before .before .run-end2 .ensures .1 .1) _ _
+    (sym (c .before .before .before .if2 .taken) ∙ sorted .sort-of .ensures .0) (c .before .before .run-end2 .ensures .0) (c .before .word-symbol .ensures) (c .token2 .ensures)
 
 -- src/lib.rt:86:39
 add-run-end-2 : tie.Need-add-run-end-2
@@ -69,9 +71,11 @@ token-requires-3 c κs = search needs
 
 -- src/lib.rt:87:9
 returns-3 : tie.Need-returns-3
-returns-3 c = 
-    scanned-number _ _ _ _ (c .before .before .before .before .before .before .before .before .pre .held) (c .before .before .before .before .before .before .before .run-end .ensures .0) (c .before .before .before .before .before .before .before .run-end .ensures .1 .0) (omega (arith, c .before .before .before .before .before .before .before .run-end .ensures .1 .1, c .before .before .before .before .before .before .if1 .left)) _ (c .before .run-end3 .ensures .1 .1) _
-    (sym (c .before .before .if3 .taken) ∙ c .before .before .before .before .sort-of .ensures .0) (c .before .run-end3 .ensures .0) (c .token3 .ensures)
+returns-3 c =
+    let sorted = c .before .before .before .before in
+    let ran = sorted .before .before .before in
+    scanned-number _ _ _ _ (ran .before .pre .held) (ran .run-end .ensures .0) (ran .run-end .ensures .1 .0) (omega (arith, ran .run-end .ensures .1 .1, sorted .before .before .if1 .left)) _ (c .before .run-end3 .ensures .1 .1) _
+    (sym (c .before .before .if3 .taken) ∙ sorted .sort-of .ensures .0) (c .before .run-end3 .ensures .0) (c .token3 .ensures)
 
 -- src/lib.rt:89:11
 add-token : tie.Need-add-token
@@ -87,8 +91,10 @@ token-requires-4 c κs = search needs
 
 -- src/lib.rt:72:1
 returns-4 : tie.Need-returns-4
-returns-4 c = 
-    scanned-sign _ _ _ _ (c .before .before .before .before .before .before .before .pre .held) (c .before .before .before .before .before .before .run-end .ensures .0) (c .before .before .before .before .before .before .run-end .ensures .1 .0) _ (omega (arith, c .before .before .before .before .before .before .run-end .ensures .1 .1, c .before .before .before .before .before .if1 .left)) (c .before .before .before .sort-of .ensures .0) (c .before .before .if2 .left) (c .before .if3 .left) _ (c .token4 .ensures)
+returns-4 c =
+    let sorted = c .before .before .before in
+    let ran = sorted .before .before .before in
+    scanned-sign _ _ _ _ (ran .before .pre .held) (ran .run-end .ensures .0) (ran .run-end .ensures .1 .0) _ (omega (arith, ran .run-end .ensures .1 .1, sorted .before .before .if1 .left)) (sorted .sort-of .ensures .0) (c .before .before .if2 .left) (c .before .if3 .left) _ (c .token4 .ensures)
 
 pub token-at-spec : {M : Type 1} → statement M
 token-at-spec =

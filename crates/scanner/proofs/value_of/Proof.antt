@@ -71,9 +71,13 @@ loop-less c = search needs
 
 -- src/lib.rt:137:5
 loop-again : tie.Need-loop-again Inv-loop μ-loop
-loop-again c = 
-    ( search needs, omega (arith, c .capped .ensures)
-    , value-step _ _ _ _ _ _ _ (c .before .before .before .loop-test .taken) (omega (arith, c .before .before .before .before .before .before .before .pre .held, c .before .before .before .before .before .before .end-of .ensures)) (c .before .digit-of .ensures .0) (c .capped .ensures) (c .before .before .before .before .loop .inv .2))
+loop-again c =
+    let l = c .before .before .before in
+    let ended = l .before .before .before in (
+      search needs,
+      omega (arith, c .capped .ensures),
+      value-step _ _ _ _ _ _ _ (l .loop-test .taken) (omega (arith, ended .before .pre .held, ended .end-of .ensures)) (c .before .digit-of .ensures .0) (c .capped .ensures) (l .before .loop .inv .2),
+    )
 
 -- src/lib.rt:130:1
 returns : tie.Need-returns Inv-loop μ-loop

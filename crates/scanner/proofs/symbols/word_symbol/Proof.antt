@@ -34,7 +34,7 @@ filter-word-requires c κs = search needs
 
 -- src/symbols.rt:198:9
 returns-2 : tie.Need-returns-2
-returns-2 c = 
+returns-2 c =
     among-first 6 filterWords pastFilters _ _ (c .before .filter-word .ensures) (c .if2 .taken)
     ∙ among-rest 1 operatorWords pastOperators _ _ (c .before .before .before .operator-word .ensures) (c .before .before .if1 .left)
 
@@ -44,7 +44,7 @@ scope-word-requires c κs = search needs
 
 -- src/symbols.rt:202:9
 returns-3 : tie.Need-returns-3
-returns-3 c = 
+returns-3 c =
     among-first 13 scopeWords rangeWords _ _ (c .before .scope-word .ensures) (c .if3 .taken)
     ∙ among-rest 6 filterWords pastFilters _ _ (c .before .before .before .filter-word .ensures) (c .before .before .if2 .left)
     ∙ among-rest 1 operatorWords pastOperators _ _ (c .before .before .before .before .before .operator-word .ensures) (c .before .before .before .before .if1 .left)
@@ -55,7 +55,7 @@ range-word-requires c κs = search needs
 
 -- src/symbols.rt:188:1
 returns-4 : tie.Need-returns-4
-returns-4 c = 
+returns-4 c =
     c .range-word .ensures
     ∙ among-rest 13 scopeWords rangeWords _ _ (c .before .before .scope-word .ensures) (c .before .if3 .left)
     ∙ among-rest 6 filterWords pastFilters _ _ (c .before .before .before .before .filter-word .ensures) (c .before .before .before .if2 .left)
