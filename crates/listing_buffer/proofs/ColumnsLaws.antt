@@ -13,7 +13,8 @@ use Rattle.store.specs.Layout.{Holds}
 use Rattle.store.specs.Stream.{MatchHolds}
 use Rattle.store.proofs.DecodeLaws.{strings-hold}
 use Rattle.store.proofs.LayoutLaws.{length-strsOf}
-use Rattle.store.proofs.MemoryLaws.{sets-append, getD-held}
+use Rattle.model.proofs.SetsLaws.{sets-append}
+use Rattle.store.proofs.MemoryLaws.{getD-held}
 use Rattle.listing_buffer.specs.Columns.{everySecond, columnIn}
 
 -- ---- everySecond

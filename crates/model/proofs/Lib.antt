@@ -1,6 +1,7 @@
 -- The laws that the code and the demands rest on, a file for each module of specs/.
 pub mod TestsLaws
 pub mod ListsLaws
+pub mod SetsLaws
 pub mod EveryLaws
 pub mod SectionLaws
 pub mod SelectionLaws

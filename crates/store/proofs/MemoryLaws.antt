@@ -9,13 +9,10 @@ use mathlib.Core.Logic.{_⊎_, inl, inr, ⊎-elim}
 use lib.ListN.{length, take, drop, getD, set, length-append, length-drop, take-append-drop}
 use lib.Seq.{sets, length-sets, sets-eq, set-comm, drop-at, take-add, drop-drop, take-set-le, drop-set-add, drop-set-lt}
 use lib.Seq.{getD-set-other, getD-take, getD-drop, length-take-le, take-take, take-suc, take-append-seam, drop-append-seam}
+use Rattle.model.proofs.SetsLaws.{sets-append}
 use Rattle.store.specs.Layout.{Holds}
 
 -- ---- sets
-
-pub sets-append : (l : List ℕ) (i : ℕ) (xs ys : List ℕ) → sets l i (xs ++ ys) ≡ sets (sets l i xs) (i + length xs) ys
-sets-append l i [] ys = ap (λ k. sets l k ys) (omega arith)
-sets-append l i (x ∷ xs) ys = sets-append (set l i x) (suc i) xs ys ∙ ap (λ k. sets (sets (set l i x) (suc i) xs) k ys) (omega arith)
 
 -- a store below a run of stores, and a run below a run, may come first
 pub set-sets : (l : List ℕ) (i : ℕ) (xs : List ℕ) (j v : ℕ) → j < i → set (sets l i xs) j v ≡ sets (set l j v) i xs

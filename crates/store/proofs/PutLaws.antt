@@ -15,7 +15,8 @@ use Rattle.store.specs.Layout.{Holds, headerBetween, headerOf, matchLeng
 use Rattle.store.specs.Indices.{ClosingMatch, Counts}
 use Rattle.store.specs.Put.{Put}
 use Rattle.store.specs.Stream.{MatchHolds}
-use Rattle.store.proofs.MemoryLaws.{sets-append, sets-front, sets-held, holds-written, holds-other, holds-part}
+use Rattle.model.proofs.SetsLaws.{sets-append}
+use Rattle.store.proofs.MemoryLaws.{sets-front, sets-held, holds-written, holds-other, holds-part}
 use Rattle.store.proofs.LayoutLaws.{length-strsOf, matches-kept, matches-dropped}
 use Rattle.store.proofs.DecodeLaws.{length-held}
 

@@ -7,7 +7,7 @@ use lib.ListN.{length, take, drop, getD, set}
 use lib.Seq.{sets, take-all, length-take-le}
 use Rattle.model.specs.Section.{size}
 use Rattle.text.specs.Input.{numberAt, numbersOf, sectionPart, selectionPart}
-use Rattle.text.proofs.SetsLaws.{sets-more, sets-all}
+use Rattle.model.proofs.SetsLaws.{sets-more, sets-all}
 
 -- ---- numbersOf
 

@@ -1,4 +1,3 @@
-pub mod SetsLaws
 pub mod InputLaws
 pub mod PrintedLaws
 pub mod PutsLaws

@@ -1,7 +1,7 @@
 -- What the full listing answers and leaves in the buffer can be printed, as the complete AllMatches.
 use Rattle.ftlist.proofs.RunLaws.{listing-text}
 use Rattle.text.proofs.ProgramLaws.{listing-printable}
-use Rattle.text.proofs.SetsLaws.{take-written}
+use Rattle.model.proofs.SetsLaws.{take-written}
 use lib.ListN.{length}
 use mathlib.Core.Path.{_∙_}
 use borrow.Author.Needs.{needs}

@@ -1,5 +1,5 @@
 -- A refusal can be printed whatever the buffer holds.
-use Rattle.text.proofs.SetsLaws.{take-written}
+use Rattle.model.proofs.SetsLaws.{take-written}
 use Rattle.text.specs.Printable.{Printable}
 use Rattle.model.specs.Checks.{refusal}
 use Rattle.model.specs.declared.Listing.the-variants.{Refused}

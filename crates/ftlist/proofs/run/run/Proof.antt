@@ -1,7 +1,7 @@
 -- The tests of the input are the program's own; the numbers that it reads are the bytes'.
 use Rattle.ftlist.proofs.RunLaws.{program-text}
 use Rattle.text.proofs.ProgramLaws.{program-long, program-uneven}
-use Rattle.text.proofs.SetsLaws.{take-written}
+use Rattle.model.proofs.SetsLaws.{take-written}
 use lib.ListN.{length-take}
 use native.Mathlib.Omega.{arith}
 use mathlib.Core.Path.{sym, _∙_}

@@ -4,7 +4,7 @@ use native.Mathlib.Omega.{arith}
 use mathlib.Core.Path.{_≡_, _∙_}
 use lib.ListN.{length, take, length-set}
 use lib.Seq.{sets}
-use Rattle.text.proofs.SetsLaws.{sets-more, sets-all}
+use Rattle.model.proofs.SetsLaws.{sets-more, sets-all}
 use borrow.Author.Needs.{needs}
 use Rattle.text.proofs.words.put_word.Statement.{statement}
 use Rattle.text.proofs.words.put_word.Tie as tie

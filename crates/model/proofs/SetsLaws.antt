@@ -1,13 +1,15 @@
--- A loop that stores a list element by element: a turn, and the end. And what is stored at the front, read back.
-use Prim.Native.Nat.{ℕ, _+_, _≤_, _<_}
+-- Runs of stores: one after another, and a loop that stores a list element by element, a turn and the end. And what is stored at the front, read back.
+use Prim.Native.Nat.{ℕ, suc, _+_, _≤_, _<_}
 use native.Mathlib.Omega.{arith}
 use native.Mathlib.Numerals.{add-one}
 use mathlib.Core.Path.{_≡_, sym, ap, ap₂, _∙_}
 use mathlib.Core.List.{List, [], _∷_, _++_}
-use lib.ListN.{length, take, getD, set}
-use lib.Seq.{sets, take-suc, take-all, length-take-le, length-sets}
-use Rattle.store.specs.Layout.{Holds}
-use Rattle.store.proofs.MemoryLaws.{sets-append, holds-written}
+use lib.ListN.{length, take, drop, getD, set}
+use lib.Seq.{sets, sets-eq, take-suc, take-all, length-take-le, length-sets, take-append-seam}
+
+pub sets-append : (l : List ℕ) (i : ℕ) (xs ys : List ℕ) → sets l i (xs ++ ys) ≡ sets (sets l i xs) (i + length xs) ys
+sets-append l i [] ys = ap (λ k. sets l k ys) (omega arith)
+sets-append l i (x ∷ xs) ys = sets-append (set l i x) (suc i) xs ys ∙ ap (λ k. sets (sets (set l i x) (suc i) xs) k ys) (omega arith)
 
 module _ (b : List ℕ) (at : ℕ) (xs : List ℕ) (i : ℕ) where
   pub sets-more : i < length xs → set (sets b at (take i xs)) (at + i) (getD xs i 0) ≡ sets b at (take (i + 1) xs)
@@ -24,5 +26,4 @@ module _ (b : List ℕ) (at : ℕ) (xs : List ℕ) (i : ℕ) where
 pub take-written : (a xs : List ℕ) {b : List ℕ} (k : ℕ) → b ≡ sets a 0 xs → k ≡ length xs → k ≤ length b → take k b ≡ xs
 take-written a xs {b} k e f h =
     let n : length b ≡ length a = ap length e ∙ length-sets a 0 xs in
-    let held : Holds (sets a 0 xs) 0 xs = holds-written a 0 xs (omega arith) in
-    ap₂ take f e ∙ held .part
+    ap₂ take f (e ∙ sets-eq xs a 0 (omega arith)) ∙ take-append-seam xs (drop (0 + length xs) a)
