@@ -19,10 +19,12 @@ module _ {text : List ℕ} {at : ℕ} {bytes : List ℕ} {i p : ℕ} (c : Copyin
   pub copy-more : p < length text → i < maxText → (v : ℕ) → v ≡ getD text p 0 → Copying text at (set bytes i v) (i + 1) (p + 1)
   copy-more h k v e =
       let value : v ≡ getD (drop at text) i 0 = e ∙ ap (λ n. getD text n 0) (c .here) ∙ sym (getD-drop at text i 0) in
+      let zero-first : i ≡ 0 + i = omega arith in
       record {
         here = omega (arith, c .here);
         room = omega arith;
-        stored = ap (λ b. set b i v) (c .stored) ∙ ap (set (sets (replicate maxText 0) 0 (take i (drop at text))) i) value
+        stored = ap (λ b. set b i v) (c .stored) ∙ ap (λ x. set (sets (replicate maxText 0) 0 (take i (drop at text))) i x) value
+            ∙ ap (λ k. set (sets (replicate maxText 0) 0 (take i (drop at text))) k (getD (drop at text) i 0)) zero-first
             ∙ sets-more (replicate maxText 0) 0 (drop at text) i (omega (arith, c .here, length-drop at text));
       }
 

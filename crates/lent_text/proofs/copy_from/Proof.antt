@@ -3,6 +3,7 @@ use mathlib.Core.Path.{_≡_, refl, sym}
 use native.Mathlib.Omega.{arith}
 use Prim.Native.Nat.{_-_}
 use lib.ListN.{length}
+use borrow.Author.Needs.{needs}
 use Rattle.lent_text.proofs.CopyLaws.{Copying, copy-more, copy-full, copy-end}
 use Rattle.lent_text.proofs.copy_from.Statement.{statement}
 use Rattle.lent_text.proofs.copy_from.Tie as tie
@@ -10,18 +11,18 @@ use Rattle.lent_text.proofs.copy_from.Reads as reads
 use Rattle.lent_text.proofs.copy_from.Lts as lts
 
 abbrev Inv-loop : tie.InvT-loop
-Inv-loop text at bytes₀ i₀ p₀ bytes i p = Copying (text .now) at bytes i p
+Inv-loop text at bytes₀ i₀ p₀ bytes i p = Copying text at bytes i p
 
 abbrev μ-loop : tie.MeasureT-loop
-μ-loop text at bytes₀ i₀ p₀ bytes i p = length (text .now) - p
+μ-loop text at bytes₀ i₀ p₀ bytes i p = length text - p
 
 -- src/lib.rt:21:5
 loop-holds : tie.Need-loop-holds Inv-loop μ-loop
-loop-holds c = ?
+loop-holds c = record { here = omega arith; room = omega arith; stored = refl }
 
 -- src/lib.rt:23:13
 returns : tie.Need-returns Inv-loop μ-loop
-returns c = ?
+returns c = copy-full (c .before .before .loop .inv) (c .if1 .taken)
 
 -- src/lib.rt:25:20
 shared-slice-read-bytes : tie.Need-shared-slice-read-bytes Inv-loop μ-loop
@@ -45,11 +46,13 @@ loop-less c = search needs
 
 -- src/lib.rt:21:5
 loop-again : tie.Need-loop-again Inv-loop μ-loop
-loop-again c = ?
+loop-again c =
+    let l = c .before .before .before in
+    copy-more (l .loop .inv) (c .before .before .loop-test .taken) (omega (arith, l .loop .inv .room, c .before .if1 .left)) _ refl
 
 -- src/lib.rt:15:1
 returns-2 : tie.Need-returns-2 Inv-loop μ-loop
-returns-2 c = ?
+returns-2 c = copy-end (c .before .loop .inv) (c .loop-test .left)
 
 pub copy-from-spec : {M : Type 1} → statement M
 copy-from-spec =
