@@ -14,7 +14,8 @@ use Rattle.store.specs.Stream.{Remaining}
 use Rattle.store.proofs.DecodeLaws.{strings-counted}
 use Rattle.store.proofs.RowsLaws.{Rows, rows-start, rows-room, rows-step, rows-finish, map-flatMap}
 use Rattle.store.proofs.StreamLaws.{Next, next-counted, none-counted}
-use Rattle.listing_buffer.specs.Columns.{everySecond, columnIn}
+use Rattle.slices.specs.EverySecond.{everySecond}
+use Rattle.listing_buffer.specs.Columns.{columnIn}
 use Rattle.listing_buffer.proofs.ColumnsLaws.{column-held, length-column, length-columns}
 
 -- of the matches of list those in todo are left, at p; the others' numbers are written to b, which was b₀, from at to q

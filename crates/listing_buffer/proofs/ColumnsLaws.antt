@@ -1,7 +1,6 @@
 -- Every second number of a match as it lies in memory is a span, or a tag, of each of its strings, the includes' before the excludes'.
 use Prim.Native.Nat.{ℕ, zero, suc, _+_, _*_, _≤_}
 use native.Mathlib.Omega.{arith}
-use native.Mathlib.Numerals.{add-one}
 use mathlib.Core.Path.{_≡_, refl, sym, ap, ap₂, _∙_}
 use mathlib.Core.List.{List, [], _∷_, _++_, map, flatMap, append-nil}
 use lib.ListN.{length, getD, set, length-append}
@@ -13,37 +12,12 @@ use Rattle.store.specs.Layout.{Holds}
 use Rattle.store.specs.Stream.{MatchHolds}
 use Rattle.store.proofs.DecodeLaws.{strings-hold}
 use Rattle.store.proofs.LayoutLaws.{length-strsOf}
-use Rattle.model.proofs.SetsLaws.{sets-append}
 use Rattle.store.proofs.MemoryLaws.{getD-held}
-use Rattle.listing_buffer.specs.Columns.{everySecond, columnIn}
+use Rattle.slices.specs.EverySecond.{everySecond}
+use Rattle.slices.proofs.EverySecondLaws.{length-every, every-cons}
+use Rattle.listing_buffer.specs.Columns.{columnIn}
 
 -- ---- everySecond
-
-length-every : (l : List ℕ) (p n : ℕ) → length (everySecond l p n) ≡ n
-unfolding everySecond
-length-every l p zero = refl
-length-every l p (suc n) = ap suc (length-every l (p + 2) n)
-
-every-snoc : (l : List ℕ) (p n : ℕ) → everySecond l p (suc n) ≡ everySecond l p n ++ getD l (p + 2 * n) 0 ∷ []
-unfolding everySecond
-every-snoc l p zero = ap (λ k. getD l k 0 ∷ []) (omega arith)
-every-snoc l p (suc n) = ap (λ r. getD l p 0 ∷ r) (every-snoc l (p + 2) n ∙ ap (λ k. everySecond l (p + 2) n ++ getD l k 0 ∷ []) (omega arith))
-
-every-cons : (x : ℕ) (l : List ℕ) (p n : ℕ) → everySecond (x ∷ l) (suc p) n ≡ everySecond l p n
-unfolding everySecond
-every-cons x l p zero = refl
-every-cons x l p (suc n) = ap (λ r. getD l p 0 ∷ r) (ap (λ k. everySecond (x ∷ l) k n) (omega arith) ∙ every-cons x l (p + 2) n)
-
--- the loop that copies them: nothing yet, and one more
-pub copied-none : (mem b : List ℕ) (p q : ℕ) → b ≡ sets b q (everySecond mem p 0)
-unfolding everySecond
-copied-none mem b p q = refl
-
-pub copied-more : (mem b : List ℕ) (p q i : ℕ) → set (sets b q (everySecond mem p i)) (q + i) (getD mem (p + 2 * i) 0) ≡ sets b q (everySecond mem p (i + 1))
-copied-more mem b p q i =
-    let x = getD mem (p + 2 * i) 0 in
-    let one : everySecond mem p (i + 1) ≡ everySecond mem p i ++ x ∷ [] = ap (everySecond mem p) (add-one i) ∙ every-snoc mem p i in
-    sym (ap (sets b q) one ∙ sets-append b q (everySecond mem p i) (x ∷ []) ∙ ap (λ k. set (sets b q (everySecond mem p i)) (q + k) x) (length-every mem p i))
 
 -- what memory holds is read there
 every-held : {mem : List ℕ} {p : ℕ} (xs : List ℕ) → Holds mem p xs → (n k : ℕ) → k + 2 * n ≤ length xs + 1 → everySecond mem (p + k) n ≡ everySecond xs k n

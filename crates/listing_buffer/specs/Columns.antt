@@ -1,16 +1,12 @@
 -- The spans, or the tags, of a list as they lie in memory: every second number of each match.
-use Prim.Native.Nat.{ℕ, zero, suc, _+_, _≤_}
-use mathlib.Core.List.{List, [], _∷_, _++_}
+use Prim.Native.Nat.{ℕ, _+_, _≤_}
+use mathlib.Core.List.{List, _++_}
 use mathlib.Core.Path.{_≡_}
-use lib.ListN.{length, getD}
+use lib.ListN.{length}
 use Rattle.model.specs.Matches.{Match, stringsIn, strings}
+use Rattle.slices.specs.EverySecond.{everySecond}
 use Rattle.strings.specs.Strings.{strsOf}
 use Rattle.store.specs.Stream.{Remaining}
-
--- every second of the numbers from `from` on, n of them
-unfoldable pub everySecond : List ℕ → ℕ → ℕ → List ℕ
-everySecond l from zero = []
-everySecond l from (suc n) = getD l from 0 ∷ everySecond l (from + 2) n
 
 -- a number of each string of a match: its span for 0, its tag for 1
 unfoldable pub columnIn : ℕ → Match → List ℕ

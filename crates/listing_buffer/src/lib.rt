@@ -1,7 +1,7 @@
 // The listing of a list in a slot, written to the listing buffer.
 ghost use mathlib.Core.List.{flatMap, map};
 ghost use mathlib.Core.Path.{_≡_};
-ghost use Prim.Native.Nat.{_+_, _*_, _≤_};
+ghost use Prim.Native.Nat.{_+_, _≤_};
 ghost use lib.ListN.{length};
 ghost use lib.Seq.{sets};
 ghost use Rattle.model.specs.Answers.{listingNumbers};
@@ -9,19 +9,7 @@ ghost use Rattle.model.specs.Limits.{bufferLength};
 ghost use Rattle.model.specs.Matches.{stringsIn};
 ghost use Rattle.store.specs.Slot.{SlotAt};
 ghost use Rattle.store.specs.Stream.{StreamAt};
-ghost use Rattle.listing_buffer.specs.Columns.{ColumnAt, columnIn, everySecond};
-
-// Copies every second of the numbers from `from` on, n of them, to the buffer from q on.
-fn copy_every_second(mem: &[u32], from: usize, n: usize, buffer: &mut [u32], q: usize)
-    requires { ⌜ (from + 2 * n ≤ length (now mem) + 1) × (q + n ≤ length (now buffer)) ⌝ }
-    ensures { λ _. ⌜ now (buffer .exit) ≡ sets (now (buffer .entry)) q (everySecond (now (mem .entry)) from n) ⌝ }
-{
-    let mut i = 0;
-    while i < n {
-        buffer[q + i] = mem[from + 2 * i];
-        i += 1;
-    }
-}
+ghost use Rattle.listing_buffer.specs.Columns.{ColumnAt, columnIn};
 
 // "the M string counts": of the n matches from `first` on, to the buffer from q on.
 fn put_counts(mem: &[u32], first: usize, n: usize, buffer: &mut [u32], q: usize)
@@ -52,7 +40,7 @@ fn put_column(mem: &[u32], first: usize, n: usize, column: usize, buffer: &mut [
     while i < n {
         let bounds = store::bounds_at(mem, from);
         let strings = store::strings_in(mem[from]);
-        copy_every_second(mem, bounds.includes + column, strings, buffer, q);
+        slices::copy_every_second(mem, bounds.includes + column, strings, buffer, q);
         q += strings;
         from = bounds.end;
         i += 1;

@@ -1,5 +1,5 @@
 // A typed search: its codes as a selection.
-pub mod rules;
+pub mod rules; // the rules that call each other
 
 use flat_rules::steps;
 use model::MAX_CODES;
@@ -11,47 +11,17 @@ ghost use mathlib.Core.Path.{_≡_};
 ghost use Prim.Native.Nat.{_≤_};
 ghost use lib.ListN.{length, take};
 ghost use lib.Seq.{sets};
-ghost use Rattle.model.specs.Limits.{maxText};
-ghost use Rattle.grammar.specs.Grammar.{readText};
-ghost use Rattle.reader.specs.Selections.{Codes, codesRead, typedNumbers};
-
-// The lent text with a position in it.
-pub struct Reader<'a> {
-    pub text: &'a [u8],
-    pub at: usize,
-}
-
-// The bytes of a text from a position on, in an array. What has no room in it is left out.
-fn copy_from(text: &[u8], at: usize) -> [u8; 2048] {
-    let mut bytes = [0; 2048];
-    let mut i = 0;
-    while i < MAX_TEXT {
-        if at + i >= text.len() {
-            return bytes;
-        }
-        bytes[i] = text[at + i];
-        i += 1;
-    }
-    bytes
-}
-
-// A reader at the start of a text.
-fn reader_of<'a>(text: &'a [u8]) -> Reader<'a> {
-    Reader { text, at: 0 }
-}
-
-// What a reader has left.
-fn rest_of<'a>(reader: Reader<'a>) -> [u8; 2048] {
-    copy_from(reader.text, reader.at)
-}
-
-// The text as its reader has it.
-fn whole_text(text: &[u8]) -> [u8; 2048] {
-    rest_of(reader_of(text))
-}
+ghost use Rattle.model.specs.Limits.{maxCodes, maxText};
+ghost use Rattle.grammar.specs.Grammar.{outcomeOf, readText};
+ghost use Rattle.flat_rules.specs.Answers.{Says};
+ghost use Rattle.flat_rules.specs.Steps.{stepOf};
+ghost use Rattle.reader.specs.Selections.{InPairs, readingOf, spread, typedNumbers};
 
 // The whole text: FTSelection, and the end after it.
-fn whole(text: &[u8; 2048], size: usize, codes: &mut [u32; 128]) -> u64 {
+fn whole(text: &[u8; 2048], size: usize, codes: &mut [u32; 128]) -> u64
+    requires { ⌜ (size ≤ length (now text)) × (size ≤ maxText) ⌝ }
+    ensures { λ r. ⌜ Says (outcomeOf (take size (now (text .entry)))) (take size (now (text .entry))) (now (codes .entry)) (now (codes .exit)) 0 (stepOf r) ⌝ }
+{
     let step = rules::selection(text, size, 0, codes, 0);
     if steps::is_failed(step) {
         return step;
@@ -64,7 +34,10 @@ fn whole(text: &[u8; 2048], size: usize, codes: &mut [u32; 128]) -> u64 {
 }
 
 // The codes of a text, two numbers each.
-fn codes_of(text: &[u8], codes: &mut [u32; 128]) -> Reading {
+fn codes_of(text: &[u8], codes: &mut [u32; 128]) -> Reading
+    ensures { λ r. ⌜ r ≡ readingOf (readText (now (text .entry))) ⌝ }
+    ensures { λ _. ⌜ InPairs (readText (now (text .entry))) (now (codes .entry)) (now (codes .exit)) ⌝ }
+{
     let size = text.len();
     if size > MAX_TEXT {
         return Reading::Refused(Refusal {
@@ -72,7 +45,7 @@ fn codes_of(text: &[u8], codes: &mut [u32; 128]) -> Reading {
             place: 0,
         });
     }
-    let bytes = whole_text(text);
+    let bytes = lent_text::text_of(text);
     let step = whole(&bytes, size, codes);
     if steps::is_failed(step) {
         return Reading::Refused(Refusal {
@@ -85,28 +58,32 @@ fn codes_of(text: &[u8], codes: &mut [u32; 128]) -> Reading {
     }
 }
 
-// Codes as a selection: "m, m kinds, m operands".
-fn put_selection(codes: &[u32; 128], count: u32, selection: &mut [u32; 129]) {
+// Codes in pairs as a selection: "m, m kinds, m operands".
+fn put_selection(codes: &[u32], count: u32, selection: &mut [u32])
+    requires { ⌜ (count ≤ maxCodes) × (128 ≤ length (now codes)) × (129 ≤ length (now selection)) ⌝ }
+    ensures { λ _. ⌜ now (selection .exit) ≡ sets (now (selection .entry)) 0 (spread (now (codes .entry)) count) ⌝ }
+{
     let m = count as usize;
     selection[0] = count;
-    let mut i = 0;
-    while i < m {
-        selection[1 + i] = codes[2 * i];
-        selection[1 + m + i] = codes[2 * i + 1];
-        i += 1;
-    }
+    slices::copy_every_second(codes, 0, m, selection, 1);
+    slices::copy_every_second(codes, 1, m, selection, 1 + m);
 }
 
-// The codes of a text as a selection. Of over 64 codes only their number is put down.
-pub fn read(text: &[u8], selection: &mut [u32; 129]) -> Reading {
+// The codes of a text as a selection. Of over 64 codes their number alone is put down.
+pub fn read(text: &[u8], selection: &mut [u32]) -> Reading
+    requires { ⌜ 129 ≤ length (now selection) ⌝ }
+    ensures { λ r. ⌜ r ≡ readingOf (readText (now (text .entry))) ⌝ }
+    ensures { λ _. ⌜ now (selection .exit) ≡ sets (now (selection .entry)) 0 (typedNumbers (readText (now (text .entry)))) ⌝ }
+{
     let mut codes = [0; 128];
     let reading = codes_of(text, &mut codes);
-    if let Reading::Read { codes: count } = reading {
-        if count <= MAX_CODES {
-            put_selection(&codes, count, selection);
-        } else {
-            selection[0] = count;
-        }
+    let Reading::Read { codes: count } = reading else {
+        return reading;
+    };
+    if count <= MAX_CODES {
+        put_selection(&codes, count, selection);
+    } else {
+        selection[0] = count;
     }
     reading
 }

@@ -1,7 +1,10 @@
 // Lent slices of u32: a size first, then two parallel arrays. Any slice of any length may come in.
 ghost use mathlib.Core.Path.{_≡_};
-ghost use lib.ListN.{getD};
+ghost use Prim.Native.Nat.{_+_, _*_, _≤_};
+ghost use lib.ListN.{getD, length};
+ghost use lib.Seq.{sets};
 ghost use Rattle.model.specs.Section.{secondAt, wellSized};
+ghost use Rattle.slices.specs.EverySecond.{everySecond};
 
 // The number at an index, 0 past the end.
 pub fn number_at(lent: &[u32], i: usize) -> u32
@@ -30,4 +33,16 @@ pub fn well_sized(lent: &[u32], least: u32, most: u32) -> bool
         return false;
     }
     lent.len() == 1 + 2 * (size as usize)
+}
+
+// Copies every second of the numbers from `from` on, n of them, to the buffer from q on.
+pub fn copy_every_second(mem: &[u32], from: usize, n: usize, buffer: &mut [u32], q: usize)
+    requires { ⌜ (from + 2 * n ≤ length (now mem) + 1) × (q + n ≤ length (now buffer)) ⌝ }
+    ensures { λ _. ⌜ now (buffer .exit) ≡ sets (now (buffer .entry)) q (everySecond (now (mem .entry)) from n) ⌝ }
+{
+    let mut i = 0;
+    while i < n {
+        buffer[q + i] = mem[from + 2 * i];
+        i += 1;
+    }
 }

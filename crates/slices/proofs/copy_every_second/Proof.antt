@@ -5,10 +5,10 @@ use borrow.Author.Needs.{needs}
 use mathlib.Core.Path.{_≡_, refl}
 use lib.ListN.{length, length-set}
 use lib.Seq.{sets}
-use Rattle.listing_buffer.specs.Columns.{everySecond}
-use Rattle.listing_buffer.proofs.ColumnsLaws.{copied-none, copied-more}
-use Rattle.listing_buffer.proofs.copy_every_second.Statement.{statement}
-use Rattle.listing_buffer.proofs.copy_every_second.Tie as tie
+use Rattle.slices.specs.EverySecond.{everySecond}
+use Rattle.slices.proofs.EverySecondLaws.{copied-none, copied-more}
+use Rattle.slices.proofs.copy_every_second.Statement.{statement}
+use Rattle.slices.proofs.copy_every_second.Tie as tie
 
 abbrev Inv-loop : tie.InvT-loop
 Inv-loop mem from n buffer₀ q i₀ buffer i = (i ≤ n) × (buffer ≡ sets buffer₀ q (everySecond mem from i)) × (length buffer ≡ length buffer₀)

@@ -1,0 +1,2 @@
+-- What the reader's contracts say.
+pub mod Selections
