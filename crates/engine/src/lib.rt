@@ -1,15 +1,23 @@
-// The engine's calls. None has a requires: any slices of any lengths may come in, and each gets a result or one refusal.
+// The engine's calls. None has a requires: any slices of any lengths may come in, and each gets a result or one refusal. Of a typed call a contract says
+// what it answers for the answer that its text has; every text has exactly one (theorems/specs/Demands.antt).
 use build::Part;
 use model::Checked;
 use model::Listing;
+use model::MAX_CODES;
 use model::Position;
 use model::Quick;
+use model::Reading;
+use model::Refusal;
+use model::SELECTION_LENGTH;
 ghost use mathlib.Core.Path.{_≡_};
 ghost use Prim.Native.Nat.{_≤_};
 ghost use lib.ListN.{length};
 ghost use lib.Seq.{sets};
 ghost use Rattle.model.specs.Answers.{listed as listedOf, listingAnswer, listingBuffer, listingNumbers, listingValues, quickAnswer, quickValues, snippetOf, snippetStart, standsAt};
 ghost use Rattle.model.specs.Limits.{bufferLength};
+ghost use Rattle.model.specs.TextAnswer.{AnswerOf, TextAnswer};
+ghost use Rattle.model.specs.Typed.{readAnswer, readSelection, readingValues, typedBuffer, typedListing, typedQuick};
+ghost use Rattle.reader.specs.Selections.{typedSize};
 ghost use Rattle.store.specs.Slot.{SlotAt};
 
 // The list in the first slot, put in the buffer and answered for.
@@ -66,4 +74,75 @@ pub fn snippet(section: &[u32], from: Position, to: Position) -> &[u32]
     ensures { λ r. ⌜ r .ptr ≡ standsAt (section .entry .ptr) (snippetStart (now (section .entry)) (from .0) (to .0)) ⌝ }
 {
     section::snippet(section, from, to)
+}
+
+// How many numbers the reader puts down of so many codes: a selection's, or where they are over 64 their number alone, on which refusal 3 falls.
+fn typed_size(codes: u32) -> usize
+    ensures { λ r. ⌜ r ≡ typedSize codes ⌝ }
+{
+    if codes <= MAX_CODES {
+        return 1 + 2 * codes as usize;
+    }
+    1
+}
+
+// The reader alone. The selection then holds the codes; the rest of it is unchanged, and all of it by a refusal.
+pub fn read(text: &[u8], selection: &mut [u32]) -> Reading
+    ensures { λ r. ⌜ ((a : TextAnswer) → AnswerOf (now (text .entry)) a → r ≡ readAnswer a (length (now (selection .entry)))) ⌝ }
+    ensures { λ r. ⌜ ((a : TextAnswer) → AnswerOf (now (text .entry)) a → readingValues r ≡ readingValues (readAnswer a (length (now (selection .entry))))) ⌝ }
+    ensures { λ _. ⌜ ((a : TextAnswer) → AnswerOf (now (text .entry)) a → now (selection .exit) ≡ readSelection a (now (selection .entry))) ⌝ }
+{
+    let mut own = [0; 129];
+    let reading = reader::read(text, &mut own);
+    let Reading::Read { codes } = reading else {
+        return reading;
+    };
+    if codes > MAX_CODES {
+        return Reading::Refused(Refusal {
+            number: 3,
+            place: 0,
+        });
+    }
+    if selection.len() < SELECTION_LENGTH {
+        return Reading::Refused(Refusal {
+            number: 8,
+            place: 0,
+        });
+    }
+    let size = typed_size(codes);
+    slices::copy(&own[..size], selection);
+    reading
+}
+
+// The full listing of a typed search: the text's error, or what the listing answers for its codes.
+pub fn typed_listing(section: &[u32], text: &[u8], work: &mut [u32], buffer: &mut [u32]) -> Listing
+    ensures { λ r. ⌜ ((a : TextAnswer) → AnswerOf (now (text .entry)) a → r ≡ typedListing (now (section .entry)) a (length (now (work .entry))) (length (now (buffer .entry)))) ⌝ }
+    ensures { λ r. ⌜ ((a : TextAnswer) → AnswerOf (now (text .entry)) a → listingValues r ≡ listingValues (typedListing (now (section .entry)) a (length (now (work .entry))) (length (now (buffer .entry))))) ⌝ }
+    ensures { λ _. ⌜ ((a : TextAnswer) → AnswerOf (now (text .entry)) a → now (buffer .exit) ≡ typedBuffer (now (section .entry)) a (length (now (work .entry))) (now (buffer .entry))) ⌝ }
+{
+    let mut selection = [0; 129];
+    let reading = reader::read(text, &mut selection);
+    match reading {
+        Reading::Refused(refusal) => Listing::Refused(refusal),
+        Reading::Read { codes } => {
+            let size = typed_size(codes);
+            listing(section, &selection[..size], work, buffer)
+        }
+    }
+}
+
+// The quick answer of a typed search: the text's error, or what the quick answer is for its codes.
+pub fn typed_quick(section: &[u32], text: &[u8], work: &mut [u32]) -> Quick
+    ensures { λ r. ⌜ ((a : TextAnswer) → AnswerOf (now (text .entry)) a → r ≡ typedQuick (now (section .entry)) a (length (now (work .entry)))) ⌝ }
+    ensures { λ r. ⌜ ((a : TextAnswer) → AnswerOf (now (text .entry)) a → quickValues r ≡ quickValues (typedQuick (now (section .entry)) a (length (now (work .entry))))) ⌝ }
+{
+    let mut selection = [0; 129];
+    let reading = reader::read(text, &mut selection);
+    match reading {
+        Reading::Refused(refusal) => Quick::Refused(refusal),
+        Reading::Read { codes } => {
+            let size = typed_size(codes);
+            quick(section, &selection[..size], work)
+        }
+    }
 }

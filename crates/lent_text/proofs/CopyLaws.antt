@@ -4,9 +4,9 @@ use native.Mathlib.Omega.{arith}
 use mathlib.Core.Path.{_≡_, sym, ap, _∙_}
 use mathlib.Core.List.{List}
 use lib.ListN.{length, take, drop, getD, set, replicate, length-drop}
-use lib.Seq.{sets, getD-drop, take-all, take-take, length-take-le}
+use lib.Seq.{sets, getD-drop, take-all}
 use Rattle.model.specs.Limits.{maxText}
-use Rattle.model.proofs.SetsLaws.{sets-more, take-written}
+use Rattle.model.proofs.SetsLaws.{sets-more-front}
 use Rattle.lent_text.specs.Copied.{copied}
 
 -- the first i bytes from `at` on are copied, and p is the next
@@ -19,13 +19,11 @@ module _ {text : List ℕ} {at : ℕ} {bytes : List ℕ} {i p : ℕ} (c : Copyin
   pub copy-more : p < length text → i < maxText → (v : ℕ) → v ≡ getD text p 0 → Copying text at (set bytes i v) (i + 1) (p + 1)
   copy-more h k v e =
       let value : v ≡ getD (drop at text) i 0 = e ∙ ap (λ n. getD text n 0) (c .here) ∙ sym (getD-drop at text i 0) in
-      let zero-first : i ≡ 0 + i = omega arith in
       record {
         here = omega (arith, c .here);
         room = omega arith;
         stored = ap (λ b. set b i v) (c .stored) ∙ ap (λ x. set (sets (replicate maxText 0) 0 (take i (drop at text))) i x) value
-            ∙ ap (λ k. set (sets (replicate maxText 0) 0 (take i (drop at text))) k (getD (drop at text) i 0)) zero-first
-            ∙ sets-more (replicate maxText 0) 0 (drop at text) i (omega (arith, c .here, length-drop at text));
+            ∙ sets-more-front (replicate maxText 0) (drop at text) i (omega (arith, c .here, length-drop at text));
       }
 
   pub copy-full : i ≡ maxText → bytes ≡ copied (drop at text)

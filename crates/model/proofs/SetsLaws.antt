@@ -22,6 +22,12 @@ module _ (b : List ℕ) (at : ℕ) (xs : List ℕ) (i : ℕ) where
   pub sets-all : length xs ≤ i → sets b at (take i xs) ≡ sets b at xs
   sets-all h = ap (sets b at) (take-all i xs h)
 
+-- a turn of the loop from the front
+pub sets-more-front : (b xs : List ℕ) (i : ℕ) → i < length xs → set (sets b 0 (take i xs)) i (getD xs i 0) ≡ sets b 0 (take (i + 1) xs)
+sets-more-front b xs i h =
+    let e : i ≡ 0 + i = omega arith in
+    ap (λ k. set (sets b 0 (take i xs)) k (getD xs i 0)) e ∙ sets-more b 0 xs i h
+
 -- what is put at the front of a slice, as the part that the caller takes
 pub take-written : (a xs : List ℕ) {b : List ℕ} (k : ℕ) → b ≡ sets a 0 xs → k ≡ length xs → k ≤ length b → take k b ≡ xs
 take-written a xs {b} k e f h =

@@ -1,5 +1,5 @@
 -- What the reader's functions say, by the answer of a text.
-use Prim.Native.Nat.{ℕ, _+_, _≤_}
+use Prim.Native.Nat.{ℕ, _+_, _*_, _≤_}
 use mathlib.Core.Bool.{cond}
 use mathlib.Core.List.{List, [], _∷_, _++_}
 use mathlib.Core.Path.{_≡_}
@@ -33,3 +33,7 @@ spread numbers m = m ∷ (everySecond numbers 0 m ++ everySecond numbers 1 m)
 abbrev pub typedNumbers : TextAnswer → List ℕ
 typedNumbers (codes cs) = cond (leb (length cs) maxCodes) (selectionOf cs) (length cs ∷ [])
 typedNumbers (error r) = []
+
+-- how many numbers that is
+abbrev pub typedSize : ℕ → ℕ
+typedSize m = cond (leb m maxCodes) (1 + 2 * m) 1

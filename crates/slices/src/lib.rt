@@ -46,3 +46,15 @@ pub fn copy_every_second(mem: &[u32], from: usize, n: usize, buffer: &mut [u32],
         i += 1;
     }
 }
+
+// Copies a slice to the start of another.
+pub fn copy(from: &[u32], to: &mut [u32])
+    requires { ⌜ length (now from) ≤ length (now to) ⌝ }
+    ensures { λ _. ⌜ now (to .exit) ≡ sets (now (to .entry)) 0 (now (from .entry)) ⌝ }
+{
+    let mut i = 0;
+    while i < from.len() {
+        to[i] = from[i];
+        i += 1;
+    }
+}

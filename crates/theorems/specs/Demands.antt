@@ -1,9 +1,10 @@
--- The three demands, sentence by sentence, over the definitions that the calls' contracts name (engine/src/lib.rt): the listing answers
--- `listingAnswer ..` and leaves `listingBuffer ..` in the buffer, the quick answer answers `quickAnswer ..`, the snippet is `snippetOf ..`. So what is
--- proved of these holds of the calls. proofs/ has a proof of each demand.
+-- The three demands, sentence by sentence, and document 02's F-1, over the definitions that the calls' contracts name (engine/src/lib.rt): the listing
+-- answers `listingAnswer ..` and leaves `listingBuffer ..` in the buffer, the quick answer answers `quickAnswer ..`, the snippet is `snippetOf ..`; for
+-- the answer of its text a typed call answers `typedListing ..`, `typedQuick ..`, `readAnswer ..`. So what is proved of these holds of the calls.
+-- proofs/ has a proof of each.
 -- Quotation marks enclose the demands' own words, or document 01's where it is named. `A ↔ B` is 'A exactly when B', `(x : A) × B` 'there is an x with
 -- B', `⊎` 'or', `¬` 'not'.
-use Prim.Native.Nat.{ℕ, _≤_, _<_}
+use Prim.Native.Nat.{ℕ, suc, _≤_, _<_}
 use mathlib.Core.Bool.{Bool, true, false, _&&_, cond}
 use mathlib.Core.List.{List, [], _∷_, _++_}
 use mathlib.Core.Logic.{_↔_, _⊎_}
@@ -11,21 +12,28 @@ use mathlib.Core.Option.{Option, some, none}
 use mathlib.Core.Path.{_≡_}
 use lib.Dec.{leb}
 use lib.ListN.{length, drop}
+use Rattle.model.specs.declared.Code.{Code}
 use Rattle.model.specs.declared.Listing.{Listing}
 use Rattle.model.specs.declared.Listing.the-variants.{Listed, Refused as ListingRefused}
 use Rattle.model.specs.declared.Quick.{Quick}
 use Rattle.model.specs.declared.Quick.the-variants.{Answered, Refused as QuickRefused}
+use Rattle.model.specs.declared.Reading.the-variants.{Read, Refused as ReadingRefused}
 use Rattle.model.specs.declared.Refusal.{Refusal}
 use Rattle.model.specs.Accepted.{ReportedOrNot}
 use Rattle.model.specs.AllMatches.{allMatches}
 use Rattle.model.specs.AllStrings.{AllList}
 use Rattle.model.specs.Answers.{completeList, listingAnswer, listingNumbers, listingBuffer, quickAnswer, snippetOf}
 use Rattle.model.specs.Checks.{refusal, wrongSection, faultyPosition, wrongSelection, unknownKind, wrongOperand, wrongShape, notUnderMildNot}
-use Rattle.model.specs.Limits.{maxMatches, maxStrings, workLength, bufferLength, radix}
+use Rattle.model.specs.Limits.{maxCodes, maxMatches, maxStrings, maxText, workLength, bufferLength, radix, selectionLength}
 use Rattle.model.specs.Lists.{Every}
 use Rattle.model.specs.Matches.{Match, strings}
+use Rattle.model.specs.Productions.{FTSelection}
 use Rattle.model.specs.Section.{size, sentenceAt, paragraphAt, sectionOf}
+use Rattle.model.specs.TextAnswer.{TextAnswer, codes, error, AnswerOf, NotAllowed, TooLarge}
+use Rattle.model.specs.Tokens.{Token, Tokens}
 use Rattle.model.specs.Trees.{Tree, placeOf, treeOf, parts}
+use Rattle.model.specs.Typed.{selectionOf, typedListing, typedBuffer, typedQuick, readAnswer, readSelection}
+use Rattle.model.specs.TypedExamples.{ExamplesHold}
 use Rattle.model.specs.Walk.{firstTooLong, walk, ownCount}
 use Rattle.model.specs.Walked.{walkBuilds, walkReaches}
 
@@ -212,3 +220,57 @@ pub record Demand3Of (section selection : List ℕ) (work : ℕ) : Type 0 where
 
 abbrev pub Demand3 : Type 0
 Demand3 = (section selection : List ℕ) (work : ℕ) → Demand3Of section selection work
+
+-- ---- document 02's F-1, typed searches
+
+-- The tokens of a text derive codes.
+abbrev pub Derives : List ℕ → List Code → Type 0
+Derives text cs = (ts : List Token) × Tokens 1 text ts × FTSelection ts cs
+
+-- F-1: "10 where the grammar doesn't allow it (or length + 1), else 11 for a word number over 4,294,967,295 or another number over 4,096"
+abbrev pub FailsAt : List ℕ → Refusal → Type 0
+FailsAt text r = (ts : List Token) × Tokens 1 text ts
+    × (((r .number ≡ 10) × NotAllowed ts (suc (length text)) (r .place)) ⊎ ((r .number ≡ 11) × TooLarge ts (suc (length text)) (r .place)))
+
+-- for a text: the reader reads the grammar and nothing else
+pub record ReaderOf (text : List ℕ) : Type 0 where
+  -- Every text has exactly one answer,
+  pub some-answer : (a : TextAnswer) × AnswerOf text a
+  pub one-answer : (a b : TextAnswer) → AnswerOf text a → AnswerOf text b → a ≡ b
+  -- codes exactly where its tokens derive them, and then no others,
+  pub codes-exactly : (cs : List Code) → AnswerOf text (codes cs) ↔ ((length text ≤ maxText) × Derives text cs)
+  pub codes-unique : (cs ds : List Code) → Derives text cs → Derives text ds → cs ≡ ds
+  -- an error exactly where the productions say so, or: "11 at place 0, first of all, for too long a text".
+  pub error-exactly : (r : Refusal)
+      → AnswerOf text (error r) ↔ (((maxText < length text) × (r ≡ refusal 11 0)) ⊎ ((length text ≤ maxText) × FailsAt text r))
+
+-- for a section, a text and its answer, working memory's length, the listing buffer and a lent selection: what the typed calls answer
+pub record TypedOf (section text : List ℕ) (a : TextAnswer) (work : ℕ) (buffer lent : List ℕ) : Type 0 where
+  -- "What a typed search answers is what its codes answer."
+  pub listing-of-codes : (cs : List Code) → AnswerOf text (codes cs)
+      → (typedListing section a work (length buffer) ≡ listingAnswer section (selectionOf cs) work (length buffer))
+      × (typedBuffer section a work buffer ≡ listingBuffer section (selectionOf cs) work buffer)
+  pub quick-of-codes : (cs : List Code) → AnswerOf text (codes cs) → typedQuick section a work ≡ quickAnswer section (selectionOf cs) work
+  -- The text's errors come "all before document 01's refusals": whatever section and memory are, and nothing is written.
+  pub error-first : (r : Refusal) → AnswerOf text (error r)
+      → ListingRefuses (typedListing section a work (length buffer)) r
+      × (typedBuffer section a work buffer ≡ buffer)
+      × QuickRefuses (typedQuick section a work) r
+      × (readAnswer a (length lent) ≡ ReadingRefused r)
+  -- Refusals 10 and 11 are the text's errors, the others those of its codes.
+  pub listing-error-exactly : (r : Refusal)
+      → (ListingRefuses (typedListing section a work (length buffer)) r × (10 ≤ r .number)) ↔ AnswerOf text (error r)
+  pub quick-error-exactly : (r : Refusal) → (QuickRefuses (typedQuick section a work) r × (10 ≤ r .number)) ↔ AnswerOf text (error r)
+  -- The reader alone gives the codes exactly where they are at most 64 and 129 numbers are lent, as a selection; the rest is unchanged,
+  pub read-exactly : (m : ℕ) → (readAnswer a (length lent) ≡ Read m)
+      ↔ ((cs : List Code) × AnswerOf text (codes cs) × (length cs ≡ m) × (m ≤ maxCodes) × (selectionLength ≤ length lent))
+  pub read-holds : (cs : List Code) (m : ℕ) → AnswerOf text (codes cs) → readAnswer a (length lent) ≡ Read m
+      → readSelection a lent ≡ selectionOf cs ++ drop (length (selectionOf cs)) lent
+  -- and all of it by a refusal.
+  pub read-unchanged : (r : Refusal) → readAnswer a (length lent) ≡ ReadingRefused r → readSelection a lent ≡ lent
+
+pub record TypedSearches : Type 0 where
+  pub reader : (text : List ℕ) → ReaderOf text
+  pub calls : (section text : List ℕ) (a : TextAnswer) (work : ℕ) (buffer lent : List ℕ) → AnswerOf text a → TypedOf section text a work buffer lent
+  -- model/specs/TypedExamples.antt
+  pub examples : ExamplesHold

@@ -4,10 +4,11 @@ use Rattle.theorems.proofs.demands_hold.Tie as tie
 use Rattle.theorems.proofs.Demand1.{demand-1}
 use Rattle.theorems.proofs.Demand2.{demand-2}
 use Rattle.theorems.proofs.Demand3.{demand-3}
+use Rattle.theorems.proofs.TypedSearches.{typed-searches}
 
 -- src/lib.rt:4:1
 returns : tie.Need-returns
-returns c = (demand-1, (demand-2, demand-3))
+returns c = (demand-1, (demand-2, (demand-3, typed-searches)))
 
 pub demands-hold-spec : {M : Type 1} → statement M
 demands-hold-spec = tie.close (tie.spec returns)
