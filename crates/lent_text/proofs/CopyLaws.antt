@@ -1,12 +1,12 @@
 -- A loop that copies a text from a position on into an array of zeros: how far it is, a turn, and its two ends.
 use Prim.Native.Nat.{ℕ, _+_, _≤_, _<_}
 use native.Mathlib.Omega.{arith}
-use mathlib.Core.Path.{_≡_, sym, ap, _∙_}
+use mathlib.Core.Path.{_≡_, refl, sym, ap, _∙_}
 use mathlib.Core.List.{List}
-use lib.ListN.{length, take, drop, getD, set, replicate, length-drop}
-use lib.Seq.{sets, getD-drop, take-all}
+use lib.ListN.{length, take, drop, getD, set, replicate, length-drop, length-replicate}
+use lib.Seq.{sets, length-sets, getD-drop, take-all}
 use Rattle.model.specs.Limits.{maxText}
-use Rattle.model.proofs.SetsLaws.{sets-more-front}
+use Rattle.model.proofs.SetsLaws.{sets-more-front, take-written}
 use Rattle.lent_text.specs.Copied.{copied}
 
 -- the first i bytes from `at` on are copied, and p is the next
@@ -36,3 +36,16 @@ module _ {text : List ℕ} {at : ℕ} {bytes : List ℕ} {i p : ℕ} (c : Copyin
       let all : length (drop at text) ≤ i = omega (arith, c .here, length-drop at text) in
       let over : length (drop at text) ≤ maxText = omega (arith, all, c .room) in
       c .stored ∙ ap (sets (replicate maxText 0) 0) (take-all i (drop at text) all ∙ sym (take-all maxText (drop at text) over))
+
+-- ---- copied
+
+pub length-copied : (text : List ℕ) → length (copied text) ≡ maxText
+unfolding copied
+length-copied text = length-sets (replicate maxText 0) 0 (take maxText text) ∙ length-replicate {A = ℕ} maxText 0
+
+-- a text that has room is there
+pub copied-text : (text : List ℕ) {bytes : List ℕ} → bytes ≡ copied text → length text ≤ maxText → take (length text) bytes ≡ text
+unfolding copied
+copied-text text e h =
+    let all : take maxText text ≡ text = take-all maxText text h in
+    take-written (replicate maxText 0) text (length text) (e ∙ ap (sets (replicate maxText 0) 0) all) refl (omega (arith, ap length e, length-copied text))

@@ -1,0 +1,2 @@
+pub mod SelectionsLaws
+pub mod WholeLaws

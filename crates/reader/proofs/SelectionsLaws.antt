@@ -1,0 +1,51 @@
+-- Codes in pairs as a selection.
+use Prim.Native.Nat.{ℕ, suc, _+_, _*_, _≤_}
+use native.Mathlib.Omega.{arith}
+use mathlib.Core.Path.{_≡_, refl, sym, ap, ap₂, _∙_}
+use mathlib.Core.List.{List, [], _∷_, _++_, map, flatMap}
+use lib.ListN.{length, set, getD, take, drop, replicate}
+use lib.Seq.{sets, sets-eq}
+use Rattle.model.specs.declared.Code.{Code}
+use Rattle.model.specs.Selection.{kindOf, operandOf}
+use Rattle.model.specs.Typed.{selectionOf}
+use Rattle.model.proofs.SetsLaws.{sets-append}
+use Rattle.slices.specs.EverySecond.{everySecond}
+use Rattle.slices.proofs.EverySecondLaws.{length-every, every-cons}
+use Rattle.flat_rules.specs.Answers.{pair, pairs}
+use Rattle.reader.specs.Selections.{spread}
+
+-- the number of codes, then one column and the other: what is stored is one list
+pub columns-stored : (s numbers : List ℕ) (m : ℕ) {s₁ s₂ : List ℕ} → s₁ ≡ sets (set s 0 m) 1 (everySecond numbers 0 m)
+    → s₂ ≡ sets s₁ (1 + m) (everySecond numbers 1 m) → s₂ ≡ sets s 0 (spread numbers m)
+columns-stored s numbers m e f =
+    let kinds = everySecond numbers 0 m in
+    let operands = everySecond numbers 1 m in
+    let end : 1 + m ≡ 1 + length kinds = ap (λ k. 1 + k) (sym (length-every numbers 0 m)) in
+    f ∙ ap (λ l. sets l (1 + m) operands) e ∙ ap (λ k. sets (sets (set s 0 m) 1 kinds) k operands) end ∙ sym (sets-append (set s 0 m) 1 kinds operands)
+
+-- each column of the pairs, whatever follows them
+module _ (rest : List ℕ) where
+  kinds-column : (cs : List Code) → everySecond (pairs cs ++ rest) 0 (length cs) ≡ map kindOf cs
+  unfolding everySecond pairs flatMap
+  kinds-column [] = refl
+  kinds-column (c ∷ cs) =
+      let l = pairs cs ++ rest in
+      ap (λ r. kindOf c ∷ r) (every-cons (kindOf c) (operandOf c ∷ l) 1 (length cs) ∙ every-cons (operandOf c) l 0 (length cs) ∙ kinds-column cs)
+
+  operands-column : (cs : List Code) → everySecond (pairs cs ++ rest) 1 (length cs) ≡ map operandOf cs
+  unfolding everySecond pairs flatMap
+  operands-column [] = refl
+  operands-column (c ∷ cs) =
+      let l = pairs cs ++ rest in
+      ap (λ r. operandOf c ∷ r) (every-cons (kindOf c) (operandOf c ∷ l) 2 (length cs) ∙ every-cons (operandOf c) l 1 (length cs) ∙ operands-column cs)
+
+-- codes that stand in pairs at an array's start
+pub spread-pairs : (cs : List Code) (entry : List ℕ) {numbers : List ℕ} {m : ℕ} → length (pairs cs) ≤ length entry → numbers ≡ sets entry 0 (pairs cs)
+    → m ≡ length cs → spread numbers m ≡ selectionOf cs
+unfolding selectionOf
+spread-pairs cs entry {numbers} h e f =
+    let rest = drop (0 + length (pairs cs)) entry in
+    let is : numbers ≡ pairs cs ++ rest = e ∙ sets-eq (pairs cs) entry 0 (omega arith) in
+    let spread-it : spread numbers (length cs) ≡ length cs ∷ (map kindOf cs ++ map operandOf cs) =
+    ap (λ l. spread l (length cs)) is ∙ ap₂ (λ ks os. length cs ∷ (ks ++ os)) (kinds-column rest cs) (operands-column rest cs) in
+    ap (spread numbers) f ∙ spread-it

@@ -1,0 +1,77 @@
+-- The whole text: a selection and the end, as the grammar's functions say it, and so the text's answer.
+use Prim.Native.Nat.{ℕ, suc, _+_, _-_, _≤_, _<_}
+use native.Mathlib.Omega.{arith}
+use mathlib.Core.Bool.{Bool, true, false, cond}
+use mathlib.Core.List.{List, [], _∷_, _++_, append-nil}
+use mathlib.Core.Path.{_≡_, refl, sym, ap, _∙_}
+use borrow.Author.Tests.{eq-eqb, ne-eqb, le-leb, lt-leb}
+use lib.Dec.{eqb, leb}
+use lib.ListN.{length, take}
+use lib.Seq.{sets, length-take-le}
+use Rattle.model.specs.declared.Code.{Code}
+use Rattle.model.specs.declared.Reading.{Reading}
+use Rattle.model.specs.declared.Reading.the-variants.{Read, Refused}
+use Rattle.model.specs.Checks.{refusal}
+use Rattle.model.specs.Limits.{maxCodes, maxText}
+use Rattle.model.specs.TextAnswer.{TextAnswer, codes, error}
+use Rattle.grammar.specs.Stream.{Stream, ends, token, restOf, streamAt}
+use Rattle.grammar.specs.Symbols.{symbolIn, noMore}
+use Rattle.grammar.specs.Grammar.{Outcome, failed, read, behind, _then_, expect, ftSelection, answerIn, outcomeOf, readText}
+use Rattle.grammar.proofs.SymbolsLaws.{symbol-more}
+use Rattle.scanner.specs.Scanned.{Scanned, startOf, symbolAt}
+use Rattle.flat_rules.specs.Answers.{Answers, Says, pairs}
+use Rattle.flat_rules.specs.Steps.{Step, reached, stopped}
+use Rattle.flat_rules.proofs.AnswersLaws.{then-failed, then-none, then-read}
+use Rattle.reader.specs.Selections.{InPairs, readingOf}
+
+-- nothing follows the end
+rest-end : (ts : Stream) → symbolIn ts ≡ noMore → restOf ts ≡ ts
+rest-end (ends p) e = refl
+rest-end (token t ts) e = absurd (symbol-more t e)
+
+module _ (bytes entry exit : List ℕ) (size : ℕ) (held : size ≤ length bytes) where
+  abbrev text : List ℕ
+  text = take size bytes
+
+  selection-says : {r : Step} → Answers (λ n. ftSelection (suc n)) bytes size 0 entry exit 0 r → Says (ftSelection (suc (length text)) (streamAt text 0)) text entry exit 0 r
+  selection-says a = a .says (length text) (omega (arith, length-take-le size bytes held))
+
+  pub whole-fails : {n p : ℕ} → Answers (λ k. ftSelection (suc k)) bytes size 0 entry exit 0 (stopped n p) → Says (outcomeOf text) text entry exit 0 (stopped n p)
+  unfolding Says outcomeOf
+  whole-fails a = then-failed (expect noMore) (selection-says a)
+
+  module _ {q m t : ℕ} (a : Answers (λ k. ftSelection (suc k)) bytes size 0 entry exit 0 (reached q m)) (s : Scanned bytes size q t) where
+    pub whole-goes-on : ¬ (symbolAt t ≡ noMore) → Says (outcomeOf text) text entry exit 0 (stopped 10 (startOf t + 1))
+    unfolding Says outcomeOf behind
+    whole-goes-on h =
+        let w = selection-says a in
+        let more : eqb (symbolIn (streamAt text q)) noMore ≡ false = ne-eqb _ _ (λ e. h (sym (s .symbol-is) ∙ e)) in
+        then-read (expect noMore) (w .is) ∙ rw (more) (ap (failed 10) (s .place-is))
+
+    pub whole-ends : symbolAt t ≡ noMore → Says (outcomeOf text) text entry exit 0 (reached q m)
+    unfolding Says outcomeOf
+    whole-ends h =
+        let w = selection-says a in
+        let at-end : symbolIn (streamAt text q) ≡ noMore = s .symbol-is ∙ h in
+        let ending : expect noMore (streamAt text q) ≡ read [] (streamAt text q) = rw (eq-eqb _ _ at-end) (ap (read []) (rest-end (streamAt text q) at-end)) in
+        record { codes = w .codes; is = then-none (expect noMore) (w .is) ending; wrote = w .wrote }
+
+-- ---- the text's answer
+
+pub text-too-long : (text : List ℕ) → maxText < length text → readText text ≡ error (refusal 11 0)
+unfolding readText
+text-too-long text h = rw (lt-leb (length text) maxText h)
+
+whole-answer : (text : List ℕ) → length text ≤ maxText → readText text ≡ answerIn (outcomeOf text)
+unfolding readText
+whole-answer text h = rw (le-leb (length text) maxText h)
+
+module _ (text bytes entry exit : List ℕ) (short : length text ≤ maxText) (is : take (length text) bytes ≡ text) where
+  pub text-fails : {n p : ℕ} → Says (outcomeOf (take (length text) bytes)) (take (length text) bytes) entry exit 0 (stopped n p) → readText text ≡ error (refusal n p)
+  unfolding Says
+  text-fails w = whole-answer text short ∙ ap (λ l. answerIn (outcomeOf l)) (sym is) ∙ ap answerIn w
+
+  pub text-reads : (q m : ℕ) → Says (outcomeOf (take (length text) bytes)) (take (length text) bytes) entry exit 0 (reached q m)
+      → (cs : List Code) × (readText text ≡ codes cs) × (m ≡ length cs) × (m ≤ maxCodes → exit ≡ sets entry 0 (pairs cs))
+  unfolding Says
+  text-reads q m w = (w .codes, whole-answer text short ∙ ap (λ l. answerIn (outcomeOf l)) (sym is) ∙ ap answerIn (w .is), omega (arith, w .wrote .counted), w .wrote .written)
