@@ -61,26 +61,33 @@ makes-most = record { makes = λ n h. record { kind-is = refl; operand-is = omeg
 pub makes-from : (a : ℕ) → Makes (λ n. Filtered (Distance a n)) 8 1 (a * 65536)
 makes-from a = record { makes = λ n h. record { kind-is = refl; operand-is = omega arith } }
 
--- ---- distance
+-- ---- numbers
+
+-- after a number that makes a code
+abbrev pub worded : (ℕ → Code) → ℕ → Rule
+worded f n rest = coded k-words (f n) rest
 
 -- after the first number of `from a to b words`
-abbrev pub toward : ℕ → Rule
+unfoldable pub toward : ℕ → Rule
 toward a rest = expect k-to rest then measured (λ b. Filtered (Distance a b))
 
 module _ (ts : Stream) where
-  pub measured-number : (f : ℕ → Code) → measured f ts ≡ number maxNumber (λ n rest. coded k-words (f n) rest) ts
+  pub measured-number : (f : ℕ → Code) → measured f ts ≡ number maxNumber (worded f) ts
   unfolding measured
   measured-number f = refl
 
   pub from-number : distanceFrom ts ≡ number maxNumber toward ts
-  unfolding distanceFrom
+  unfolding distanceFrom toward
   from-number = refl
 
+  -- ---- distance
+
   pub toward-yes : (a : ℕ) → symbolIn ts ≡ k-to → toward a ts ≡ measured (λ b. Filtered (Distance a b)) (restOf ts)
+  unfolding toward
   toward-yes a h = then-goes (measured (λ b. Filtered (Distance a b))) (let one : expect k-to ts ≡ read [] (restOf ts) = rw h in one)
 
   pub toward-no : (a : ℕ) → ¬ (symbolIn ts ≡ k-to) → toward a ts ≡ refused ts
-  unfolding _then_
+  unfolding toward _then_
   toward-no a h = rw (ne-eqb _ _ h)
 
   pub at-least : symbolIn ts ≡ k-least → distanceAt ts ≡ measured (λ a. Filtered (Distance a maxDistance)) (restOf ts)

@@ -102,8 +102,7 @@ fn either(
     second: u32,
 ) -> u64
     requires { ⌜ Ready (now text) size at count ⌝ }
-    requires { ⌜ first < 24 ⌝ }
-    requires { ⌜ second < 24 ⌝ }
+    requires { ⌜ (first < 24) × (second < 24) × (kind < 15) ⌝ }
     ensures { λ r. ⌜ ((c d : Code) → CodeIs c kind 0 → CodeIs d (kind + 1) 0 → Answers (λ _. eitherRule first c second d) (now (text .entry)) size at (now (codes .entry)) (now (codes .exit)) count (stepOf r)) ⌝ }
 {
     let t = scanner::token_at(text, size, at);
