@@ -10,6 +10,7 @@ use lib.ListN.{length, set, take, length-append}
 use lib.Seq.{sets}
 use Rattle.model.specs.declared.Code.{Code}
 use Rattle.model.specs.Limits.{maxCodes, maxText}
+use Rattle.model.proofs.SetsLaws.{sets-append}
 use Rattle.grammar.specs.Stream.{Stream, placeIn, restOf, streamAt}
 use Rattle.grammar.specs.Symbols.{noMore, symbolIn}
 use Rattle.grammar.specs.Grammar.{Outcome, failed, read, Rule, behind, _then_, refused, expect, writes}
@@ -75,10 +76,6 @@ pairs-length : (cs : List Code) → length (pairs cs) ≡ length cs * 2
 unfolding pairs flatMap
 pairs-length [] = refl
 pairs-length (c ∷ cs) = omega (arith, pairs-length cs)
-
-sets-append : (l : List ℕ) (i : ℕ) (xs ys : List ℕ) → sets l i (xs ++ ys) ≡ sets (sets l i xs) (i + length xs) ys
-sets-append l i [] ys = ap (λ k. sets l k ys) (omega arith)
-sets-append l i (x ∷ xs) ys = sets-append (set l i x) (suc i) xs ys ∙ ap (λ k. sets (sets (set l i x) (suc i) xs) k ys) (omega arith)
 
 pub wrote-none : (entry : List ℕ) (n : ℕ) → Wrote [] entry entry n n
 unfolding pairs flatMap
