@@ -1,3 +1,4 @@
 pub mod WholeLaws
 pub mod ListingLaws
 pub mod QuickLaws
+pub mod TypedLaws

@@ -8,19 +8,19 @@ use mathlib.Core.Option.{Option, some, none}
 use mathlib.Core.Path.{_≡_, refl, sym, ap, _∙_}
 use borrow.Author.Tests.{le-leb, lt-leb, leb-true, leb-false}
 use lib.Dec.{leb, eqb}
-use lib.ListN.{length, take, replicate, length-append, length-map}
-use lib.Seq.{sets, length-sets}
+use lib.ListN.{length, take, drop, length-append, length-map}
+use lib.Seq.{sets, sets-eq, length-sets}
 use Rattle.model.specs.declared.Code.{Code}
 use Rattle.model.specs.declared.Reading.{Reading}
 use Rattle.model.specs.declared.Reading.the-variants.{Read, Refused}
 use Rattle.model.specs.declared.Refusal.{Refusal}
 use Rattle.model.specs.Answers.{listingRefusal, listingAnswer, listingBuffer, quickAnswer}
 use Rattle.model.specs.Checks.{refusal, otherwise, tried, wrongSelection, sectionRefusal, selectionRefusal, inputRefusal, listingChecks, quickChecks}
-use Rattle.model.specs.Limits.{maxCodes}
+use Rattle.model.specs.Limits.{maxCodes, selectionLength}
 use Rattle.model.specs.Section.{size, wellSized}
 use Rattle.model.specs.Selection.{kindOf, operandOf}
 use Rattle.model.specs.TextAnswer.{TextAnswer, codes, error, AnswerOf}
-use Rattle.model.specs.Typed.{selectionOf}
+use Rattle.model.specs.Typed.{selectionOf, readAnswer, readSelection}
 use Rattle.model.proofs.SetsLaws.{take-written}
 use Rattle.grammar.specs.Grammar.{readText}
 use Rattle.grammar.proofs.AnswerLaws.{reads-exactly}
@@ -40,12 +40,12 @@ pub reading-read : (a : TextAnswer) {m : ℕ} {reading : Reading} → reading �
 reading-read (codes cs) {m} e f = let same : m ≡ length cs = cc in (cs, refl, same)
 reading-read (error s) e f = let z : _≡_ {A = ℕ} 0 1 = cc in absurd (omega arith)
 
--- ---- the same to the checks
+-- ---- the same to the calls
 
 -- the same selection, or both are refused alike
-pub data Alike (s t : List ℕ) : Type 0 where
-  same : s ≡ t → Alike s t
-  both-refused : (r : Refusal) → selectionRefusal s ≡ some r → selectionRefusal t ≡ some r → Alike s t
+pub data SameToCalls (s t : List ℕ) : Type 0 where
+  same : s ≡ t → SameToCalls s t
+  both-refused : (r : Refusal) → selectionRefusal s ≡ some r → selectionRefusal t ≡ some r → SameToCalls s t
 
 -- whatever the section's refusal is, one comes first
 first-refused : (o : Option Refusal) (r : Refusal) → (q : Refusal) × (otherwise o (some r) ≡ some q)
@@ -74,17 +74,17 @@ module _ (section : List ℕ) (r : Refusal) where
     refused-quick work = rw (input-refused s e, input-refused t f)
 
 module _ (section : List ℕ) {s t : List ℕ} where
-  pub alike-listing : Alike s t → (work buffer : ℕ) → listingAnswer section s work buffer ≡ listingAnswer section t work buffer
-  alike-listing (same e) work buffer = ap (λ l. listingAnswer section l work buffer) e
-  alike-listing (both-refused r e f) work buffer = refused-listing section r s t e f work buffer
+  pub same-listing : SameToCalls s t → (work buffer : ℕ) → listingAnswer section s work buffer ≡ listingAnswer section t work buffer
+  same-listing (same e) work buffer = ap (λ l. listingAnswer section l work buffer) e
+  same-listing (both-refused r e f) work buffer = refused-listing section r s t e f work buffer
 
-  pub alike-buffer : Alike s t → (work : ℕ) (buffer : List ℕ) → listingBuffer section s work buffer ≡ listingBuffer section t work buffer
-  alike-buffer (same e) work buffer = ap (λ l. listingBuffer section l work buffer) e
-  alike-buffer (both-refused r e f) work buffer = refused-buffer section r s t e f work buffer
+  pub same-buffer : SameToCalls s t → (work : ℕ) (buffer : List ℕ) → listingBuffer section s work buffer ≡ listingBuffer section t work buffer
+  same-buffer (same e) work buffer = ap (λ l. listingBuffer section l work buffer) e
+  same-buffer (both-refused r e f) work buffer = refused-buffer section r s t e f work buffer
 
-  pub alike-quick : Alike s t → (work : ℕ) → quickAnswer section s work ≡ quickAnswer section t work
-  alike-quick (same e) work = ap (λ l. quickAnswer section l work) e
-  alike-quick (both-refused r e f) work = refused-quick section r s t e f work
+  pub same-quick : SameToCalls s t → (work : ℕ) → quickAnswer section s work ≡ quickAnswer section t work
+  same-quick (same e) work = ap (λ l. quickAnswer section l work) e
+  same-quick (both-refused r e f) work = refused-quick section r s t e f work
 
 -- ---- what the reader puts down
 
@@ -101,20 +101,51 @@ over-selection : (cs : List Code) → maxCodes < length cs → selectionRefusal 
 unfolding selectionOf
 over-selection cs h = over-refused (length cs) (map kindOf cs ++ map operandOf cs) h
 
+-- up to 64 codes are put down as their selection
+pub put-few : (cs : List Code) (entry exit : List ℕ) (m : ℕ) → length entry ≡ 129 → exit ≡ sets entry 0 (typedNumbers (codes cs)) → m ≡ length cs → length cs ≤ maxCodes
+    → take (typedSize m) exit ≡ selectionOf cs
+put-few cs entry exit m l e f few =
+    let h : leb (length cs) maxCodes ≡ true = le-leb (length cs) maxCodes few in
+    let long : typedSize m ≡ length (selectionOf cs) = rw (f, h) (sym (length-selection cs)) in
+    let put : exit ≡ sets entry 0 (selectionOf cs) = rw h at e in
+    let room : length exit ≡ 129 = ap length put ∙ length-sets entry 0 (selectionOf cs) ∙ l in
+    take-written entry (selectionOf cs) (typedSize m) put long (omega (arith, long, room, length-selection cs, few))
+
+-- of more their number is, on which refusal 3 falls as on their selection
+put-many : (cs : List Code) (entry exit : List ℕ) (m : ℕ) → length entry ≡ 129 → exit ≡ sets entry 0 (typedNumbers (codes cs)) → m ≡ length cs → maxCodes < length cs
+    → selectionRefusal (take (typedSize m) exit) ≡ some (refusal 3 0)
+put-many cs entry exit m l e f many =
+    let h : leb (length cs) maxCodes ≡ false = lt-leb (length cs) maxCodes many in
+    let one : typedSize m ≡ 1 = rw (f, h) in
+    let put : exit ≡ sets entry 0 (length cs ∷ []) = rw h at e in
+    let room : length exit ≡ 129 = ap length put ∙ length-sets entry 0 (length cs ∷ []) ∙ l in
+    ap selectionRefusal (take-written entry (length cs ∷ []) (typedSize m) put one (omega (arith, one, room))) ∙ over-refused (length cs) [] many
+
 pub put-down : (cs : List Code) (entry exit : List ℕ) (m : ℕ) → length entry ≡ 129 → exit ≡ sets entry 0 (typedNumbers (codes cs)) → m ≡ length cs
-    → Alike (take (typedSize m) exit) (selectionOf cs)
+    → SameToCalls (take (typedSize m) exit) (selectionOf cs)
 put-down cs entry exit m l e f = at (leb (length cs) maxCodes) refl where
-  room : length exit ≡ 129
-  room = ap length e ∙ length-sets entry 0 (typedNumbers (codes cs)) ∙ l
-  at : (x : Bool) → leb (length cs) maxCodes ≡ x → Alike (take (typedSize m) exit) (selectionOf cs)
-  at true h =
-      let few : length cs ≤ maxCodes = leb-true (length cs) maxCodes h in
-      let long : typedSize m ≡ length (selectionOf cs) = rw (f, h) (sym (length-selection cs)) in
-      let put : exit ≡ sets entry 0 (selectionOf cs) = rw h at e in
-      same (take-written entry (selectionOf cs) (typedSize m) put long (omega (arith, long, room, length-selection cs, few)))
+  at : (x : Bool) → leb (length cs) maxCodes ≡ x → SameToCalls (take (typedSize m) exit) (selectionOf cs)
+  at true h = same (put-few cs entry exit m l e f (leb-true (length cs) maxCodes h))
   at false h =
-      let many : maxCodes < length cs = leb-false (length cs) maxCodes h in
-      let one : typedSize m ≡ 1 = rw (f, h) in
-      let put : exit ≡ sets entry 0 (length cs ∷ []) = rw h at e in
-      let is : take (typedSize m) exit ≡ length cs ∷ [] = take-written entry (length cs ∷ []) (typedSize m) put one (omega (arith, one, room)) in
-      both-refused (refusal 3 0) (ap selectionRefusal is ∙ over-refused (length cs) [] many) (over-selection cs many)
+      let many = leb-false (length cs) maxCodes h in
+      both-refused (refusal 3 0) (put-many cs entry exit m l e f many) (over-selection cs many)
+
+-- ---- the reader alone
+
+module _ (cs : List Code) (m : ℕ) (f : m ≡ length cs) (lent : List ℕ) where
+  pub read-many : maxCodes < m → (Refused (refusal 3 0) ≡ readAnswer (codes cs) (length lent)) × (lent ≡ readSelection (codes cs) lent)
+  read-many h = let e = lt-leb (length cs) maxCodes (omega arith) in (rw e, rw e)
+
+  module _ (few : m ≤ maxCodes) where
+    abbrev within : leb (length cs) maxCodes ≡ true
+    within = le-leb (length cs) maxCodes (omega arith)
+
+    pub read-short : length lent < selectionLength → (Refused (refusal 8 0) ≡ readAnswer (codes cs) (length lent)) × (lent ≡ readSelection (codes cs) lent)
+    read-short h = let e = lt-leb selectionLength (length lent) h in (rw (within, e), rw (within, e))
+
+    pub read-given : (exit : List ℕ) → selectionLength ≤ length lent → exit ≡ sets lent 0 (selectionOf cs)
+        → (Read m ≡ readAnswer (codes cs) (length lent)) × (exit ≡ readSelection (codes cs) lent)
+    read-given exit h e =
+        let room = le-leb selectionLength (length lent) h in
+        let zero : 0 + length (selectionOf cs) ≡ length (selectionOf cs) = omega arith in
+        (rw (within, room) (ap Read f), e ∙ sets-eq (selectionOf cs) lent 0 (omega (arith, length-selection cs)) ∙ rw (within, room) (ap (λ k. selectionOf cs ++ drop k lent) zero))
