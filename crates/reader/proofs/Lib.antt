@@ -1,0 +1,2 @@
+-- What the proofs of the rules rest on.
+pub mod RulesLaws
