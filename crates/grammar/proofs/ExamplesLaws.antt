@@ -1,35 +1,30 @@
-use Prim.Native.Nat.{ℕ}
+-- Each typed search of the model's examples has the answer beside it: the functions compute it, and what they compute the productions say.
 use mathlib.Core.Path.{_≡_, refl}
-use mathlib.Core.Bool.{Bool, true, false, _&&_}
-use mathlib.Core.List.{List, [], _∷_}
-use lib.Dec.{eqb}
-use lib.ListN.{length}
-use Rattle.model.specs.declared.Code.{Code}
+use mathlib.Core.List.{List, [], _∷_, map}
 use Rattle.model.specs.Bytes.{bytes}
-use Rattle.model.specs.Selection.{kindOf, operandOf}
-use Rattle.model.specs.TextAnswer.{TextAnswer, codes, error}
+use Rattle.model.specs.Lists.{Every}
+use Rattle.model.specs.TextAnswer.{TextAnswer, AnswerOf}
 use Rattle.model.specs.Tokens.{numberFrom}
-use Rattle.model.specs.TypedExamples.{Example, examples}
+use Rattle.model.specs.TypedExamples.{Example, examples, ExamplesHold}
 use Rattle.grammar.specs.Stream.{sortOf, makesRuns, before, piecesFrom, withoutBlanks, streamAt, valueIn}
 use Rattle.grammar.specs.Symbols.{sameBytes, numberAmong, symbolOf}
 use Rattle.grammar.specs.Grammar.{behind, _then_, words, coded, measured, distanceFrom, distanceAt, distance, either, startsFilter, filter, filters, row, ftPrimary, ftUnaryNot, ftMildNot, ftAnd, ftOr, ftSelection, outcomeOf, readText}
+use Rattle.grammar.proofs.AnswerLaws.{reads-exactly}
 
-sameCodes : List Code → List Code → Bool
-sameCodes [] [] = true
-sameCodes [] (y ∷ ys) = false
-sameCodes (x ∷ xs) [] = false
-sameCodes (x ∷ xs) (y ∷ ys) = eqb (kindOf x) (kindOf y) && eqb (operandOf x) (operandOf y) && sameCodes xs ys
+abbrev computed : Example → TextAnswer
+computed e = readText (bytes (e .text))
 
-sameAnswer : TextAnswer → TextAnswer → Bool
-sameAnswer (codes cs) (codes ds) = sameCodes cs ds
-sameAnswer (codes cs) (error r) = false
-sameAnswer (error r) (codes ds) = false
-sameAnswer (error r) (error s) = eqb (r .number) (s .number) && eqb (r .place) (s .place)
+abbrev stated : Example → TextAnswer
+stated e = e .answer
 
-right : List Example → Bool
-right [] = true
-right (e ∷ es) = sameAnswer (readText (bytes (e .text))) (e .answer) && right es
+every-computed : (es : List Example) → map computed es ≡ map stated es → Every (λ e. AnswerOf (bytes (e .text)) (e .answer)) es
+unfolding Every
+every-computed [] h = tt
+every-computed (e ∷ es) h = (reads-exactly (bytes (e .text)) (e .answer) .0 (cc), every-computed es (cc))
 
-examples-right : right examples ≡ true
-unfolding examples right sameCodes sameAnswer sortOf makesRuns before piecesFrom withoutBlanks streamAt valueIn numberFrom sameBytes numberAmong symbolOf behind _then_ words coded measured distanceFrom distanceAt distance either startsFilter filter filters row ftPrimary ftUnaryNot ftMildNot ftAnd ftOr ftSelection outcomeOf readText
-examples-right = refl
+examples-computed : map computed examples ≡ map stated examples
+unfolding examples sortOf makesRuns before piecesFrom withoutBlanks streamAt valueIn numberFrom sameBytes numberAmong symbolOf behind _then_ words coded measured distanceFrom distanceAt distance either startsFilter filter filters row ftPrimary ftUnaryNot ftMildNot ftAnd ftOr ftSelection outcomeOf readText
+examples-computed = refl
+
+pub examples-hold : ExamplesHold
+examples-hold = every-computed examples examples-computed

@@ -1,0 +1,2 @@
+pub mod ScannerLaws
+pub mod WordsLaws

@@ -7,7 +7,7 @@ use symbols::NUMBER;
 use symbols::SORTS;
 ghost use mathlib.Core.Path.{_≡_};
 ghost use Prim.Native.Nat.{_+_, _-_, _≤_, _<_};
-ghost use lib.ListN.{drop, length, take};
+ghost use lib.ListN.{drop, take};
 ghost use Rattle.model.specs.Tokens.{numberFrom};
 ghost use Rattle.grammar.specs.Stream.{runLength, sortOf};
 ghost use Rattle.scanner.specs.Scanned.{Inside, Scanned, bytesFrom, capped as cappedOf, endOf, startOf, symbolAt};
@@ -128,7 +128,7 @@ fn capped(n: u64) -> u64
 
 // The number that a token's digits write, with that ceiling.
 pub fn value_of(text: &[u8; 2048], token: u64) -> u64
-    requires { ⌜ (startOf token ≤ endOf token) × (endOf token ≤ length (now text)) ⌝ }
+    requires { ⌜ Inside (now text) (endOf token) (startOf token) ⌝ }
     ensures { λ r. ⌜ r ≡ cappedOf (numberFrom 0 (bytesFrom (now (text .entry)) (startOf token) (endOf token))) ⌝ }
 {
     let end = end_of(token) as usize;

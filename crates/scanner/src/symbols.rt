@@ -1,9 +1,7 @@
 // The grammar's symbols as numbers, as in grammar/specs/Symbols.antt.
 ghost use mathlib.Core.Path.{_≡_};
-ghost use Prim.Native.Nat.{_≤_};
-ghost use lib.ListN.{length};
 ghost use Rattle.grammar.specs.Symbols.{keywords, numberAmong, sameBytes};
-ghost use Rattle.scanner.specs.Scanned.{bytesFrom};
+ghost use Rattle.scanner.specs.Scanned.{Inside, bytesFrom};
 ghost use Rattle.scanner.specs.Words.{filterWords, operatorWords, rangeWords, scopeWords};
 
 pub const FTOR: u32 = 1;
@@ -68,7 +66,7 @@ pub const NUMBER: u32 = 148;
 
 // Do the bytes of the text from `start` up to `end` spell this word?
 fn spells(text: &[u8; 2048], start: usize, end: usize, word: &[u8]) -> bool
-    requires { ⌜ (start ≤ end) × (end ≤ length (now text)) ⌝ }
+    requires { ⌜ Inside (now text) end start ⌝ }
     ensures { λ r. ⌜ r ≡ sameBytes (bytesFrom (now (text .entry)) start end) (now (word .entry)) ⌝ }
 {
     let n = word.len();
@@ -87,7 +85,7 @@ fn spells(text: &[u8; 2048], start: usize, end: usize, word: &[u8]) -> bool
 
 // The number of an operator's word; 6 for any other.
 fn operator_word(text: &[u8; 2048], start: usize, end: usize) -> u32
-    requires { ⌜ (start ≤ end) × (end ≤ length (now text)) ⌝ }
+    requires { ⌜ Inside (now text) end start ⌝ }
     ensures { λ r. ⌜ r ≡ numberAmong 1 operatorWords (bytesFrom (now (text .entry)) start end) ⌝ }
 {
     if spells(text, start, end, b"ftor") {
@@ -110,7 +108,7 @@ fn operator_word(text: &[u8; 2048], start: usize, end: usize) -> u32
 
 // The number of a word that begins a filter; 13 for any other.
 fn filter_word(text: &[u8; 2048], start: usize, end: usize) -> u32
-    requires { ⌜ (start ≤ end) × (end ≤ length (now text)) ⌝ }
+    requires { ⌜ Inside (now text) end start ⌝ }
     ensures { λ r. ⌜ r ≡ numberAmong 6 filterWords (bytesFrom (now (text .entry)) start end) ⌝ }
 {
     if spells(text, start, end, b"ordered") {
@@ -139,7 +137,7 @@ fn filter_word(text: &[u8; 2048], start: usize, end: usize) -> u32
 
 // The number of a word for a place or a unit; 18 for any other.
 fn scope_word(text: &[u8; 2048], start: usize, end: usize) -> u32
-    requires { ⌜ (start ≤ end) × (end ≤ length (now text)) ⌝ }
+    requires { ⌜ Inside (now text) end start ⌝ }
     ensures { λ r. ⌜ r ≡ numberAmong 13 scopeWords (bytesFrom (now (text .entry)) start end) ⌝ }
 {
     if spells(text, start, end, b"start") {
@@ -162,7 +160,7 @@ fn scope_word(text: &[u8; 2048], start: usize, end: usize) -> u32
 
 // The number of a word of a range; 24 for any other.
 fn range_word(text: &[u8; 2048], start: usize, end: usize) -> u32
-    requires { ⌜ (start ≤ end) × (end ≤ length (now text)) ⌝ }
+    requires { ⌜ Inside (now text) end start ⌝ }
     ensures { λ r. ⌜ r ≡ numberAmong 18 rangeWords (bytesFrom (now (text .entry)) start end) ⌝ }
 {
     if spells(text, start, end, b"exactly") {
@@ -188,7 +186,7 @@ fn range_word(text: &[u8; 2048], start: usize, end: usize) -> u32
 
 // The number of a word.
 pub fn word_symbol(text: &[u8; 2048], start: usize, end: usize) -> u32
-    requires { ⌜ (start ≤ end) × (end ≤ length (now text)) ⌝ }
+    requires { ⌜ Inside (now text) end start ⌝ }
     ensures { λ r. ⌜ r ≡ numberAmong 1 keywords (bytesFrom (now (text .entry)) start end) ⌝ }
 {
     let operator = operator_word(text, start, end);

@@ -1,0 +1,2 @@
+-- Why the rules answer as the grammar's do.
+pub mod AnswersLaws

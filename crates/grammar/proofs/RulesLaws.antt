@@ -1,0 +1,462 @@
+-- How each rule of the grammar goes: its production derives what it reads, and it fails at the first token that can't go on.
+use Prim.Native.Nat.{ℕ, zero, suc, _+_, _≤_, _<_}
+use native.Mathlib.Omega.{arith}
+use mathlib.Core.Path.{_≡_, refl, ap, _∙_}
+use mathlib.Core.Bool.{Bool, true, false, _&&_, not, cond}
+use mathlib.Core.List.{List, [], _∷_, _++_, append-assoc, append-nil}
+use mathlib.Core.Logic.{inl, inr}
+use borrow.Author.Tests.{eqb-true, eqb-false}
+use lib.Dec.{eqb, leb}
+use lib.ListN.{length}
+use Rattle.model.specs.declared.Code.{Code}
+use Rattle.model.specs.declared.Code.the-variants.{Word, Phrase, Combine, Not, Filter as Filtered}
+use Rattle.model.specs.declared.Filter.{Filter}
+use Rattle.model.specs.declared.Filter.the-variants.{Ordered, Window, Distance, SameSentence, SameParagraph, DifferentSentence, DifferentParagraph, AtStart, AtEnd, EntireContent}
+use Rattle.model.specs.declared.Pair.the-variants.{Or, And, MildNot}
+use Rattle.model.specs.Limits.{maxDistance, maxNumber, maxWaiting, maxWord}
+use Rattle.model.specs.Productions.{Sign, Keyword, Number, Words, no-word, word-more, FTPosFilter, ordered, window, distance-exactly, distance-least, distance-most, distance-from, same-sentence, same-paragraph, different-sentence, different-paragraph, at-start, at-end, entire-content, FTSelection, selection-or, selection-filter, FTOr, or-and, or-more, FTAnd, and-mild, and-more, FTMildNot, mild-unary, mild-more, FTUnaryNot, unary-primary, unary-not, FTPrimary, phrase, nested}
+use Rattle.model.specs.Tokens.{Token, quote, opening, closing, valueOf}
+use Rattle.grammar.specs.Stream.{Stream, ends, token, restOf}
+use Rattle.grammar.specs.Symbols.{k-ftor, k-ftand, k-ftnot, k-not, k-in, k-ordered, k-window, k-distance, k-same, k-different, k-at, k-entire, k-start, k-end, k-sentence, k-paragraph, k-content, k-exactly, k-from, k-to, k-least, k-most, k-words, noMore, s-quote, s-opening, s-closing, symbolOf, symbolIn}
+use Rattle.grammar.specs.Grammar.{read, Rule, _then_, refused, writes, expect, number, words, coded, measured, distanceFrom, distanceAt, distance, either, startsFilter, filter, filters, row, notIn, ftPrimary, ftUnaryNot, ftMildNot, ftAnd, ftOr, ftSelection}
+use Rattle.grammar.proofs.CompletingLaws.{no-filter, filter-length, row-stops, filters-stop}
+use Rattle.grammar.proofs.GoingLaws.{Production, Within, Joins, NumberJoins, Near, Viable, Went, reads, went-map, Seq, seq, went-then, went-if, Wrote, wrote, wrote-some, went-read, went-refused, Taken, keyword-taken, sign-taken, went-case, One, one, aWord, a-word, aSign, a-sign, aNumber, a-number, went-word, word-some, went-sign, sign-some, went-number}
+use Rattle.grammar.proofs.JoiningLaws.{_⊕_, size, plus, size-join}
+use Rattle.grammar.proofs.SymbolsLaws.{spelling, isKeyword, symbol-sort}
+
+-- ---- filters
+
+data Coded (T : Token → Type 0) (c : Code) : List Token → List Code → Type 0 where
+  coded-by : {t : Token} → T t → Coded T c (t ∷ []) (c ∷ [])
+
+coded-join : {T : Token → Type 0} (c : Code) → Within (Seq (One T) (Wrote (c ∷ []))) (Coded T c)
+coded-join c vs ds (seq (one h) wrote) = coded-by h
+
+went-coded : (n : ℕ) → isKeyword n ≡ true → (c : Code) (ts : Stream) → Went (Coded (Keyword (spelling n)) c) (λ i. coded n c) ts (coded n c ts)
+unfolding coded
+went-coded n k c ts =
+    went-map (coded-join c) (went-then (λ i. expect n) (λ i. writes c) (writes c) (wrote-some _) ts (went-word n k ts) (λ pre rest cs x d. went-read _ rest))
+
+data Measured (f : ℕ → Code) : List Token → List Code → Type 0 where
+  measured-by : {n z : Token} → Number maxNumber n → Keyword "words" z → Measured f (n ∷ z ∷ []) (f (valueOf n) ∷ [])
+
+measured-some : (f : ℕ → Code) → Viable (Measured f) []
+measured-some f = record { more = aNumber ∷ aWord "words" ∷ []; codes = _; holds = measured-by (a-number maxNumber) (a-word "words") }
+
+measured-join : (f : ℕ → Code) → NumberJoins maxNumber (λ v. Coded (Keyword "words") (f v)) (Measured f)
+measured-join f t vs ds n (coded-by w) = measured-by n w
+
+went-measured : (f : ℕ → Code) (ts : Stream) → Went (Measured f) (λ i. measured f) ts (measured f ts)
+unfolding measured
+went-measured f ts =
+    went-number (λ v. Coded (Keyword "words") (f v)) maxNumber (inr refl) (λ i v. coded k-words (f v)) (λ v. coded k-words (f v)) (measured-join f)
+    (λ v l. record { more = aWord "words" ∷ []; codes = f v ∷ []; holds = coded-by (a-word "words") })
+    ts (λ t us e n. went-coded k-words refl (f (valueOf t)) us)
+
+-- what stands after `distance from`, `distance at`, `distance`
+data FromTo : List Token → List Code → Type 0 where
+  from-to : {m c n z : Token} → Number maxNumber m → Keyword "to" c → Number maxNumber n → Keyword "words" z
+      → FromTo (m ∷ c ∷ n ∷ z ∷ []) (Filtered (Distance (valueOf m) (valueOf n)) ∷ [])
+
+from-join : NumberJoins maxNumber (λ v. Seq (One (Keyword "to")) (Measured (λ b. Filtered (Distance v b)))) FromTo
+from-join t vs ds n (seq (one w) (measured-by k z)) = from-to n w k z
+
+went-from : (ts : Stream) → Went FromTo (λ i. distanceFrom) ts (distanceFrom ts)
+unfolding distanceFrom
+went-from ts =
+    let next : ℕ → Rule = λ v us. expect k-to us then measured (λ b. Filtered (Distance v b)) in
+    went-number (λ v. Seq (One (Keyword "to")) (Measured (λ b. Filtered (Distance v b)))) maxNumber (inr refl) (λ i. next) next from-join
+    (λ v l. record {
+      more = aWord "to" ∷ aNumber ∷ aWord "words" ∷ [];
+      codes = _;
+      holds = seq (one (a-word "to")) (measured-by (a-number maxNumber) (a-word "words"));
+    })
+    ts (λ t us e n. let f : ℕ → Code = λ b. Filtered (Distance (valueOf t) b) in
+    went-then (λ i. expect k-to) (λ i. measured f) (measured f) (measured-some f) us (went-word k-to refl us) (λ pre rest cs x d. went-measured f rest))
+
+abbrev leastCode : ℕ → Code
+leastCode a = Filtered (Distance a maxDistance)
+
+abbrev mostCode : ℕ → Code
+mostCode b = Filtered (Distance 0 b)
+
+abbrev exactCode : ℕ → Code
+exactCode n = Filtered (Distance n n)
+
+data AtLevel : List Token → List Code → Type 0 where
+  at-least : {c n z : Token} → Keyword "least" c → Number maxNumber n → Keyword "words" z → AtLevel (c ∷ n ∷ z ∷ []) (leastCode (valueOf n) ∷ [])
+  at-most : {c n z : Token} → Keyword "most" c → Number maxNumber n → Keyword "words" z → AtLevel (c ∷ n ∷ z ∷ []) (mostCode (valueOf n) ∷ [])
+
+least-join : Joins (Keyword "least") (Measured leastCode) AtLevel
+least-join t vs ds w (measured-by n z) = at-least w n z
+
+most-join : Within (Seq (One (Keyword "most")) (Measured mostCode)) AtLevel
+most-join vs ds (seq (one w) (measured-by n z)) = at-most w n z
+
+went-at : (ts : Stream) → Went AtLevel (λ i. distanceAt) ts (distanceAt ts)
+unfolding distanceAt
+went-at ts =
+    let other : Rule = λ us. expect k-most us then measured mostCode in
+    went-case (λ s. eqb s k-least) (keyword-taken k-least refl) (λ i. measured leastCode) (measured leastCode) (λ i. other) other least-join
+    ts (λ t us e w. went-measured leastCode us)
+    (λ e. went-map most-join (went-then (λ i. expect k-most) (λ i. measured mostCode) (measured mostCode) (measured-some mostCode)
+    ts (went-word k-most refl ts) (λ pre rest cs x d. went-measured mostCode rest)))
+
+at-some : Viable AtLevel []
+at-some = record { more = aWord "most" ∷ aNumber ∷ aWord "words" ∷ []; codes = _; holds = at-most (a-word "most") (a-number maxNumber) (a-word "words") }
+
+data Distances : List Token → List Code → Type 0 where
+  exactly : {c n z : Token} → Keyword "exactly" c → Number maxNumber n → Keyword "words" z → Distances (c ∷ n ∷ z ∷ []) (exactCode (valueOf n) ∷ [])
+  ranging : {t : Token} {vs : List Token} {ds : List Code} → Keyword "from" t → FromTo vs ds → Distances (t ∷ vs) ds
+  levelled : {t : Token} {vs : List Token} {ds : List Code} → Keyword "at" t → AtLevel vs ds → Distances (t ∷ vs) ds
+
+exactly-join : Joins (Keyword "exactly") (Measured exactCode) Distances
+exactly-join t vs ds w (measured-by n z) = exactly w n z
+
+levelled-join : Within (Seq (One (Keyword "at")) AtLevel) Distances
+levelled-join vs ds (seq (one w) d) = levelled w d
+
+went-distance : (ts : Stream) → Went Distances (λ i. distance) ts (distance ts)
+unfolding distance
+went-distance ts =
+    let past : Rule = λ us. expect k-at us then distanceAt in
+    let next : Rule = λ us. cond (eqb (symbolIn us) k-from) (distanceFrom (restOf us)) (past us) in
+    went-case (λ s. eqb s k-exactly) (keyword-taken k-exactly refl) (λ i. measured exactCode) (measured exactCode) (λ i. next) next exactly-join
+    ts (λ t us e w. went-measured exactCode us)
+    (λ e. went-case (λ s. eqb s k-from) (keyword-taken k-from refl) (λ i. distanceFrom) distanceFrom (λ i. past) past (λ t vs ds w d. ranging w d)
+    ts (λ t us f w. went-from us)
+    (λ f. went-map levelled-join (went-then (λ i. expect k-at) (λ i. distanceAt) distanceAt at-some ts (went-word k-at refl ts)
+    (λ pre rest cs x d. went-at rest))))
+
+data Either (T U : Token → Type 0) (c d : Code) : List Token → List Code → Type 0 where
+  first : {t : Token} → T t → Either T U c d (t ∷ []) (c ∷ [])
+  other : {t : Token} → U t → Either T U c d (t ∷ []) (d ∷ [])
+
+module _ {T U : Token → Type 0} (c d : Code) where
+  first-join : Joins T (Wrote (c ∷ [])) (Either T U c d)
+  first-join t vs ds h wrote = first h
+
+  other-join : Within (Coded U d) (Either T U c d)
+  other-join vs ds (coded-by h) = other h
+
+went-either : (n : ℕ) → isKeyword n ≡ true → (c : Code) (m : ℕ) → isKeyword m ≡ true → (d : Code) (ts : Stream)
+    → Went (Either (Keyword (spelling n)) (Keyword (spelling m)) c d) (λ i. either n c m d) ts (either n c m d ts)
+unfolding either
+went-either n k c m l d ts =
+    went-case (λ s. eqb s n) (keyword-taken n k) (λ i us. read (c ∷ []) us) (λ us. read (c ∷ []) us) (λ i. coded m d) (coded m d) (first-join c d)
+    ts (λ t us e h. went-read _ us) (λ e. went-map (other-join c d) (went-coded m l d ts))
+
+-- a filter's one code
+data FilterCodes : List Token → List Code → Type 0 where
+  filter-codes : {us : List Token} {f : Filter} → FTPosFilter us f → FilterCodes us (Filtered f ∷ [])
+
+ordered-join : Joins (Keyword "ordered") (Wrote (Filtered Ordered ∷ [])) FilterCodes
+ordered-join t vs ds a wrote = filter-codes (ordered a)
+
+abbrev windowCode : ℕ → Code
+windowCode n = Filtered (Window n)
+
+window-join : Joins (Keyword "window") (Measured windowCode) FilterCodes
+window-join t vs ds a (measured-by n z) = filter-codes (window a n z)
+
+distance-join : Joins (Keyword "distance") Distances FilterCodes
+distance-join t vs ds a (exactly b n z) = filter-codes (distance-exactly a b n z)
+distance-join t vs ds a (ranging b (from-to m c n z)) = filter-codes (distance-from a b m c n z)
+distance-join t vs ds a (levelled b (at-least c n z)) = filter-codes (distance-least a b c n z)
+distance-join t vs ds a (levelled b (at-most c n z)) = filter-codes (distance-most a b c n z)
+
+abbrev UnitFilter : Filter → Filter → Production
+UnitFilter f g = Either (Keyword "sentence") (Keyword "paragraph") (Filtered f) (Filtered g)
+
+same-join : Joins (Keyword "same") (UnitFilter SameSentence SameParagraph) FilterCodes
+same-join t vs ds a (first b) = filter-codes (same-sentence a b)
+same-join t vs ds a (other b) = filter-codes (same-paragraph a b)
+
+different-join : Joins (Keyword "different") (UnitFilter DifferentSentence DifferentParagraph) FilterCodes
+different-join t vs ds a (first b) = filter-codes (different-sentence a b)
+different-join t vs ds a (other b) = filter-codes (different-paragraph a b)
+
+at-join : Joins (Keyword "at") (Either (Keyword "start") (Keyword "end") (Filtered AtStart) (Filtered AtEnd)) FilterCodes
+at-join t vs ds a (first b) = filter-codes (at-start a b)
+at-join t vs ds a (other b) = filter-codes (at-end a b)
+
+entire-join : Within (Seq (One (Keyword "entire")) (Coded (Keyword "content") (Filtered EntireContent))) FilterCodes
+entire-join vs ds (seq (one a) (coded-by b)) = filter-codes (entire-content a b)
+
+went-filter : (ts : Stream) → Went FilterCodes (λ i. filter) ts (filter ts)
+unfolding filter
+went-filter ts =
+    let same : Rule = either k-sentence (Filtered SameSentence) k-paragraph (Filtered SameParagraph) in
+    let different : Rule = either k-sentence (Filtered DifferentSentence) k-paragraph (Filtered DifferentParagraph) in
+    let at : Rule = either k-start (Filtered AtStart) k-end (Filtered AtEnd) in
+    let content : Rule = coded k-content (Filtered EntireContent) in
+    let f6 : Rule = λ us. expect k-entire us then content in
+    let f5 : Rule = λ us. cond (eqb (symbolIn us) k-at) (at (restOf us)) (f6 us) in
+    let f4 : Rule = λ us. cond (eqb (symbolIn us) k-different) (different (restOf us)) (f5 us) in
+    let f3 : Rule = λ us. cond (eqb (symbolIn us) k-same) (same (restOf us)) (f4 us) in
+    let f2 : Rule = λ us. cond (eqb (symbolIn us) k-distance) (distance (restOf us)) (f3 us) in
+    let f1 : Rule = λ us. cond (eqb (symbolIn us) k-window) (measured windowCode (restOf us)) (f2 us) in
+    let plain : Rule = λ us. read (Filtered Ordered ∷ []) us in
+    went-case (λ s. eqb s k-ordered) (keyword-taken k-ordered refl) (λ i. plain) plain (λ i. f1) f1 ordered-join ts (λ t us e w. went-read _ us)
+    (λ e1. went-case (λ s. eqb s k-window) (keyword-taken k-window refl) (λ i. measured windowCode) (measured windowCode) (λ i. f2) f2 window-join
+    ts (λ t us e w. went-measured windowCode us)
+    (λ e2. went-case (λ s. eqb s k-distance) (keyword-taken k-distance refl) (λ i. distance) distance (λ i. f3) f3 distance-join
+    ts (λ t us e w. went-distance us)
+    (λ e3. went-case (λ s. eqb s k-same) (keyword-taken k-same refl) (λ i. same) same (λ i. f4) f4 same-join
+    ts (λ t us e w. went-either k-sentence refl _ k-paragraph refl _ us)
+    (λ e4. went-case (λ s. eqb s k-different) (keyword-taken k-different refl) (λ i. different) different (λ i. f5) f5 different-join
+    ts (λ t us e w. went-either k-sentence refl _ k-paragraph refl _ us)
+    (λ e5. went-case (λ s. eqb s k-at) (keyword-taken k-at refl) (λ i. at) at (λ i. f6) f6 at-join
+    ts (λ t us e w. went-either k-start refl _ k-end refl _ us)
+    (λ e6. went-map entire-join (went-then (λ i. expect k-entire) (λ i. content) content
+    (record { more = aWord "content" ∷ []; codes = Filtered EntireContent ∷ []; holds = coded-by (a-word "content") })
+    ts (went-word k-entire refl ts) (λ pre rest cs x d. went-coded k-content refl _ rest))))))))
+
+-- ---- phrases
+
+-- what can follow k words of a phrase, of which `left` more may come
+data Tail (left k : ℕ) : List Token → List Code → Type 0 where
+  tail : {j m : ℕ} {ts : List Token} {cs : List Code} {u : Token} → Words j ts cs → m ≡ k + j → 1 ≤ m → j ≤ left → Sign quote u
+      → Tail left k (ts ++ (u ∷ [])) (cs ++ (Phrase m ∷ []))
+
+tail-some : (left k : ℕ) → 1 ≤ k → Viable (Tail left k) []
+tail-some left k h =
+    record { more = aSign quote ∷ []; codes = _; holds = tail {m = k} no-word (omega arith) h (omega arith) (a-sign quote) }
+
+record Quote (k : ℕ) (t : Token) : Type 0 where
+  quoted : Sign quote t
+  counted : 1 ≤ k
+
+abbrev isQuote : ℕ → ℕ → Bool
+isQuote k s = eqb s s-quote && not (eqb k 0)
+
+quote-taken : (k : ℕ) → Taken (isQuote k) (Quote k)
+quote-taken k = record { at-end = refl; is = λ t h. is-quote t (eqb (symbolOf t) s-quote) refl (eqb k 0) refl h } where
+  is-quote : (t : Token) (x : Bool) → eqb (symbolOf t) s-quote ≡ x → (y : Bool) → eqb k 0 ≡ y → (x && not y) ≡ true → Quote k t
+  is-quote t true e false f h =
+      record { quoted = record { is = symbol-sort t quote (eqb-true _ _ e) }; counted = omega (arith, eqb-false k 0 f) }
+  is-quote t true e true f h = let z : _≡_ {A = ℕ} 0 1 = cc in absurd (omega arith)
+  is-quote t false e y f h = let z : _≡_ {A = ℕ} 0 1 = cc in absurd (omega arith)
+
+quote-join : (left k : ℕ) → Joins (Quote k) (Wrote (Phrase k ∷ [])) (Tail left k)
+quote-join left k t vs ds q wrote = tail {m = k} no-word (omega arith) (q .counted) (omega arith) (q .quoted)
+
+more-join : (left k : ℕ) → NumberJoins maxWord (λ v. Seq (Wrote (Word v ∷ [])) (Tail left (k + 1))) (Tail (suc left) k)
+more-join left k t vs ds n (seq wrote (tail {m = m} d e l h q)) = tail {m = m} (word-more n d) (omega arith) l (omega arith) q
+
+more-some : (left k v : ℕ) → Viable (Seq (Wrote (Word v ∷ [])) (Tail left (k + 1))) []
+more-some left k v = let t = tail-some left (k + 1) (omega arith) in record { more = t .more; codes = _; holds = seq wrote (t .holds) }
+
+went-words : (left k : ℕ) → 1 ≤ left + k → (ts : Stream) → Went (Tail left k) (λ i. words left k) ts (words left k ts)
+unfolding words
+went-words zero k h ts =
+    let end : Rule = λ us. read (Phrase k ∷ []) us in
+    went-case (isQuote k) (quote-taken k) (λ i. end) end (λ i us. refused us) (λ us. refused us) (quote-join zero k)
+    ts (λ t us e q. went-read _ us) (λ e. went-refused (tail-some zero k (omega arith)) ts)
+went-words (suc left) k h ts =
+    let end : Rule = λ us. read (Phrase k ∷ []) us in
+    let next : ℕ → Rule = λ v rest. read (Word v ∷ []) rest then words left (k + 1) in
+    went-case (isQuote k) (quote-taken k) (λ i. end) end (λ i. number maxWord next) (number maxWord next) (quote-join (suc left) k)
+    ts (λ t us e q. went-read _ us)
+    (λ e. went-number (λ v. Seq (Wrote (Word v ∷ [])) (Tail left (k + 1))) maxWord (inl refl) (λ i. next) next (more-join left k)
+    (λ v l. more-some left k v) ts
+    (λ t us f n. went-then (λ i vs. read (Word (valueOf t) ∷ []) vs) (λ i. words left (k + 1)) (words left (k + 1)) (tail-some left (k + 1) (omega arith))
+    us (went-read _ us) (λ pre rest cs x d. went-words left (k + 1) (omega arith) rest)))
+
+-- ---- rows
+
+-- what goes on something derived
+abbrev On : Production → Production
+On D us ds = (ls : List Token) (bs : List Code) → D ls bs → D (ls ++ us) (bs ++ ds)
+
+rest-size : (ts : Stream) (pre : List Token) (rest : Stream) → ts ≡ pre ⊕ rest → size ts ≡ length pre + size rest
+rest-size ts pre rest e = ap size e ∙ size-join pre rest
+
+module _ (D : Production) where
+  on-nil : Within (Wrote []) (On D)
+  on-nil us ds wrote cs bs d = rw (append-nil cs, append-nil bs) d
+
+  on-some : Viable (On D) []
+  on-some = record { more = []; codes = []; holds = on-nil [] [] wrote }
+
+  on-on : (X : Production) → Within X (On D) → Within (Seq X (On D)) (On D)
+  on-on X f us ds (seq {ts = ps} {us = qs} {cs = cs} {ds = es} x g) ls bs d =
+      rw (← (append-assoc ls ps qs), ← (append-assoc bs cs es)) (g _ _ (f _ _ x _ _ d))
+
+  onto : (P : Production) → Within P D → Within (Seq P (On D)) D
+  onto P f us ds (seq p g) = g _ _ (f _ _ p)
+
+-- at least one token
+abbrev Grows : Production → Type 0
+Grows P = (ts : List Token) (cs : List Code) → P ts cs → 1 ≤ length ts
+
+-- one operator with its operand, and its code
+abbrev Turn : Production → Production → Code → Production
+Turn Op O c = Seq (Seq Op O) (Wrote (c ∷ []))
+
+module _ (Op O D : Production) (s : ℕ) (more : eqb noMore s ≡ false) (op : Rule) (c : Code) (operand : ℕ → Rule) (operand₀ : Rule) (n : ℕ)
+    (went-op : (ts : Stream) → Went Op (λ i. op) ts (op ts)) (went-operand : (ts : Stream) → size ts ≤ n → Went O operand ts (operand₀ ts))
+    (some : Viable O []) (grows : Grows (Turn Op O c)) (turn : Within (Turn Op O c) (On D)) where
+  went-row : (k : ℕ) (ts : Stream) → size ts ≤ k → size ts ≤ n → Went (On D) (λ i. row (plus k i) s op c (operand i)) ts (row k s op c operand₀ ts)
+  unfolding row size _⊕_ plus
+  went-row zero (ends p) h m =
+      reads [] refl (on-nil D [] [] wrote) (λ i later q. row-stops s op c (operand i) i later (ap (λ r. eqb r s) (q .symbol) ∙ more))
+  went-row zero (token t us) h m = absurd (omega arith)
+  went-row (suc k) ts h m =
+      went-if (λ r. eqb r s) (λ i us. op us then operand i then writes c then row (plus k i) s op c (operand i))
+      (λ us. op us then operand₀ then writes c then row k s op c operand₀) (λ i us. read [] us) (λ us. read [] us) ts
+      (λ e. went-map (on-on D (Turn Op O c) turn)
+      (went-then (λ i us. op us then operand i then writes c) (λ i. row (plus k i) s op c (operand i)) (row k s op c operand₀) (on-some D) ts
+      (went-then (λ i us. op us then operand i) (λ i. writes c) (writes c) (wrote-some _) ts
+      (went-then (λ i. op) operand operand₀ some ts (went-op ts) (λ pre rest cs x d. went-operand rest (omega (arith, rest-size ts pre rest x))))
+      (λ pre rest cs x d. went-read _ rest))
+      (λ pre rest cs x d. went-row k rest (omega (arith, rest-size ts pre rest x, grows pre cs d)) (omega (arith, rest-size ts pre rest x)))))
+      (λ e. went-map (on-nil D) (went-read [] ts))
+
+filter-on : Within FilterCodes (On FTSelection)
+filter-on us ds (filter-codes f) ls bs d = selection-filter d f
+
+filter-grows : Grows FilterCodes
+filter-grows us ds (filter-codes f) = filter-length us f
+
+near-filter : (a b : Stream) → Near a b → startsFilter b ≡ startsFilter a
+unfolding startsFilter
+near-filter a b n = ap (λ s. leb k-ordered s && leb s k-entire) (n .symbol)
+
+went-filters : (k : ℕ) (ts : Stream) → size ts ≤ k → Went (On FTSelection) (λ i. filters (plus k i)) ts (filters k ts)
+unfolding filters startsFilter size _⊕_ plus
+went-filters zero (ends p) h =
+    reads [] refl (on-nil FTSelection [] [] wrote) (λ i later q. filters-stop i later (near-filter (ends p) later q ∙ no-filter p))
+went-filters zero (token t us) h = absurd (omega arith)
+went-filters (suc k) ts h =
+    went-if (λ s. leb k-ordered s && leb s k-entire) (λ i us. filter us then filters (plus k i)) (λ us. filter us then filters k)
+    (λ i us. read [] us) (λ us. read [] us) ts
+    (λ e. went-map (on-on FTSelection FilterCodes filter-on)
+    (went-then (λ i. filter) (λ i. filters (plus k i)) (filters k) (on-some FTSelection) ts (went-filter ts)
+    (λ pre rest cs x d. went-filters k rest (omega (arith, rest-size ts pre rest x, filter-grows pre cs d)))))
+    (λ e. went-map (on-nil FTSelection) (went-read [] ts))
+
+-- ---- the rules
+
+primary-some : Viable FTPrimary []
+primary-some = record {
+  more = aSign quote ∷ aNumber ∷ aSign quote ∷ [];
+  codes = _;
+  holds = phrase (a-sign quote) (word-more (a-number maxWord) no-word) (omega arith) (omega arith) (a-sign quote);
+}
+
+unary-some : Viable FTUnaryNot []
+unary-some = let v = primary-some in record { more = v .more; codes = v .codes; holds = unary-primary (v .holds) }
+
+mild-some : Viable FTMildNot []
+mild-some = let v = unary-some in record { more = v .more; codes = v .codes; holds = mild-unary (v .holds) }
+
+and-some : Viable FTAnd []
+and-some = let v = mild-some in record { more = v .more; codes = v .codes; holds = and-mild (v .holds) }
+
+phrase-join : Joins (Sign quote) (Tail maxWaiting 0) FTPrimary
+phrase-join t vs ds q (tail {j = j} {m = m} d e l h r) = let f : m ≡ j = omega arith in rw f (phrase q d (omega arith) h r)
+
+nested-join : Joins (Sign opening) (Seq FTSelection (One (Sign closing))) FTPrimary
+nested-join t vs ds o (seq {cs = cs} d (one c)) = rw (append-nil cs) (nested o d c)
+
+not-join : Joins (Keyword "ftnot") (Seq FTPrimary (Wrote (Not ∷ []))) FTUnaryNot
+not-join t vs ds w (seq {ts = ts} d wrote) = rw (append-nil ts) (unary-not w d)
+
+or-turn : Within (Turn (One (Keyword "ftor")) FTAnd (Combine Or)) (On FTOr)
+or-turn us ds (seq (seq {us = vs} (one w) e) wrote) ls bs d = rw (append-nil vs) (or-more d w e)
+
+and-turn : Within (Turn (One (Keyword "ftand")) FTMildNot (Combine And)) (On FTAnd)
+and-turn us ds (seq (seq {us = vs} (one w) e) wrote) ls bs d = rw (append-nil vs) (and-more d w e)
+
+abbrev NotIn : Production
+NotIn = Seq (One (Keyword "not")) (One (Keyword "in"))
+
+mild-turn : Within (Turn NotIn FTUnaryNot (Combine MildNot)) (On FTMildNot)
+mild-turn us ds (seq (seq {us = vs} (seq (one w) (one i)) e) wrote) ls bs d = rw (append-nil vs) (mild-more d w i e)
+
+one-grows : {O : Production} {T : Token → Type 0} (c : Code) → Grows (Turn (One T) O c)
+one-grows c us ds (seq (seq (one w) e) wrote) = omega arith
+
+two-grows : {O : Production} {T U : Token → Type 0} (c : Code) → Grows (Turn (Seq (One T) (One U)) O c)
+two-grows c us ds (seq (seq (seq (one w) (one i)) e) wrote) = omega arith
+
+went-not-in : (ts : Stream) → Went NotIn (λ i. notIn) ts (notIn ts)
+went-not-in ts =
+    went-then (λ i. expect k-not) (λ i. expect k-in) (expect k-in) (word-some "in") ts (went-word k-not refl ts) (λ pre rest cs x d. went-word k-in refl rest)
+
+token-size : (t : Token) (us : Stream) → size (token t us) ≡ suc (size us)
+unfolding size
+token-size t us = refl
+
+-- with fuel n, and with i more
+module _ (n : ℕ) (inner : (us : Stream) → size us < n → Went FTSelection (λ i. ftSelection (plus n i)) us (ftSelection n us)) where
+  went-primary : (ts : Stream) → size ts ≤ n → Went FTPrimary (λ i. ftPrimary (plus n i) (ftSelection (plus n i))) ts (ftPrimary n (ftSelection n) ts)
+  unfolding ftPrimary
+  went-primary ts h =
+      let rule : ℕ → Rule = λ i us. ftSelection (plus n i) us then expect s-closing in
+      let rule₀ : Rule = λ us. ftSelection n us then expect s-closing in
+      let other : ℕ → Rule = λ i us. cond (eqb (symbolIn us) s-opening) (rule i (restOf us)) (refused us) in
+      let other₀ : Rule = λ us. cond (eqb (symbolIn us) s-opening) (rule₀ (restOf us)) (refused us) in
+      went-case (λ s. eqb s s-quote) (sign-taken quote) (λ i. words maxWaiting 0) (words maxWaiting 0) other other₀ phrase-join
+      ts (λ t us e q. went-words maxWaiting 0 (omega arith) us)
+      (λ e. went-case (λ s. eqb s s-opening) (sign-taken opening) rule rule₀ (λ i us. refused us) (λ us. refused us) nested-join
+      ts (λ t us f o. went-then (λ i. ftSelection (plus n i)) (λ i. expect s-closing) (expect s-closing) (sign-some closing) us
+      (inner us (omega (arith, token-size t us, ap size f))) (λ pre rest cs x d. went-sign closing rest))
+      (λ f. went-refused primary-some ts))
+
+  went-unary : (ts : Stream) → size ts ≤ n → Went FTUnaryNot (λ i. ftUnaryNot (plus n i) (ftSelection (plus n i))) ts (ftUnaryNot n (ftSelection n) ts)
+  unfolding ftUnaryNot
+  went-unary ts h =
+      let rule : ℕ → Rule = λ i. ftPrimary (plus n i) (ftSelection (plus n i)) in
+      let rule₀ : Rule = ftPrimary n (ftSelection n) in
+      went-case (λ s. eqb s k-ftnot) (keyword-taken k-ftnot refl) (λ i us. rule i us then writes Not) (λ us. rule₀ us then writes Not) rule rule₀ not-join
+      ts (λ t us e w. went-then rule (λ i. writes Not) (writes Not) (wrote-some _) us (went-primary us (omega (arith, token-size t us, ap size e)))
+      (λ pre rest cs x d. went-read _ rest))
+      (λ e. went-map (λ us ds d. unary-primary d) (went-primary ts h))
+
+  went-mild : (ts : Stream) → size ts ≤ n → Went FTMildNot (λ i. ftMildNot (plus n i) (ftSelection (plus n i))) ts (ftMildNot n (ftSelection n) ts)
+  unfolding ftMildNot
+  went-mild ts h =
+      let c : Code = Combine MildNot in
+      let rule : ℕ → Rule = λ i. ftUnaryNot (plus n i) (ftSelection (plus n i)) in
+      let rule₀ : Rule = ftUnaryNot n (ftSelection n) in
+      went-map (onto FTMildNot FTUnaryNot (λ us ds d. mild-unary d))
+      (went-then rule (λ i. row (plus n i) k-not notIn c (rule i)) (row n k-not notIn c rule₀) (on-some FTMildNot) ts (went-unary ts h)
+      (λ pre rest cs x d.
+      went-row NotIn FTUnaryNot FTMildNot k-not refl notIn c rule rule₀ n went-not-in went-unary unary-some (two-grows c) mild-turn
+      n rest (omega (arith, rest-size ts pre rest x)) (omega (arith, rest-size ts pre rest x))))
+
+  went-and : (ts : Stream) → size ts ≤ n → Went FTAnd (λ i. ftAnd (plus n i) (ftSelection (plus n i))) ts (ftAnd n (ftSelection n) ts)
+  unfolding ftAnd
+  went-and ts h =
+      let c : Code = Combine And in
+      let rule : ℕ → Rule = λ i. ftMildNot (plus n i) (ftSelection (plus n i)) in
+      let rule₀ : Rule = ftMildNot n (ftSelection n) in
+      went-map (onto FTAnd FTMildNot (λ us ds d. and-mild d))
+      (went-then rule (λ i. row (plus n i) k-ftand (expect k-ftand) c (rule i)) (row n k-ftand (expect k-ftand) c rule₀) (on-some FTAnd)
+      ts (went-mild ts h)
+      (λ pre rest cs x d.
+      went-row (One (Keyword "ftand")) FTMildNot FTAnd k-ftand refl (expect k-ftand) c rule rule₀ n (went-word k-ftand refl) went-mild mild-some
+      (one-grows c) and-turn n rest (omega (arith, rest-size ts pre rest x)) (omega (arith, rest-size ts pre rest x))))
+
+  went-or : (ts : Stream) → size ts ≤ n → Went FTOr (λ i. ftOr (plus n i) (ftSelection (plus n i))) ts (ftOr n (ftSelection n) ts)
+  unfolding ftOr
+  went-or ts h =
+      let c : Code = Combine Or in
+      let rule : ℕ → Rule = λ i. ftAnd (plus n i) (ftSelection (plus n i)) in
+      let rule₀ : Rule = ftAnd n (ftSelection n) in
+      went-map (onto FTOr FTAnd (λ us ds d. or-and d))
+      (went-then rule (λ i. row (plus n i) k-ftor (expect k-ftor) c (rule i)) (row n k-ftor (expect k-ftor) c rule₀) (on-some FTOr)
+      ts (went-and ts h)
+      (λ pre rest cs x d.
+      went-row (One (Keyword "ftor")) FTAnd FTOr k-ftor refl (expect k-ftor) c rule rule₀ n (went-word k-ftor refl) went-and and-some
+      (one-grows c) or-turn n rest (omega (arith, rest-size ts pre rest x)) (omega (arith, rest-size ts pre rest x))))
+
+pub went-selection : (n : ℕ) (ts : Stream) → size ts < n → Went FTSelection (λ i. ftSelection (plus n i)) ts (ftSelection n ts)
+unfolding ftSelection plus
+went-selection zero ts h = absurd (omega arith)
+went-selection (suc n) ts h =
+    went-map (onto FTSelection FTOr (λ us ds d. selection-or d))
+    (went-then (λ i. ftOr (plus n i) (ftSelection (plus n i))) (λ i. filters (plus n i)) (filters n) (on-some FTSelection)
+    ts (went-or n (went-selection n) ts (omega arith)) (λ pre rest cs x d. went-filters n rest (omega (arith, rest-size ts pre rest x))))
