@@ -4,7 +4,7 @@ use native.Mathlib.Omega.{arith}
 use mathlib.Core.Path.{_≡_, refl, sym, ap, _∙_}
 use mathlib.Core.Bool.{Bool, true, false, cond}
 use mathlib.Core.List.{List, [], _∷_, _++_, append-nil}
-use borrow.Author.Tests.{eqb-false, ne-eqb, eq-eqb}
+use borrow.Author.Tests.{eqb-false}
 use lib.Dec.{eqb}
 use lib.ListN.{length, take}
 use Rattle.model.specs.declared.Code.{Code}
@@ -17,72 +17,40 @@ use Rattle.grammar.specs.Grammar.{Outcome, failed, read, Rule, behind, _then_, 
 use Rattle.scanner.specs.Scanned.{Inside, Scanned, endOf, startOf, symbolAt}
 use Rattle.flat_rules.specs.Steps.{Step, reached, stopped, stepOf, hasFailed, atOf, countOf, numberOf, placeOf}
 use Rattle.flat_rules.specs.Answers.{Wrote, Ready, Further, NoLess, ReadsTo, Says, Went, Answers, WentMany, AnswersMany}
-use Rattle.flat_rules.proofs.AnswersLaws.{behind-behind, behind-none, wrote-none, wrote-append, answers-from, answers-failed, ready-next, step-reached, step-stopped}
-
--- ---- one rule, then another
-
-then-read : {o : Outcome} {cs : List Code} {us : Stream} (r : Rule) → o ≡ read cs us → (o then r) ≡ behind cs (r us)
-unfolding _then_
-then-read r e = ap (λ x. x then r) e
-
-then-failed : {o : Outcome} {x y : ℕ} (r : Rule) → o ≡ failed x y → (o then r) ≡ failed x y
-unfolding _then_
-then-failed r e = ap (λ z. z then r) e
-
--- a code after what was read
-then-writes : {o : Outcome} {cs : List Code} {us : Stream} (c : Code) → o ≡ read cs us → (o then writes c) ≡ read (cs ++ c ∷ []) us
-unfolding behind
-then-writes c e = then-read (writes c) e
-
--- nothing after what was read
-then-none : {o : Outcome} {cs : List Code} {us vs : Stream} (r : Rule) → o ≡ read cs us → r us ≡ read [] vs → (o then r) ≡ read cs vs
-unfolding behind
-then-none {cs = cs} {vs = vs} r e f = then-read r e ∙ ap (behind cs) f ∙ ap (λ l. read l vs) (append-nil cs)
+use Rattle.grammar.proofs.JoiningLaws.{behind-behind}
+use Rattle.flat_rules.proofs.AnswersLaws.{behind-none, then-read, then-failed, then-goes, then-writes, then-none, wrote-none, wrote-append, answers-from, answers-failed, answers-as, answers-known, ready-next, step-read, step-failed, symbol-yes, some-further}
 
 -- ---- the answer of a call
 
-module _ {rule : ℕ → Rule} {bytes entry exit : List ℕ} {size at count : ℕ} (r : ℕ) where
+module _ {rule : ℕ → Rule} {bytes entry exit : List ℕ} {size at count : ℕ} (r : ℕ) {failed' : Bool} (e : failed' ≡ hasFailed r) where
   -- what was read, where the call has not failed
-  pub is-reached : {b : Bool} {q m : ℕ} → b ≡ hasFailed r → b ≡ false → q ≡ atOf r → m ≡ countOf r → Answers rule bytes size at entry exit count (stepOf r)
-      → Answers rule bytes size at entry exit count (reached q m)
-  is-reached e f g h a = rw (g, h) (rw (step-reached r (sym e ∙ f)) at a)
+  pub is-reached : {q m : ℕ} → failed' ≡ false → q ≡ atOf r → m ≡ countOf r → Answers rule bytes size at entry exit count (stepOf r) → Answers rule bytes size at entry exit count (reached q m)
+  is-reached f g h a = answers-known (step-read r e f g h) a
 
   -- an error is passed up
-  pub passed-up : {rule' : ℕ → Rule} {entry' : List ℕ} {at' count' : ℕ} {b : Bool} → b ≡ hasFailed r → b ≡ true
+  pub passed-up : {rule' : ℕ → Rule} {entry' : List ℕ} {at' count' : ℕ} → failed' ≡ true
       → ((x y : ℕ) → Answers rule bytes size at entry exit count (stopped x y) → Answers rule' bytes size at' entry' exit count' (stopped x y))
       → Answers rule bytes size at entry exit count (stepOf r) → Answers rule' bytes size at' entry' exit count' (stepOf r)
-  passed-up e f up a = rw (step-stopped r (sym e ∙ f)) (up _ _ (rw (step-stopped r (sym e ∙ f)) at a))
+  passed-up f up a = answers-as (step-failed r e f) (up _ _ (answers-known (step-failed r e f) a))
 
-  pub answers-as : {s : Step} → stepOf r ≡ s → Answers rule bytes size at entry exit count s → Answers rule bytes size at entry exit count (stepOf r)
-  answers-as e a = rw e a
+-- ---- a token of the symbol s, from `at` to `end`
 
--- ---- a token of a symbol
-
--- from `at` to `end`
 pub record Begins (s : ℕ) (bytes : List ℕ) (size at end : ℕ) : Type 0 where
   pub first : eqb (symbolIn (streamAt (take size bytes) at)) s ≡ true
   pub rest : restOf (streamAt (take size bytes) at) ≡ streamAt (take size bytes) end
   pub on : at < end
   pub end-within : end ≤ size
 
-module _ {bytes : List ℕ} {size at t : ℕ} (scanned : Scanned bytes size at t) (s : ℕ) where
-  pub begins : {symbol end : ℕ} → symbol ≡ symbolAt t → symbol ≡ s → eqb s noMore ≡ false → end ≡ endOf t → Begins s bytes size at end
-  begins {symbol} {end} e f g h = record {
-    first = rw (scanned .symbol-is) (eq-eqb (symbolAt t) s (omega arith));
-    rest = scanned .rest-is ∙ ap (streamAt (take size bytes)) (sym h);
-    on = let some : startOf t < endOf t = scanned .some (λ z. eqb-false s noMore g (omega arith)) in omega (arith, scanned .from);
-    end-within = omega (arith, scanned .end-within);
-  }
-
-  module _ {symbol : ℕ} (e : symbol ≡ symbolAt t) (f : ¬ (symbol ≡ s)) where
-    pub begins-not : eqb (symbolIn (streamAt (take size bytes) at)) s ≡ false
-    begins-not = rw (scanned .symbol-is) (ne-eqb (symbolAt t) s (λ z. f (omega arith)))
-
-    pub expect-not : expect s (streamAt (take size bytes) at) ≡ failed 10 (startOf t + 1)
-    expect-not = rw begins-not (ap (failed 10) (scanned .place-is))
+pub begins : {bytes : List ℕ} {size at t symbol end : ℕ} → Scanned bytes size at t → symbol ≡ symbolAt t → end ≡ endOf t → (s : ℕ) → symbol ≡ s → eqb s noMore ≡ false → Begins s bytes size at end
+begins {bytes} {size} {symbol = symbol} {end = end} scanned e h s f g = record {
+  first = symbol-yes scanned e s f;
+  rest = scanned .rest-is ∙ ap (streamAt (take size bytes)) (sym h);
+  on = some-further scanned e (λ z. eqb-false s noMore g (sym f ∙ z)) h;
+  end-within = omega (arith, scanned .end-within);
+}
 
 module _ {s : ℕ} {bytes : List ℕ} {size at end : ℕ} (b : Begins s bytes size at end) where
-  pub expect-is : expect s (streamAt (take size bytes) at) ≡ read [] (streamAt (take size bytes) end)
+  expect-is : expect s (streamAt (take size bytes) at) ≡ read [] (streamAt (take size bytes) end)
   expect-is = rw (b .first) (ap (read []) (b .rest))
 
   -- ready after it
@@ -134,7 +102,7 @@ module _ (L : Level) where
 
   turn-some : (k f : ℕ) (ts us : Stream) → eqb (symbolIn ts) (L .symbol) ≡ true → L .op ts ≡ read [] us → rowOf k (suc f) ts ≡ turn true k f us
   unfolding turn
-  turn-some k f ts us h e = row-some k f ts h ∙ ap (λ o. o then writes (L .code) then rowOf k f) (then-read (L .operand k) e ∙ behind-none (L .operand k us))
+  turn-some k f ts us h e = row-some k f ts h ∙ ap (λ o. o then writes (L .code) then rowOf k f) (then-goes (L .operand k) e)
 
 -- the outcome o is what is left after the codes written, with turns enough
 pub record Going (o : Outcome) (left : ℕ → Outcome) (least : ℕ) (entry exit : List ℕ) (count count' : ℕ) : Type 0 where
@@ -255,15 +223,15 @@ module _ {L : Level} {bytes entry exit : List ℕ} {size at count q n : ℕ} (r 
 
 -- ---- the three levels
 
-or-is : (n : ℕ) (ts : Stream) → ftOr n (ftSelection n) ts ≡ (ftAnd n (ftSelection n) ts then row n k-ftor (expect k-ftor) (Combine Or) (ftAnd n (ftSelection n)))
+pub or-is : (n : ℕ) (ts : Stream) → ftOr n (ftSelection n) ts ≡ (ftAnd n (ftSelection n) ts then row n k-ftor (expect k-ftor) (Combine Or) (ftAnd n (ftSelection n)))
 unfolding ftOr
 or-is n ts = refl
 
-and-is : (n : ℕ) (ts : Stream) → ftAnd n (ftSelection n) ts ≡ (ftMildNot n (ftSelection n) ts then row n k-ftand (expect k-ftand) (Combine And) (ftMildNot n (ftSelection n)))
+pub and-is : (n : ℕ) (ts : Stream) → ftAnd n (ftSelection n) ts ≡ (ftMildNot n (ftSelection n) ts then row n k-ftand (expect k-ftand) (Combine And) (ftMildNot n (ftSelection n)))
 unfolding ftAnd
 and-is n ts = refl
 
-mild-is : (n : ℕ) (ts : Stream) → ftMildNot n (ftSelection n) ts ≡ (ftUnaryNot n (ftSelection n) ts then row n k-not notIn (Combine MildNot) (ftUnaryNot n (ftSelection n)))
+pub mild-is : (n : ℕ) (ts : Stream) → ftMildNot n (ftSelection n) ts ≡ (ftUnaryNot n (ftSelection n) ts then row n k-not notIn (Combine MildNot) (ftUnaryNot n (ftSelection n)))
 unfolding ftMildNot
 mild-is n ts = refl
 
@@ -357,9 +325,10 @@ module _ {bytes : List ℕ} {size at : ℕ} where
   primary-words r b a = answers-from r (λ n l. rw (b .first, b .rest)) (omega (arith, b .on)) a
 
   module _ (no : eqb (symbolIn (streamAt (take size bytes) at)) s-quote ≡ false) where
-    pub primary-not : {entry exit : List ℕ} {count x y : ℕ} → expect s-opening (streamAt (take size bytes) at) ≡ failed x y → Answers primaryRule bytes size at entry exit count (stopped x y)
+    pub primary-not : {entry exit : List ℕ} {count y : ℕ} → eqb (symbolIn (streamAt (take size bytes) at)) s-opening ≡ false → placeIn (streamAt (take size bytes) at) ≡ y
+        → Answers primaryRule bytes size at entry exit count (stopped 10 y)
     unfolding ftPrimary
-    primary-not e = answers-failed (λ n l. rw no ?)
+    primary-not h e = answers-failed (λ n l. rw (no, h) (ap (failed 10) e))
 
     module _ {e : ℕ} (b : Begins s-opening bytes size at e) where
       -- the turns of the selection in parentheses, which begins after one byte at least
