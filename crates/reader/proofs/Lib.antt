@@ -1,2 +1,4 @@
--- What the proofs of the rules rest on.
+-- Why the rules answer as the grammar's do.
+pub mod CallsLaws
+pub mod LevelsLaws
 pub mod RulesLaws
