@@ -1,2 +1,6 @@
 -- Why the rules answer as the grammar's do.
 pub mod AnswersLaws
+pub mod StepsLaws
+pub mod TokensLaws
+pub mod FiltersLaws
+pub mod PhrasesLaws

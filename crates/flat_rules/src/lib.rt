@@ -79,15 +79,15 @@ fn coded(
     operand: u32,
 ) -> u64
     requires { ⌜ Ready (now text) size at count ⌝ }
-    requires { ⌜ symbol < 1024 ⌝ }
+    requires { ⌜ symbol < 24 ⌝ }
     ensures { λ r. ⌜ ((c : Code) → CodeIs c kind operand → Answers (λ _. codedRule symbol c) (now (text .entry)) size at (now (codes .entry)) (now (codes .exit)) count (stepOf r)) ⌝ }
 {
     let t = scanner::token_at(text, size, at);
     if scanner::symbol_of(t) != symbol {
         return steps::error_at(10, t);
     }
-    let m = push(codes, count, kind, operand);
-    steps::read(scanner::end_of(t), m)
+    push(codes, count, kind, operand);
+    steps::read(scanner::end_of(t), count + 1)
 }
 
 // One of two words; the first has the code of a kind, the second that of the next.
@@ -102,14 +102,13 @@ fn either(
     second: u32,
 ) -> u64
     requires { ⌜ Ready (now text) size at count ⌝ }
-    requires { ⌜ first < 24 ⌝ }
-    requires { ⌜ second < 24 ⌝ }
+    requires { ⌜ (first < 24) × (second < 24) × (kind < 15) ⌝ }
     ensures { λ r. ⌜ ((c d : Code) → CodeIs c kind 0 → CodeIs d (kind + 1) 0 → Answers (λ _. eitherRule first c second d) (now (text .entry)) size at (now (codes .entry)) (now (codes .exit)) count (stepOf r)) ⌝ }
 {
     let t = scanner::token_at(text, size, at);
     if scanner::symbol_of(t) == first {
-        let m = push(codes, count, kind, 0);
-        return steps::read(scanner::end_of(t), m);
+        push(codes, count, kind, 0);
+        return steps::read(scanner::end_of(t), count + 1);
     }
     coded(text, size, at, codes, count, second, kind + 1, 0)
 }

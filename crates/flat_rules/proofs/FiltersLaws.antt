@@ -1,0 +1,232 @@
+-- The rules of a filter by the first symbol, the codes that their numbers make, and the loop over filters.
+use Prim.Native.Nat.{ℕ, zero, suc, _+_, _*_, _-_, _≤_, _<_}
+use native.Mathlib.Omega.{arith}
+use native.Mathlib.Nat.{mul-le-mul}
+use mathlib.Core.Path.{_≡_, refl, sym, ap, _∙_}
+use mathlib.Core.Bool.{Bool, true, false, _&&_}
+use mathlib.Core.List.{List, [], _∷_, _++_, append-nil}
+use borrow.Author.Tests.{ne-eqb, eq-eqb}
+use lib.Dec.{eqb, leb}
+use lib.ListN.{take}
+use Rattle.model.specs.declared.Code.{Code}
+use Rattle.model.specs.declared.Code.the-variants.{Filter as Filtered}
+use Rattle.model.specs.declared.Filter.the-variants.{Ordered, Window, Distance, SameSentence, SameParagraph, DifferentSentence, DifferentParagraph, AtStart, AtEnd, EntireContent}
+use Rattle.model.specs.Limits.{maxDistance, maxNumber}
+use Rattle.model.specs.Selection.{kindOf, operandOf}
+use Rattle.grammar.specs.Stream.{Stream, restOf, valueIn, streamAt}
+use Rattle.grammar.specs.Symbols.{k-ordered, k-window, k-distance, k-same, k-different, k-at, k-entire, k-start, k-end, k-sentence, k-paragraph, k-content, k-exactly, k-from, k-to, k-least, k-most, k-words, symbolIn}
+use Rattle.grammar.specs.Grammar.{failed, read, Rule, behind, _then_, refused, expect, number, coded, measured, distanceFrom, distanceAt, distance, either, startsFilter, filter, filters}
+use Rattle.grammar.proofs.JoiningLaws.{behind-behind}
+use Rattle.flat_rules.specs.Steps.{Step, reached, stopped}
+use Rattle.flat_rules.specs.Answers.{CodeIs, Makes, Wrote, Ready, NoLess, ReadsTo, Says, Answers, WentMany, AnswersMany}
+use Rattle.flat_rules.proofs.AnswersLaws.{answers-failed, behind-none, failed-is, read-codes, read-further, ready-next, then-failed, then-goes, then-read, wrote-append, wrote-none}
+
+-- ---- a symbol and its code
+
+module _ (k : ℕ) (c : Code) (ts : Stream) where
+  pub coded-yes : symbolIn ts ≡ k → coded k c ts ≡ read (c ∷ []) (restOf ts)
+  unfolding coded _then_ behind
+  coded-yes h = rw (eq-eqb _ _ h)
+
+  pub coded-no : ¬ (symbolIn ts ≡ k) → coded k c ts ≡ refused ts
+  unfolding coded _then_
+  coded-no h = rw (ne-eqb _ _ h)
+
+module _ (j : ℕ) (c : Code) (k : ℕ) (d : Code) (ts : Stream) where
+  pub either-first : symbolIn ts ≡ j → either j c k d ts ≡ read (c ∷ []) (restOf ts)
+  unfolding either
+  either-first h = rw (eq-eqb _ _ h)
+
+  pub either-second : ¬ (symbolIn ts ≡ j) → either j c k d ts ≡ coded k d ts
+  unfolding either
+  either-second h = rw (ne-eqb _ _ h)
+
+-- ---- the codes that a number makes
+
+pub product-small : (v t p : ℕ) → v ≤ 4096 → t ≤ 65537 → p ≤ 268435456 → v * t + p ≤ 536875008
+product-small v t p a b c = omega (arith, mul-le-mul a b)
+
+pub makes-window : Makes (λ n. Filtered (Window n)) 7 1 0
+makes-window = record { makes = λ n h. record { kind-is = refl; operand-is = omega arith } }
+
+pub makes-exactly : Makes (λ n. Filtered (Distance n n)) 8 65537 0
+makes-exactly = record { makes = λ n h. record { kind-is = refl; operand-is = omega arith } }
+
+pub makes-least : Makes (λ n. Filtered (Distance n maxDistance)) 8 65536 4095
+makes-least = record { makes = λ n h. record { kind-is = refl; operand-is = omega arith } }
+
+pub makes-most : Makes (λ n. Filtered (Distance 0 n)) 8 1 0
+makes-most = record { makes = λ n h. record { kind-is = refl; operand-is = omega arith } }
+
+pub makes-from : (a : ℕ) → Makes (λ n. Filtered (Distance a n)) 8 1 (a * 65536)
+makes-from a = record { makes = λ n h. record { kind-is = refl; operand-is = omega arith } }
+
+-- ---- numbers
+
+-- after a number that makes a code
+abbrev pub worded : (ℕ → Code) → ℕ → Rule
+worded f n rest = coded k-words (f n) rest
+
+-- after the first number of `from a to b words`
+unfoldable pub toward : ℕ → Rule
+toward a rest = expect k-to rest then measured (λ b. Filtered (Distance a b))
+
+module _ (ts : Stream) where
+  pub measured-number : (f : ℕ → Code) → measured f ts ≡ number maxNumber (worded f) ts
+  unfolding measured
+  measured-number f = refl
+
+  pub from-number : distanceFrom ts ≡ number maxNumber toward ts
+  unfolding distanceFrom toward
+  from-number = refl
+
+  -- ---- distance
+
+  pub toward-yes : (a : ℕ) → symbolIn ts ≡ k-to → toward a ts ≡ measured (λ b. Filtered (Distance a b)) (restOf ts)
+  unfolding toward
+  toward-yes a h = then-goes (measured (λ b. Filtered (Distance a b))) (let one : expect k-to ts ≡ read [] (restOf ts) = rw h in one)
+
+  pub toward-no : (a : ℕ) → ¬ (symbolIn ts ≡ k-to) → toward a ts ≡ refused ts
+  unfolding toward _then_
+  toward-no a h = rw (ne-eqb _ _ h)
+
+  pub at-least : symbolIn ts ≡ k-least → distanceAt ts ≡ measured (λ a. Filtered (Distance a maxDistance)) (restOf ts)
+  unfolding distanceAt
+  at-least h = rw h
+
+  pub at-most : symbolIn ts ≡ k-most → distanceAt ts ≡ measured (λ b. Filtered (Distance 0 b)) (restOf ts)
+  unfolding distanceAt _then_
+  at-most h = rw h (behind-none _)
+
+  pub at-neither : ¬ (symbolIn ts ≡ k-least) → ¬ (symbolIn ts ≡ k-most) → distanceAt ts ≡ refused ts
+  unfolding distanceAt _then_
+  at-neither h k = rw (ne-eqb _ _ h, ne-eqb _ _ k)
+
+  pub range-exactly : symbolIn ts ≡ k-exactly → distance ts ≡ measured (λ n. Filtered (Distance n n)) (restOf ts)
+  unfolding distance
+  range-exactly h = rw h
+
+  pub range-from : symbolIn ts ≡ k-from → distance ts ≡ distanceFrom (restOf ts)
+  unfolding distance
+  range-from h = rw h
+
+  pub range-at : symbolIn ts ≡ k-at → distance ts ≡ distanceAt (restOf ts)
+  unfolding distance _then_
+  range-at h = rw h (behind-none _)
+
+  pub range-none : ¬ (symbolIn ts ≡ k-exactly) → ¬ (symbolIn ts ≡ k-from) → ¬ (symbolIn ts ≡ k-at) → distance ts ≡ refused ts
+  unfolding distance _then_
+  range-none h k l = rw (ne-eqb _ _ h, ne-eqb _ _ k, ne-eqb _ _ l)
+
+  -- ---- a filter
+
+  pub filter-ordered : symbolIn ts ≡ k-ordered → filter ts ≡ read (Filtered Ordered ∷ []) (restOf ts)
+  unfolding filter
+  filter-ordered h = rw h
+
+  pub filter-window : symbolIn ts ≡ k-window → filter ts ≡ measured (λ n. Filtered (Window n)) (restOf ts)
+  unfolding filter
+  filter-window h = rw h
+
+  pub filter-distance : symbolIn ts ≡ k-distance → filter ts ≡ distance (restOf ts)
+  unfolding filter
+  filter-distance h = rw h
+
+  pub filter-same : symbolIn ts ≡ k-same → filter ts ≡ either k-sentence (Filtered SameSentence) k-paragraph (Filtered SameParagraph) (restOf ts)
+  unfolding filter
+  filter-same h = rw h
+
+  pub filter-different : symbolIn ts ≡ k-different → filter ts ≡ either k-sentence (Filtered DifferentSentence) k-paragraph (Filtered DifferentParagraph) (restOf ts)
+  unfolding filter
+  filter-different h = rw h
+
+  pub filter-at : symbolIn ts ≡ k-at → filter ts ≡ either k-start (Filtered AtStart) k-end (Filtered AtEnd) (restOf ts)
+  unfolding filter
+  filter-at h = rw h
+
+  pub filter-entire : symbolIn ts ≡ k-entire → filter ts ≡ coded k-content (Filtered EntireContent) (restOf ts)
+  unfolding filter _then_
+  filter-entire h = rw h (behind-none _)
+
+  pub filter-none : ¬ (symbolIn ts ≡ k-ordered) → ¬ (symbolIn ts ≡ k-window) → ¬ (symbolIn ts ≡ k-distance) → ¬ (symbolIn ts ≡ k-same)
+      → ¬ (symbolIn ts ≡ k-different) → ¬ (symbolIn ts ≡ k-at) → ¬ (symbolIn ts ≡ k-entire) → filter ts ≡ refused ts
+  unfolding filter _then_
+  filter-none a b c d e f g = rw (ne-eqb _ _ a, ne-eqb _ _ b, ne-eqb _ _ c, ne-eqb _ _ d, ne-eqb _ _ e, ne-eqb _ _ f, ne-eqb _ _ g)
+
+-- ---- filters: a loop, from where it begins to where it is
+
+pub record Filtering (bytes : List ℕ) (size at : ℕ) (entry exit : List ℕ) (count p m k : ℕ) : Type 0 where
+  pub fuel : ℕ
+  pub enough : size - p < fuel
+  pub codes : List Code
+  pub is : filters k (streamAt (take size bytes) at) ≡ behind codes (filters fuel (streamAt (take size bytes) p))
+  pub wrote : Wrote codes entry exit count m
+
+pub record Filters (bytes : List ℕ) (size at : ℕ) (entry exit : List ℕ) (count p m : ℕ) : Type 0 where
+  pub ready : Ready bytes size p m
+  pub passed : NoLess size at count p m
+  pub going : (k : ℕ) → size - at < k → Filtering bytes size at entry exit count p m k
+
+filters-none : (f : ℕ) (ts : Stream) → startsFilter ts ≡ false → filters f ts ≡ read [] ts
+unfolding filters
+filters-none zero ts h = refl
+filters-none (suc f) ts h = rw h
+
+filters-some : (f : ℕ) (ts : Stream) → startsFilter ts ≡ true → filters (suc f) ts ≡ (filter ts then filters f)
+unfolding filters
+filters-some f ts h = rw h
+
+pub filters-start : {bytes entry : List ℕ} {size at count : ℕ} → Ready bytes size at count → Filters bytes size at entry entry count at count
+filters-start {entry = entry} {count = count} r = record {
+  ready = r;
+  passed = record { on = omega arith; end-within = r .inside .within; few = omega arith };
+  going = λ k h. record { fuel = k; enough = h; codes = []; is = sym (behind-none _); wrote = wrote-none entry count };
+}
+
+-- the test of the first symbol
+pub starts-here : (ts : Stream) {symbol : ℕ} {f b : Bool} → symbolIn ts ≡ symbol → f ≡ (leb k-ordered symbol && leb symbol k-entire) → f ≡ b → startsFilter ts ≡ b
+unfolding startsFilter
+starts-here ts h e g = rw h (sym e ∙ g)
+
+module _ {bytes entry exit : List ℕ} {size at count p m : ℕ} (t : Filters bytes size at entry exit count p m) where
+  pub filters-stop : {r : Step} → startsFilter (streamAt (take size bytes) p) ≡ false → r ≡ reached p m → AnswersMany filters bytes size at entry exit count r
+  unfolding WentMany Says behind
+  filters-stop h e = rw e (record {
+    went = t .passed;
+    says = λ k l. let g = t .going k l in record {
+      codes = g .codes;
+      wrote = g .wrote;
+      is = g .is ∙ ap (behind (g .codes)) (filters-none (g .fuel) (streamAt (take size bytes) p) h) ∙ ap (λ c. read c (streamAt (take size bytes) p)) (append-nil (g .codes));
+    };
+  })
+
+  module _ (h : startsFilter (streamAt (take size bytes) p) ≡ true) where
+    filter-first : (f : ℕ) → size - p < f → filters f (streamAt (take size bytes) p) ≡ (filter (streamAt (take size bytes) p) then filters (f - 1))
+    filter-first f l = let one : f ≡ suc (f - 1) = omega arith in ap (λ k. filters k (streamAt (take size bytes) p)) one ∙ filters-some (f - 1) (streamAt (take size bytes) p) h
+
+    pub filters-fail : {exit' : List ℕ} {x y : ℕ} {r : Step} → r ≡ stopped x y → Answers (λ _. filter) bytes size p exit exit' m r → AnswersMany filters bytes size at entry exit' count r
+    unfolding WentMany Says behind
+    filters-fail e a = rw e (let b = rw e at a in record {
+      went = tt;
+      says = λ k l. let g = t .going k l in
+          g .is ∙ ap (behind (g .codes)) (filter-first (g .fuel) (g .enough) ∙ then-failed (filters (g .fuel - 1)) (failed-is b size (omega arith)));
+    })
+
+    pub filters-step : {exit' : List ℕ} {q j : ℕ} {r : Step} → r ≡ reached q j → Answers (λ _. filter) bytes size p exit exit' m r → Filters bytes size at entry exit' count q j
+    filters-step {q = q} e a =
+        let b = rw e at a in
+        let f = read-further b in
+        record {
+          ready = ready-next (t .ready) f;
+          passed = record { on = omega (arith, t .passed .on, f .on); end-within = f .end-within; few = omega (arith, t .passed .few, f .few) };
+          going = λ k l.
+              let g = t .going k l in
+              let s = read-codes b size (omega arith) in
+              record {
+                fuel = g .fuel - 1;
+                enough = omega (arith, g .enough, f .on, f .end-within);
+                codes = g .codes ++ s .codes;
+                is = g .is ∙ ap (behind (g .codes)) (filter-first (g .fuel) (g .enough) ∙ then-read (filters (g .fuel - 1)) (s .is)) ∙ behind-behind (g .codes) (s .codes) _;
+                wrote = wrote-append (g .wrote) (s .wrote);
+              };
+        }

@@ -1,0 +1,101 @@
+-- The words of a phrase: how its rule goes by the first token, and the loop over the words.
+use Prim.Native.Nat.{ℕ, zero, suc, _+_, _-_, _≤_, _<_}
+use native.Mathlib.Omega.{arith}
+use mathlib.Core.Path.{_≡_, refl, sym, ap, _∙_}
+use mathlib.Core.Bool.{true, false, _&&_, not}
+use mathlib.Core.List.{List, [], _∷_, _++_}
+use borrow.Author.Tests.{ne-eqb, eq-eqb}
+use lib.Dec.{eqb}
+use lib.ListN.{take}
+use Rattle.model.specs.declared.Code.{Code}
+use Rattle.model.specs.declared.Code.the-variants.{Word, Phrase}
+use Rattle.model.specs.Limits.{maxWaiting, maxWord}
+use Rattle.model.specs.Tokens.{numberFrom}
+use Rattle.grammar.specs.Stream.{Stream, restOf, streamAt}
+use Rattle.grammar.specs.Symbols.{noMore, s-number, s-quote, symbolIn}
+use Rattle.grammar.specs.Grammar.{read, Rule, behind, _then_, refused, number, words}
+use Rattle.grammar.proofs.JoiningLaws.{behind-behind}
+use Rattle.scanner.specs.Scanned.{Scanned, bytesFrom, capped, startOf, endOf, symbolAt}
+use Rattle.flat_rules.specs.Steps.{Step}
+use Rattle.flat_rules.specs.Answers.{CodeIs, Wrote, Ready, NoLess, Answers}
+use Rattle.flat_rules.proofs.AnswersLaws.{answers-behind, behind-none, ready-after, some-further, symbol-no, wrote-append, wrote-none}
+use Rattle.flat_rules.proofs.TokensLaws.{number-read, rest-here}
+
+-- ---- the rule by its first token
+
+-- after a word
+unfoldable pub nextWord : ℕ → ℕ → ℕ → Rule
+nextWord left k v rest = read (Word v ∷ []) rest then words left (k + 1)
+
+-- no quote closes the phrase here
+unfoldable pub Open : ℕ → Stream → Type 0
+Open k ts = (eqb (symbolIn ts) s-quote && not (eqb k 0)) ≡ false
+
+module _ (k : ℕ) (ts : Stream) where
+  pub words-closed : (left : ℕ) → symbolIn ts ≡ s-quote → ¬ (k ≡ 0) → words left k ts ≡ read (Phrase k ∷ []) (restOf ts)
+  unfolding words
+  words-closed zero h n = rw (h, ne-eqb k 0 n)
+  words-closed (suc left) h n = rw (h, ne-eqb k 0 n)
+
+  pub words-full : Open k ts → k ≡ maxWaiting → words (maxWaiting - k) k ts ≡ refused ts
+  unfolding words Open
+  words-full h e = let none : maxWaiting - k ≡ 0 = omega arith in rw (none, h)
+
+  pub words-more : Open k ts → ¬ (k ≡ maxWaiting) → k ≤ maxWaiting → words (maxWaiting - k) k ts ≡ number maxWord (nextWord (maxWaiting - (k + 1)) k) ts
+  unfolding words Open nextWord
+  words-more h n f = let some : maxWaiting - k ≡ suc (maxWaiting - (k + 1)) = omega arith in rw (some, h)
+
+-- ---- the loop, from where it begins to where it is
+
+pub record Phrasing (bytes : List ℕ) (size at : ℕ) (entry exit : List ℕ) (count p n k : ℕ) : Type 0 where
+  pub ready : Ready bytes size p n
+  pub passed : NoLess size at count p n
+  pub few : k ≤ maxWaiting
+  pub codes : List Code
+  pub is : words maxWaiting 0 (streamAt (take size bytes) at) ≡ behind codes (words (maxWaiting - k) k (streamAt (take size bytes) p))
+  pub wrote : Wrote codes entry exit count n
+
+pub words-start : {bytes entry : List ℕ} {size at count : ℕ} → Ready bytes size at count → Phrasing bytes size at entry entry count at count 0
+words-start {entry = entry} {count = count} r = record {
+  ready = r;
+  passed = record { on = omega arith; end-within = r .inside .within; few = omega arith };
+  few = omega arith;
+  codes = [];
+  is = sym (behind-none _);
+  wrote = wrote-none entry count;
+}
+
+module _ {bytes entry exit : List ℕ} {size at count p n k : ℕ} (inv : Phrasing bytes size at entry exit count p n k) where
+  -- what the rule answers from here on it answers as a whole
+  pub words-on : {exit' : List ℕ} {r : Step} → Answers (λ _. words (maxWaiting - k) k) bytes size p exit exit' n r → Answers (λ _. words maxWaiting 0) bytes size at entry exit' count r
+  words-on {r = r} a = answers-behind (inv .codes) r (λ m l. inv .is) (inv .wrote) (inv .passed .on) (inv .passed .few) a
+
+  module _ {t symbol : ℕ} (s : Scanned bytes size p t) (e : symbol ≡ symbolAt t) where
+    pub open-other : ¬ (symbol ≡ s-quote) → Open k (streamAt (take size bytes) p)
+    unfolding Open
+    open-other h = rw (symbol-no s e s-quote h)
+
+    pub open-empty : symbol ≡ s-quote → k ≡ 0 → Open k (streamAt (take size bytes) p)
+    unfolding Open
+    open-empty h z = rw (s .symbol-is ∙ sym e ∙ h, z)
+
+    -- one word more
+    pub words-step : {exit' : List ℕ} {v m end : ℕ} → Open k (streamAt (take size bytes) p) → ¬ (k ≡ maxWaiting) → symbol ≡ s-number
+        → v ≡ capped (numberFrom 0 (bytesFrom bytes (startOf t) (endOf t))) → v ≤ maxWord → Wrote (Word v ∷ []) exit exit' n m → end ≡ endOf t
+        → Phrasing bytes size at entry exit' count end m (k + 1)
+    unfolding nextWord _then_
+    words-step {v = v} {end = end} o f h w l u q =
+        let ts = streamAt (take size bytes) p in
+        let on = some-further s e (λ z. omega (arith, h, z)) q in
+        let after = ready-after s (inv .ready) q in
+        let left = maxWaiting - (k + 1) in
+        let one : words (maxWaiting - k) k ts ≡ behind (Word v ∷ []) (words left (k + 1) (streamAt (take size bytes) end))
+        = words-more k ts o f (inv .few) ∙ number-read s e maxWord (nextWord left k) h w l (omega arith) ∙ ap (λ us. behind (Word v ∷ []) (words left (k + 1) us)) (rest-here s q) in
+        record {
+          ready = record { inside = after .inside; few = omega (arith, inv .ready .few, u .counted, on) };
+          passed = record { on = omega (arith, inv .passed .on, on); end-within = after .inside .within; few = omega (arith, inv .passed .few, u .counted, on) };
+          few = omega (arith, inv .few);
+          codes = inv .codes ++ Word v ∷ [];
+          is = inv .is ∙ ap (behind (inv .codes)) one ∙ behind-behind (inv .codes) (Word v ∷ []) _;
+          wrote = wrote-append (inv .wrote) u;
+        }
