@@ -1,2 +1,3 @@
+-- What the scanner's proofs rest on.
 pub mod ScannerLaws
 pub mod WordsLaws

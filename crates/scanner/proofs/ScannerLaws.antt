@@ -11,7 +11,8 @@ use lib.Seq.{drop-cons, getD-drop, getD-take, length-take-le, take-take}
 use Rattle.model.specs.Tokens.{blank, digit, letter, numberFrom}
 use Rattle.grammar.specs.Stream.{ends, token, sortOf, makesRuns, runLength, streamAt, placeIn, bytesIn, restOf}
 use Rattle.grammar.specs.Symbols.{keywords, noMore, s-number, numberAmong, symbolIn, symbolOf}
-use Rattle.grammar.proofs.StreamLaws.{run-more, run-none, run-stops, length-run, number-capped, at-blanks, at-end, at-sign, at-run, no-runs, runs-letter, runs-digit}
+use Rattle.grammar.proofs.StreamLaws.{run-more, run-none, run-stops, length-run, no-runs, runs-letter, runs-digit, number-capped}
+use Rattle.grammar.proofs.StreamLaws.{at-blanks, at-end, at-sign, at-run}
 use Rattle.scanner.specs.Scanned.{Scanned, bytesFrom, symbolAt, startOf, endOf, ceiling, capped}
 
 -- ---- parts
@@ -86,7 +87,8 @@ module _ (bytes : List ℕ) (size at t symbol start end : ℕ) (is : (symbolAt t
     rest-is = rw (is .2) rest-is;
   }
 
-module _ (bytes : List ℕ) (size at start : ℕ) (held : size ≤ length bytes) (blanks : start ≡ at + runLength blank (drop at (take size bytes))) (from : at ≤ start) where
+module _ (bytes : List ℕ) (size at start : ℕ) (held : size ≤ length bytes)
+    (blanks : start ≡ at + runLength blank (drop at (take size bytes))) (from : at ≤ start) where
   abbrev text : List ℕ
   text = take size bytes
 

@@ -59,7 +59,8 @@ module _ (bytes word : List ℕ) (start end : ℕ) (inside : Inside bytes end st
 -- ---- a word among others
 
 -- one keyword: the word is it, or stands behind it
-module _ (n : ℕ) (k : String) (ks : List String) (w : List ℕ) (t : Bool) (is : t ≡ sameBytes w (bytesOf k)) (whole : ℕ) (left : numberAmong n (k ∷ ks) w ≡ whole) where
+module _ (n : ℕ) (k : String) (ks : List String) (w : List ℕ) (t : Bool) (is : t ≡ sameBytes w (bytesOf k))
+    (whole : ℕ) (left : numberAmong n (k ∷ ks) w ≡ whole) where
   pub found : t ≡ true → n ≡ whole
   unfolding numberAmong
   found e = rw (sym is ∙ e) at left
@@ -81,7 +82,8 @@ keyword-most w r e = omega (arith, e, among-most 1 keywords w)
 
 -- one row of keywords: the word is in it, or in a row behind it
 among-either : (n : ℕ) (ks ls : List String) (w : List ℕ)
-    → (numberAmong n ks w < n + length ks → numberAmong n ks w ≡ numberAmong n (ks ++ ls) w) × (n + length ks ≤ numberAmong n ks w → numberAmong (n + length ks) ls w ≡ numberAmong n (ks ++ ls) w)
+    → (numberAmong n ks w < n + length ks → numberAmong n ks w ≡ numberAmong n (ks ++ ls) w)
+    × (n + length ks ≤ numberAmong n ks w → numberAmong (n + length ks) ls w ≡ numberAmong n (ks ++ ls) w)
 unfolding numberAmong
 among-either n [] ls w = (λ h. absurd (omega arith), λ h. ap (λ m. numberAmong m ls w) (omega arith))
 among-either n (k ∷ ks) ls w = at (sameBytes w (bytesOf k)) (among-either (suc n) ks ls w .0) (among-either (suc n) ks ls w .1) where
@@ -92,7 +94,8 @@ among-either n (k ∷ ks) ls w = at (sameBytes w (bytesOf k)) (among-either (suc
   all = numberAmong (suc n) (ks ++ ls) w
 
   at : (t : Bool) → (later < suc n + length ks → later ≡ all) → (suc n + length ks ≤ later → numberAmong (suc n + length ks) ls w ≡ all)
-      → (cond t n later < n + suc (length ks) → cond t n later ≡ cond t n all) × (n + suc (length ks) ≤ cond t n later → numberAmong (n + suc (length ks)) ls w ≡ cond t n all)
+      → (cond t n later < n + suc (length ks) → cond t n later ≡ cond t n all)
+      × (n + suc (length ks) ≤ cond t n later → numberAmong (n + suc (length ks)) ls w ≡ cond t n all)
   at true f g = (λ h. refl, λ h. absurd (omega arith))
   at false f g = (λ h. f (omega arith), λ h. ap (λ m. numberAmong m ls w) (omega arith) ∙ g (omega arith))
 

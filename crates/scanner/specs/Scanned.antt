@@ -20,7 +20,7 @@ startOf t = t / 1048576 % 1048576
 abbrev pub symbolAt : ℕ → ℕ
 symbolAt t = t / 1099511627776
 
--- a position in a text of at most 2,048 bytes, which an array holds
+-- a position in a text of at most 2,048 bytes, which an array holds; of a token, its start in the text up to its end
 pub record Inside (bytes : List ℕ) (size at : ℕ) : Type 0 where
   pub held : size ≤ length bytes
   pub short : size ≤ maxText
