@@ -1,11 +1,6 @@
 -- The number after `from` is read, then `to`, and the second number makes the code with it.
-use mathlib.Core.Path.{_∙_}
-use native.Mathlib.Omega.{arith}
-use Rattle.model.specs.declared.Code.the-variants.{Filter as Filtered}
-use Rattle.model.specs.declared.Filter.the-variants.{Distance}
-use Rattle.model.specs.Limits.{maxNumber}
-use Rattle.flat_rules.proofs.TokensLaws.{answers-after, answers-number, answers-over, answers-refused, here-not, number-none, number-over, number-read}
-use Rattle.flat_rules.proofs.FiltersLaws.{from-number, makes-from, toward, toward-no, toward-yes}
+use Rattle.flat_rules.proofs.TokensLaws.{answers-after, answers-number, answers-over, answers-refused}
+use Rattle.flat_rules.proofs.FiltersLaws.{from-none, from-over, from-read, makes-from, toward-none, toward-second}
 use borrow.Author.Needs.{needs}
 use Rattle.flat_rules.proofs.distance_from.Statement.{statement}
 use Rattle.flat_rules.proofs.distance_from.Tie as tie
@@ -32,7 +27,9 @@ error-at-requires c κs = search needs
 
 -- src/lib.rt:160:9
 returns : tie.Need-returns
-returns c = answers-refused (c .before .before .before .token-at .ensures) (c .before .before .symbol-of .ensures) (from-number _ ∙ number-none (c .before .before .before .token-at .ensures) (c .before .before .symbol-of .ensures) maxNumber toward (c .before .if1 .taken)) (c .error-at .ensures)
+returns c =
+    let a = c .before .before in
+    answers-refused (a .before .token-at .ensures) (a .symbol-of .ensures) (λ ts h. from-none ts h (c .before .if1 .taken)) (c .error-at .ensures)
 
 -- src/lib.rt:162:9
 value-of-requires : tie.Need-value-of-requires
@@ -44,7 +41,9 @@ error-at-requires-2 c κs = search needs
 
 -- src/lib.rt:164:9
 returns-2 : tie.Need-returns-2
-returns-2 c = answers-over (c .before .before .before .before .before .token-at .ensures) (c .before .before .before .before .symbol-of .ensures) (from-number _ ∙ number-over (c .before .before .before .before .before .token-at .ensures) (c .before .before .before .before .symbol-of .ensures) maxNumber toward (c .before .before .before .if1 .left) (c .before .before .value-of .ensures) (c .before .if2 .taken)) (c .error-at2 .ensures)
+returns-2 c =
+    let a = c .before .before .before .before in
+    answers-over (a .before .token-at .ensures) (a .symbol-of .ensures) (c .before .before .value-of .ensures) (λ ts h w. from-over ts h w (c .before .before .before .if1 .left) (c .before .if2 .taken)) (c .error-at2 .ensures)
 
 -- src/lib.rt:166:44
 end-of-requires : tie.Need-end-of-requires
@@ -64,7 +63,12 @@ error-at-requires-3 c κs = search needs
 
 -- src/lib.rt:168:9
 returns-3 : tie.Need-returns-3
-returns-3 c = answers-number (c .before .before .before .before .before .before .before .before .before .token-at .ensures) (c .before .before .before .before .before .before .before .before .symbol-of .ensures) {rule' = toward (c .before .before .before .before .before .before .value-of .result)} (c .before .before .before .before .end-of .ensures) (from-number _ ∙ number-read (c .before .before .before .before .before .before .before .before .before .token-at .ensures) (c .before .before .before .before .before .before .before .before .symbol-of .ensures) maxNumber toward (c .before .before .before .before .before .before .before .if1 .left) (c .before .before .before .before .before .before .value-of .ensures) (c .before .before .before .before .before .if2 .left) (omega arith)) (answers-refused (c .before .before .before .token-at2 .ensures) (c .before .before .symbol-of2 .ensures) (toward-no _ _ (here-not (c .before .before .before .token-at2 .ensures) (c .before .before .symbol-of2 .ensures) (c .before .if3 .taken))) (c .error-at3 .ensures))
+returns-3 c =
+    let b = c .before .before in
+    let v = c .before .before .before .before .before .before .value-of in
+    let a = c .before .before .before .before .before .before .before .before in
+    answers-number (a .before .token-at .ensures) (a .symbol-of .ensures) (v .ensures) (c .before .before .before .before .end-of .ensures) (λ ts h w. from-read ts h w (c .before .before .before .before .before .before .before .if1 .left) (c .before .before .before .before .before .if2 .left))
+    (answers-refused (b .before .token-at2 .ensures) (b .symbol-of2 .ensures) (λ ts h. toward-none ts h (v .result) (c .before .if3 .taken)) (c .error-at3 .ensures))
 
 -- src/lib.rt:173:9
 end-of-requires-2 : tie.Need-end-of-requires-2
@@ -84,7 +88,12 @@ measured-requires c κs = search needs
 
 -- src/lib.rt:154:1
 returns-4 : tie.Need-returns-4
-returns-4 c = answers-number (c .before .before .before .before .before .before .before .before .before .before .before .token-at .ensures) (c .before .before .before .before .before .before .before .before .before .before .symbol-of .ensures) {rule' = toward (c .before .before .before .before .before .before .before .before .value-of .result)} (c .before .before .before .before .before .before .end-of .ensures) (from-number _ ∙ number-read (c .before .before .before .before .before .before .before .before .before .before .before .token-at .ensures) (c .before .before .before .before .before .before .before .before .before .before .symbol-of .ensures) maxNumber toward (c .before .before .before .before .before .before .before .before .before .if1 .left) (c .before .before .before .before .before .before .before .before .value-of .ensures) (c .before .before .before .before .before .before .before .if2 .left) (omega arith)) (answers-after (c .before .before .before .before .before .token-at2 .ensures) (c .before .before .before .before .symbol-of2 .ensures) (c .before .before .before .if3 .left) (c .before .before .end-of2 .ensures) (λ ts. toward-yes ts _) (c .measured .ensures (λ n. Filtered (Distance (c .before .before .before .before .before .before .before .before .value-of .result) n)) (makes-from _)))
+returns-4 c =
+    let b = c .before .before .before .before in
+    let v = c .before .before .before .before .before .before .before .before .value-of in
+    let a = c .before .before .before .before .before .before .before .before .before .before in
+    answers-number (a .before .token-at .ensures) (a .symbol-of .ensures) (v .ensures) (c .before .before .before .before .before .before .end-of .ensures) (λ ts h w. from-read ts h w (c .before .before .before .before .before .before .before .before .before .if1 .left) (c .before .before .before .before .before .before .before .if2 .left))
+    (answers-after (b .before .token-at2 .ensures) (b .symbol-of2 .ensures) (c .before .before .before .if3 .left) (c .before .before .end-of2 .ensures) (λ ts. toward-second ts (v .result)) (c .measured .ensures _ (makes-from (v .result))))
 
 pub distance-from-spec : {M : Type 1} → statement M
 distance-from-spec =

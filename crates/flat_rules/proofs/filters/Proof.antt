@@ -1,10 +1,10 @@
 -- The filters read so far are followed by the rest of the filters. Measure: the bytes left.
 use Prim.Native.Nat.{_-_}
 use native.Mathlib.Omega.{arith}
-use borrow.Author.Needs.{needs}
 use borrow.Author.Tests.{not-true, not-false}
 use Rattle.flat_rules.proofs.AnswersLaws.{answers-known, at-short, count-short, read-further, step-failed, step-read, symbol-here}
 use Rattle.flat_rules.proofs.FiltersLaws.{Filters, filters-fail, filters-start, filters-step, filters-stop, starts-here}
+use borrow.Author.Needs.{needs}
 use Rattle.flat_rules.proofs.filters.Statement.{statement}
 use Rattle.flat_rules.proofs.filters.Tie as tie
 use Rattle.flat_rules.proofs.filters.Reads as reads
@@ -46,7 +46,9 @@ read-requires c κs = (at-short (c .before .before .before .before .loop .inv .r
 
 -- src/lib.rt:297:13
 returns : tie.Need-returns Inv-loop μ-loop
-returns c = filters-stop (c .before .before .before .before .before .loop .inv) (starts-here _ (symbol-here (c .before .before .before .before .token-at .ensures) (c .before .before .before .symbol-of .ensures)) (c .before .before .starts-filter .ensures) (not-true _ (c .before .if1 .taken))) (c .read .ensures)
+returns c =
+    let a = c .before .before .before in
+    filters-stop (c .before .before .before .before .before .loop .inv) (starts-here _ (symbol-here (a .before .token-at .ensures) (a .symbol-of .ensures)) (c .before .before .starts-filter .ensures) (not-true _ (c .before .if1 .taken))) (c .read .ensures)
 
 -- src/lib.rt:299:13
 filter-requires : tie.Need-filter-requires Inv-loop μ-loop
@@ -58,7 +60,10 @@ is-failed-requires c κs = search needs
 
 -- src/lib.rt:301:13
 returns-2 : tie.Need-returns-2 Inv-loop μ-loop
-returns-2 c = filters-fail (c .before .before .before .before .before .before .before .before .loop .inv) (starts-here _ (symbol-here (c .before .before .before .before .before .before .before .token-at .ensures) (c .before .before .before .before .before .before .symbol-of .ensures)) (c .before .before .before .before .before .starts-filter .ensures) (not-false _ (c .before .before .before .before .if1 .left))) (step-failed _ (c .before .is-failed .ensures) (c .if2 .taken)) (c .before .before .filter .ensures)
+returns-2 c =
+    let a = c .before .before .before .before .before .before in
+    filters-fail (c .before .before .before .before .before .before .before .before .loop .inv) (starts-here _ (symbol-here (a .before .token-at .ensures) (a .symbol-of .ensures)) (c .before .before .before .before .before .starts-filter .ensures) (not-false _ (c .before .before .before .before .if1 .left)))
+    (step-failed _ (c .before .is-failed .ensures) (c .if2 .taken)) (c .before .before .filter .ensures)
 
 -- src/lib.rt:303:9
 at-of-requires : tie.Need-at-of-requires Inv-loop μ-loop
@@ -70,11 +75,16 @@ count-of-requires c κs = search needs
 
 -- src/lib.rt:294:5
 loop-less : tie.Need-loop-less Inv-loop μ-loop
-loop-less c = let f = read-further (answers-known (step-read _ (c .before .before .before .is-failed .ensures) (c .before .before .if2 .left) (c .before .at-of .ensures) (c .count-of .ensures)) (c .before .before .before .before .filter .ensures)) in omega (arith, f .on, f .end-within)
+loop-less c =
+    let f = read-further (answers-known (step-read _ (c .before .before .before .is-failed .ensures) (c .before .before .if2 .left) (c .before .at-of .ensures) (c .count-of .ensures)) (c .before .before .before .before .filter .ensures)) in
+    omega (arith, f .on, f .end-within)
 
 -- src/lib.rt:294:5
 loop-again : tie.Need-loop-again Inv-loop μ-loop
-loop-again c = filters-step (c .before .before .before .before .before .before .before .before .before .before .loop .inv) (starts-here _ (symbol-here (c .before .before .before .before .before .before .before .before .before .token-at .ensures) (c .before .before .before .before .before .before .before .before .symbol-of .ensures)) (c .before .before .before .before .before .before .before .starts-filter .ensures) (not-false _ (c .before .before .before .before .before .before .if1 .left))) (step-read _ (c .before .before .before .is-failed .ensures) (c .before .before .if2 .left) (c .before .at-of .ensures) (c .count-of .ensures)) (c .before .before .before .before .filter .ensures)
+loop-again c =
+    let a = c .before .before .before .before .before .before .before .before in
+    filters-step (c .before .before .before .before .before .before .before .before .before .before .loop .inv) (starts-here _ (symbol-here (a .before .token-at .ensures) (a .symbol-of .ensures)) (c .before .before .before .before .before .before .before .starts-filter .ensures) (not-false _ (c .before .before .before .before .before .before .if1 .left)))
+    (step-read _ (c .before .before .before .is-failed .ensures) (c .before .before .if2 .left) (c .before .at-of .ensures) (c .count-of .ensures)) (c .before .before .before .before .filter .ensures)
 
 pub filters-spec : {M : Type 1} → statement M
 filters-spec =
