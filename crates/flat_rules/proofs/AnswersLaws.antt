@@ -1,22 +1,21 @@
 -- How answers go together: codes after codes, one rule after another, and what a token's symbol says of the rule that asks for it.
-use Prim.Native.Nat.{ℕ, zero, suc, _+_, _*_, _-_, _≤_, _<_}
+use Prim.Native.Nat.{ℕ, suc, _+_, _*_, _-_, _≤_, _<_}
 use native.Mathlib.Omega.{arith}
 use mathlib.Core.Path.{_≡_, refl, sym, ap, _∙_}
-use mathlib.Core.Bool.{Bool, true, false, cond}
+use mathlib.Core.Bool.{Bool, true, false}
 use mathlib.Core.List.{List, [], _∷_, _++_, append-nil, flatMap}
 use borrow.Author.Tests.{ne-eqb, eq-eqb}
-use lib.Dec.{eqb, leb}
+use lib.Dec.{eqb}
 use lib.ListN.{length, set, take, length-append}
 use lib.Seq.{sets}
 use Rattle.model.specs.declared.Code.{Code}
-use Rattle.model.specs.Limits.{maxCodes, maxText}
-use Rattle.grammar.specs.Stream.{Stream, placeIn, restOf, streamAt}
+use Rattle.model.specs.Limits.{maxText}
+use Rattle.grammar.specs.Stream.{Stream, streamAt}
 use Rattle.grammar.specs.Symbols.{noMore, symbolIn}
 use Rattle.grammar.specs.Grammar.{Outcome, failed, read, Rule, behind, _then_, refused, expect, writes}
-use Rattle.grammar.proofs.JoiningLaws.{behind-behind}
-use Rattle.scanner.specs.Scanned.{Inside, Scanned, startOf, endOf, symbolAt}
+use Rattle.scanner.specs.Scanned.{Scanned, startOf, endOf, symbolAt}
 use Rattle.flat_rules.specs.Steps.{Step, reached, stopped, hasFailed, atOf, countOf, numberOf, placeOf, stepOf}
-use Rattle.flat_rules.specs.Answers.{pair, pairs, Wrote, CodeIs, Ready, Further, NoLess, ReadsTo, Says, Went, Answers, WentMany, AnswersMany}
+use Rattle.flat_rules.specs.Answers.{pair, pairs, Wrote, Ready, Further, NoLess, ReadsTo, Says, Went, Answers}
 
 -- ---- an answer in one number
 

@@ -6,20 +6,19 @@ use mathlib.Core.Path.{_≡_, refl, sym, ap, _∙_}
 use mathlib.Core.Bool.{Bool, true, false, _&&_}
 use mathlib.Core.List.{List, [], _∷_, _++_, append-nil}
 use borrow.Author.Tests.{ne-eqb, eq-eqb}
-use lib.Dec.{eqb, leb}
+use lib.Dec.{leb}
 use lib.ListN.{take}
 use Rattle.model.specs.declared.Code.{Code}
 use Rattle.model.specs.declared.Code.the-variants.{Filter as Filtered}
 use Rattle.model.specs.declared.Filter.the-variants.{Ordered, Window, Distance, SameSentence, SameParagraph, DifferentSentence, DifferentParagraph, AtStart, AtEnd, EntireContent}
 use Rattle.model.specs.Limits.{maxDistance, maxNumber}
-use Rattle.model.specs.Selection.{kindOf, operandOf}
 use Rattle.grammar.specs.Stream.{Stream, placeIn, restOf, valueIn, streamAt}
 use Rattle.grammar.specs.Symbols.{k-ordered, k-window, k-distance, k-same, k-different, k-at, k-entire, k-start, k-end, k-sentence, k-paragraph, k-content, k-exactly, k-from, k-to, k-least, k-most, k-words, s-number, symbolIn}
 use Rattle.grammar.specs.Grammar.{failed, read, Rule, behind, _then_, refused, expect, coded, measured, distanceFrom, distanceAt, distance, either, startsFilter, filter, filters}
 use Rattle.grammar.proofs.JoiningLaws.{behind-behind}
 use Rattle.scanner.specs.Scanned.{capped}
 use Rattle.flat_rules.specs.Steps.{Step, reached, stopped}
-use Rattle.flat_rules.specs.Answers.{CodeIs, Makes, Wrote, Ready, NoLess, ReadsTo, Says, Answers, WentMany, AnswersMany}
+use Rattle.flat_rules.specs.Answers.{Makes, Wrote, Ready, NoLess, Says, Answers, WentMany, AnswersMany}
 use Rattle.flat_rules.proofs.AnswersLaws.{behind-none, failed-is, read-codes, read-further, ready-next, then-failed, then-read, wrote-append, wrote-none}
 use Rattle.flat_rules.proofs.TokensLaws.{number-none, number-over, number-read}
 
