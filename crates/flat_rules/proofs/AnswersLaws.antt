@@ -15,7 +15,7 @@ use Rattle.grammar.specs.Symbols.{noMore, symbolIn}
 use Rattle.grammar.specs.Grammar.{Outcome, failed, read, Rule, behind, _then_, refused, expect, writes}
 use Rattle.scanner.specs.Scanned.{Scanned, startOf, endOf, symbolAt}
 use Rattle.flat_rules.specs.Steps.{Step, reached, stopped, hasFailed, atOf, countOf, numberOf, placeOf, stepOf}
-use Rattle.flat_rules.specs.Answers.{pair, pairs, Wrote, Ready, Further, NoLess, ReadsTo, Says, Went, Answers}
+use Rattle.flat_rules.specs.Answers.{pair, pairs, Wrote, Ready, Further, ReadsTo, Says, Went, Answers}
 
 -- ---- an answer in one number
 
@@ -153,9 +153,6 @@ module _ {rule : ℕ → Rule} {bytes entry exit : List ℕ} {size at count : �
 pub ready-next : {bytes : List ℕ} {size at count q m : ℕ} → Ready bytes size at count → Further size at count q m → Ready bytes size q m
 ready-next r f = record { inside = record { held = r .inside .held; short = r .inside .short; within = f .end-within }; few = omega (arith, r .few, f .on, f .few) }
 
-pub ready-later : {bytes : List ℕ} {size at count q m : ℕ} → Ready bytes size at count → NoLess size at count q m → Ready bytes size q m
-ready-later r f = record { inside = record { held = r .inside .held; short = r .inside .short; within = f .end-within }; few = omega (arith, r .few, f .on, f .few) }
-
 -- the numbers fit
 pub at-short : {bytes : List ℕ} {size at count : ℕ} → Ready bytes size at count → at ≤ maxText
 at-short r = omega (arith, r .inside .short, r .inside .within)
@@ -196,9 +193,6 @@ module _ {bytes : List ℕ} {size at t : ℕ} (s : Scanned bytes size at t) wher
     pub some-further : {end : ℕ} → ¬ (symbol ≡ noMore) → end ≡ endOf t → at < end
     some-further h q = omega (arith, s .from, s .some (λ z. h (e ∙ z)))
 
-    -- a token of the symbol asked for, and of another
-    pub expect-read : {end : ℕ} (k : ℕ) → symbol ≡ k → end ≡ endOf t → expect k (streamAt (take size bytes) at) ≡ read [] (streamAt (take size bytes) end)
-    expect-read k h q = rw (symbol-yes k h, q) (ap (read []) (s .rest-is))
-
+    -- a token of another symbol than the one asked for
     pub expect-failed : (k : ℕ) → ¬ (symbol ≡ k) → expect k (streamAt (take size bytes) at) ≡ failed 10 (startOf t + 1)
     expect-failed k h = rw (symbol-no k h) refused-here

@@ -65,7 +65,7 @@ makes-from a = record { makes = λ n h. record { kind-is = refl; operand-is = om
 -- ---- by a number
 
 -- after a number that makes a code
-unfoldable pub worded : (ℕ → Code) → ℕ → Rule
+unfoldable worded : (ℕ → Code) → ℕ → Rule
 worded f n rest = coded k-words (f n) rest
 
 -- after the first number of `from a to b words`

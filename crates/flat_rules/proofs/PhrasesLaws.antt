@@ -25,7 +25,7 @@ use Rattle.flat_rules.proofs.TokensLaws.{number-none, number-over, numb
 -- ---- the rule by its first token
 
 -- after a word
-unfoldable pub nextWord : ℕ → ℕ → ℕ → Rule
+unfoldable nextWord : ℕ → ℕ → ℕ → Rule
 nextWord left k v rest = read (Word v ∷ []) rest then words left (k + 1)
 
 pub words-closed : (left k : ℕ) (ts : Stream) → symbolIn ts ≡ s-quote → ¬ (k ≡ 0) → words left k ts ≡ read (Phrase k ∷ []) (restOf ts)
@@ -57,7 +57,7 @@ module _ (k : ℕ) (ts : Stream) {symbol : ℕ} (h : symbolIn ts ≡ symbol) (o 
       pub words-over : maxWord < v → words (maxWaiting - k) k ts ≡ failed 11 (placeIn ts)
       words-over l = words-more ∙ number-over maxWord (nextWord (maxWaiting - (k + 1)) k) ts h w m l
 
-      pub words-read : v ≤ maxWord → words (maxWaiting - k) k ts ≡ behind (Word v ∷ []) (words (maxWaiting - (k + 1)) (k + 1) (restOf ts))
+      words-read : v ≤ maxWord → words (maxWaiting - k) k ts ≡ behind (Word v ∷ []) (words (maxWaiting - (k + 1)) (k + 1) (restOf ts))
       unfolding nextWord _then_
       words-read l = words-more ∙ number-read maxWord (nextWord (maxWaiting - (k + 1)) k) ts h w m l (omega arith)
 
