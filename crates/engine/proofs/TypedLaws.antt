@@ -11,7 +11,6 @@ use lib.Dec.{leb, eqb}
 use lib.ListN.{length, take, drop, length-append, length-map}
 use lib.Seq.{sets, sets-eq, length-sets}
 use Rattle.model.specs.declared.Code.{Code}
-use Rattle.model.specs.declared.Reading.{Reading}
 use Rattle.model.specs.declared.Reading.the-variants.{Read, Refused}
 use Rattle.model.specs.declared.Refusal.{Refusal}
 use Rattle.model.specs.Answers.{listingRefusal, listingAnswer, listingBuffer, quickAnswer}
@@ -24,21 +23,11 @@ use Rattle.model.specs.Typed.{selectionOf, readAnswer, readSelection}
 use Rattle.model.proofs.SetsLaws.{take-written}
 use Rattle.grammar.specs.Grammar.{readText}
 use Rattle.grammar.proofs.AnswerLaws.{reads-exactly}
-use Rattle.reader.specs.Selections.{readingOf, typedNumbers, typedSize}
+use Rattle.reader.specs.Selections.{typedNumbers, typedSize}
 
 -- what holds of the answer that the reader computes holds of the text's
 pub by-answer : (text : List ℕ) (P : TextAnswer → Type 0) → P (readText text) → (a : TextAnswer) → AnswerOf text a → P a
 by-answer text P p a h = rw (reads-exactly text a .1 h) at p
-
--- ---- the reader's answer
-
-pub reading-refused : (a : TextAnswer) {r : Refusal} {reading : Reading} → reading ≡ readingOf a → reading ≡ Refused r → a ≡ error r
-reading-refused (codes cs) e f = let z : _≡_ {A = ℕ} 0 1 = cc in absurd (omega arith)
-reading-refused (error s) {r} e f = let same : s ≡ r = cc in ap error same
-
-pub reading-read : (a : TextAnswer) {m : ℕ} {reading : Reading} → reading ≡ readingOf a → reading ≡ Read m → (cs : List Code) × (a ≡ codes cs) × (m ≡ length cs)
-reading-read (codes cs) {m} e f = let same : m ≡ length cs = cc in (cs, refl, same)
-reading-read (error s) e f = let z : _≡_ {A = ℕ} 0 1 = cc in absurd (omega arith)
 
 -- ---- the same to the calls
 

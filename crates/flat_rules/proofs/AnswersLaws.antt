@@ -1,23 +1,22 @@
 -- How answers go together: codes after codes, one rule after another, and what a token's symbol says of the rule that asks for it.
-use Prim.Native.Nat.{ℕ, zero, suc, _+_, _*_, _-_, _≤_, _<_}
+use Prim.Native.Nat.{ℕ, suc, _+_, _*_, _-_, _≤_, _<_}
 use native.Mathlib.Omega.{arith}
 use mathlib.Core.Path.{_≡_, refl, sym, ap, _∙_}
-use mathlib.Core.Bool.{Bool, true, false, cond}
+use mathlib.Core.Bool.{Bool, true, false}
 use mathlib.Core.List.{List, [], _∷_, _++_, append-nil, flatMap}
 use borrow.Author.Tests.{ne-eqb, eq-eqb}
-use lib.Dec.{eqb, leb}
+use lib.Dec.{eqb}
 use lib.ListN.{length, set, take, length-append}
 use lib.Seq.{sets}
 use Rattle.model.specs.declared.Code.{Code}
-use Rattle.model.specs.Limits.{maxCodes, maxText}
+use Rattle.model.specs.Limits.{maxText}
 use Rattle.model.proofs.SetsLaws.{sets-append}
-use Rattle.grammar.specs.Stream.{Stream, placeIn, restOf, streamAt}
+use Rattle.grammar.specs.Stream.{Stream, streamAt}
 use Rattle.grammar.specs.Symbols.{noMore, symbolIn}
 use Rattle.grammar.specs.Grammar.{Outcome, failed, read, Rule, behind, _then_, refused, expect, writes}
-use Rattle.grammar.proofs.JoiningLaws.{behind-behind}
-use Rattle.scanner.specs.Scanned.{Inside, Scanned, startOf, endOf, symbolAt}
+use Rattle.scanner.specs.Scanned.{Scanned, startOf, endOf, symbolAt}
 use Rattle.flat_rules.specs.Steps.{Step, reached, stopped, hasFailed, atOf, countOf, numberOf, placeOf, stepOf}
-use Rattle.flat_rules.specs.Answers.{pair, pairs, Wrote, CodeIs, Ready, Further, NoLess, ReadsTo, Says, Went, Answers, WentMany, AnswersMany}
+use Rattle.flat_rules.specs.Answers.{pair, pairs, Wrote, Ready, Further, ReadsTo, Says, Went, Answers}
 
 -- ---- an answer in one number
 
@@ -72,7 +71,7 @@ unfolding pairs flatMap
 pairs-append [] ds = refl
 pairs-append (c ∷ cs) ds = ap (λ l. pair c ++ l) (pairs-append cs ds)
 
-pairs-length : (cs : List Code) → length (pairs cs) ≡ length cs * 2
+pub pairs-length : (cs : List Code) → length (pairs cs) ≡ length cs * 2
 unfolding pairs flatMap
 pairs-length [] = refl
 pairs-length (c ∷ cs) = omega (arith, pairs-length cs)
@@ -151,9 +150,6 @@ module _ {rule : ℕ → Rule} {bytes entry exit : List ℕ} {size at count : �
 pub ready-next : {bytes : List ℕ} {size at count q m : ℕ} → Ready bytes size at count → Further size at count q m → Ready bytes size q m
 ready-next r f = record { inside = record { held = r .inside .held; short = r .inside .short; within = f .end-within }; few = omega (arith, r .few, f .on, f .few) }
 
-pub ready-later : {bytes : List ℕ} {size at count q m : ℕ} → Ready bytes size at count → NoLess size at count q m → Ready bytes size q m
-ready-later r f = record { inside = record { held = r .inside .held; short = r .inside .short; within = f .end-within }; few = omega (arith, r .few, f .on, f .few) }
-
 -- the numbers fit
 pub at-short : {bytes : List ℕ} {size at count : ℕ} → Ready bytes size at count → at ≤ maxText
 at-short r = omega (arith, r .inside .short, r .inside .within)
@@ -194,9 +190,6 @@ module _ {bytes : List ℕ} {size at t : ℕ} (s : Scanned bytes size at t) wher
     pub some-further : {end : ℕ} → ¬ (symbol ≡ noMore) → end ≡ endOf t → at < end
     some-further h q = omega (arith, s .from, s .some (λ z. h (e ∙ z)))
 
-    -- a token of the symbol asked for, and of another
-    pub expect-read : {end : ℕ} (k : ℕ) → symbol ≡ k → end ≡ endOf t → expect k (streamAt (take size bytes) at) ≡ read [] (streamAt (take size bytes) end)
-    expect-read k h q = rw (symbol-yes k h, q) (ap (read []) (s .rest-is))
-
+    -- a token of another symbol than the one asked for
     pub expect-failed : (k : ℕ) → ¬ (symbol ≡ k) → expect k (streamAt (take size bytes) at) ≡ failed 10 (startOf t + 1)
     expect-failed k h = rw (symbol-no k h) refused-here

@@ -6,20 +6,21 @@ use mathlib.Core.Path.{_≡_, refl, sym, ap, _∙_}
 use mathlib.Core.Bool.{Bool, true, false, _&&_}
 use mathlib.Core.List.{List, [], _∷_, _++_, append-nil}
 use borrow.Author.Tests.{ne-eqb, eq-eqb}
-use lib.Dec.{eqb, leb}
+use lib.Dec.{leb}
 use lib.ListN.{take}
 use Rattle.model.specs.declared.Code.{Code}
 use Rattle.model.specs.declared.Code.the-variants.{Filter as Filtered}
 use Rattle.model.specs.declared.Filter.the-variants.{Ordered, Window, Distance, SameSentence, SameParagraph, DifferentSentence, DifferentParagraph, AtStart, AtEnd, EntireContent}
 use Rattle.model.specs.Limits.{maxDistance, maxNumber}
-use Rattle.model.specs.Selection.{kindOf, operandOf}
-use Rattle.grammar.specs.Stream.{Stream, restOf, valueIn, streamAt}
-use Rattle.grammar.specs.Symbols.{k-ordered, k-window, k-distance, k-same, k-different, k-at, k-entire, k-start, k-end, k-sentence, k-paragraph, k-content, k-exactly, k-from, k-to, k-least, k-most, k-words, symbolIn}
-use Rattle.grammar.specs.Grammar.{failed, read, Rule, behind, _then_, refused, expect, number, coded, measured, distanceFrom, distanceAt, distance, either, startsFilter, filter, filters}
+use Rattle.grammar.specs.Stream.{Stream, placeIn, restOf, valueIn, streamAt}
+use Rattle.grammar.specs.Symbols.{k-ordered, k-window, k-distance, k-same, k-different, k-at, k-entire, k-start, k-end, k-sentence, k-paragraph, k-content, k-exactly, k-from, k-to, k-least, k-most, k-words, s-number, symbolIn}
+use Rattle.grammar.specs.Grammar.{failed, read, Rule, behind, _then_, refused, expect, coded, measured, distanceFrom, distanceAt, distance, either, startsFilter, filter, filters}
 use Rattle.grammar.proofs.JoiningLaws.{behind-behind}
+use Rattle.scanner.specs.Scanned.{capped}
 use Rattle.flat_rules.specs.Steps.{Step, reached, stopped}
-use Rattle.flat_rules.specs.Answers.{CodeIs, Makes, Wrote, Ready, NoLess, ReadsTo, Says, Answers, WentMany, AnswersMany}
-use Rattle.flat_rules.proofs.AnswersLaws.{answers-failed, behind-none, failed-is, read-codes, read-further, ready-next, then-failed, then-goes, then-read, wrote-append, wrote-none}
+use Rattle.flat_rules.specs.Answers.{Makes, Wrote, Ready, NoLess, Says, Answers, WentMany, AnswersMany}
+use Rattle.flat_rules.proofs.AnswersLaws.{behind-none, failed-is, read-codes, read-further, ready-next, then-failed, then-read, wrote-append, wrote-none}
+use Rattle.flat_rules.proofs.TokensLaws.{number-none, number-over, number-read}
 
 -- ---- a symbol and its code
 
@@ -28,18 +29,18 @@ module _ (k : ℕ) (c : Code) (ts : Stream) where
   unfolding coded _then_ behind
   coded-yes h = rw (eq-eqb _ _ h)
 
-  pub coded-no : ¬ (symbolIn ts ≡ k) → coded k c ts ≡ refused ts
+  pub coded-no : {symbol : ℕ} → symbolIn ts ≡ symbol → ¬ (symbol ≡ k) → coded k c ts ≡ refused ts
   unfolding coded _then_
-  coded-no h = rw (ne-eqb _ _ h)
+  coded-no h n = rw (h, ne-eqb _ _ n)
 
 module _ (j : ℕ) (c : Code) (k : ℕ) (d : Code) (ts : Stream) where
   pub either-first : symbolIn ts ≡ j → either j c k d ts ≡ read (c ∷ []) (restOf ts)
   unfolding either
   either-first h = rw (eq-eqb _ _ h)
 
-  pub either-second : ¬ (symbolIn ts ≡ j) → either j c k d ts ≡ coded k d ts
+  pub either-second : {symbol : ℕ} → symbolIn ts ≡ symbol → ¬ (symbol ≡ j) → either j c k d ts ≡ coded k d ts
   unfolding either
-  either-second h = rw (ne-eqb _ _ h)
+  either-second h n = rw (ne-eqb _ _ (λ z. n (sym h ∙ z)))
 
 -- ---- the codes that a number makes
 
@@ -61,34 +62,52 @@ makes-most = record { makes = λ n h. record { kind-is = refl; operand-is = omeg
 pub makes-from : (a : ℕ) → Makes (λ n. Filtered (Distance a n)) 8 1 (a * 65536)
 makes-from a = record { makes = λ n h. record { kind-is = refl; operand-is = omega arith } }
 
--- ---- numbers
+-- ---- by a number
 
 -- after a number that makes a code
-abbrev pub worded : (ℕ → Code) → ℕ → Rule
+unfoldable worded : (ℕ → Code) → ℕ → Rule
 worded f n rest = coded k-words (f n) rest
 
 -- after the first number of `from a to b words`
 unfoldable pub toward : ℕ → Rule
 toward a rest = expect k-to rest then measured (λ b. Filtered (Distance a b))
 
-module _ (ts : Stream) where
-  pub measured-number : (f : ℕ → Code) → measured f ts ≡ number maxNumber (worded f) ts
-  unfolding measured
-  measured-number f = refl
+module _ (ts : Stream) {symbol : ℕ} (h : symbolIn ts ≡ symbol) where
+  pub measured-none : (f : ℕ → Code) → ¬ (symbol ≡ s-number) → measured f ts ≡ refused ts
+  unfolding measured worded
+  measured-none f n = number-none maxNumber (worded f) ts h n
 
-  pub from-number : distanceFrom ts ≡ number maxNumber toward ts
+  pub from-none : ¬ (symbol ≡ s-number) → distanceFrom ts ≡ refused ts
   unfolding distanceFrom toward
-  from-number = refl
+  from-none n = number-none maxNumber toward ts h n
 
-  -- ---- distance
-
-  pub toward-yes : (a : ℕ) → symbolIn ts ≡ k-to → toward a ts ≡ measured (λ b. Filtered (Distance a b)) (restOf ts)
-  unfolding toward
-  toward-yes a h = then-goes (measured (λ b. Filtered (Distance a b))) (let one : expect k-to ts ≡ read [] (restOf ts) = rw h in one)
-
-  pub toward-no : (a : ℕ) → ¬ (symbolIn ts ≡ k-to) → toward a ts ≡ refused ts
+  pub toward-none : (a : ℕ) → ¬ (symbol ≡ k-to) → toward a ts ≡ refused ts
   unfolding toward _then_
-  toward-no a h = rw (ne-eqb _ _ h)
+  toward-none a n = rw (h, ne-eqb _ _ n)
+
+  module _ {v : ℕ} (w : v ≡ capped (valueIn ts)) (n : symbol ≡ s-number) where
+    pub measured-over : (f : ℕ → Code) → maxNumber < v → measured f ts ≡ failed 11 (placeIn ts)
+    unfolding measured worded
+    measured-over f o = number-over maxNumber (worded f) ts h w n o
+
+    pub measured-read : (f : ℕ → Code) → v ≤ maxNumber → measured f ts ≡ coded k-words (f v) (restOf ts)
+    unfolding measured worded
+    measured-read f o = number-read maxNumber (worded f) ts h w n o (omega arith)
+
+    pub from-over : maxNumber < v → distanceFrom ts ≡ failed 11 (placeIn ts)
+    unfolding distanceFrom toward
+    from-over o = number-over maxNumber toward ts h w n o
+
+    pub from-read : v ≤ maxNumber → distanceFrom ts ≡ toward v (restOf ts)
+    unfolding distanceFrom toward
+    from-read o = number-read maxNumber toward ts h w n o (omega arith)
+
+-- ---- by a symbol
+
+module _ (ts : Stream) where
+  pub toward-second : (a : ℕ) → symbolIn ts ≡ k-to → toward a ts ≡ measured (λ b. Filtered (Distance a b)) (restOf ts)
+  unfolding toward _then_
+  toward-second a h = rw h (behind-none _)
 
   pub at-least : symbolIn ts ≡ k-least → distanceAt ts ≡ measured (λ a. Filtered (Distance a maxDistance)) (restOf ts)
   unfolding distanceAt
@@ -97,10 +116,6 @@ module _ (ts : Stream) where
   pub at-most : symbolIn ts ≡ k-most → distanceAt ts ≡ measured (λ b. Filtered (Distance 0 b)) (restOf ts)
   unfolding distanceAt _then_
   at-most h = rw h (behind-none _)
-
-  pub at-neither : ¬ (symbolIn ts ≡ k-least) → ¬ (symbolIn ts ≡ k-most) → distanceAt ts ≡ refused ts
-  unfolding distanceAt _then_
-  at-neither h k = rw (ne-eqb _ _ h, ne-eqb _ _ k)
 
   pub range-exactly : symbolIn ts ≡ k-exactly → distance ts ≡ measured (λ n. Filtered (Distance n n)) (restOf ts)
   unfolding distance
@@ -113,12 +128,6 @@ module _ (ts : Stream) where
   pub range-at : symbolIn ts ≡ k-at → distance ts ≡ distanceAt (restOf ts)
   unfolding distance _then_
   range-at h = rw h (behind-none _)
-
-  pub range-none : ¬ (symbolIn ts ≡ k-exactly) → ¬ (symbolIn ts ≡ k-from) → ¬ (symbolIn ts ≡ k-at) → distance ts ≡ refused ts
-  unfolding distance _then_
-  range-none h k l = rw (ne-eqb _ _ h, ne-eqb _ _ k, ne-eqb _ _ l)
-
-  -- ---- a filter
 
   pub filter-ordered : symbolIn ts ≡ k-ordered → filter ts ≡ read (Filtered Ordered ∷ []) (restOf ts)
   unfolding filter
@@ -148,10 +157,20 @@ module _ (ts : Stream) where
   unfolding filter _then_
   filter-entire h = rw h (behind-none _)
 
-  pub filter-none : ¬ (symbolIn ts ≡ k-ordered) → ¬ (symbolIn ts ≡ k-window) → ¬ (symbolIn ts ≡ k-distance) → ¬ (symbolIn ts ≡ k-same)
-      → ¬ (symbolIn ts ≡ k-different) → ¬ (symbolIn ts ≡ k-at) → ¬ (symbolIn ts ≡ k-entire) → filter ts ≡ refused ts
+-- any other symbol
+module _ (ts : Stream) {symbol : ℕ} (h : symbolIn ts ≡ symbol) where
+  pub at-none : ¬ (symbol ≡ k-least) → ¬ (symbol ≡ k-most) → distanceAt ts ≡ refused ts
+  unfolding distanceAt _then_
+  at-none a b = rw (h, ne-eqb _ _ a, ne-eqb _ _ b)
+
+  pub range-none : ¬ (symbol ≡ k-exactly) → ¬ (symbol ≡ k-from) → ¬ (symbol ≡ k-at) → distance ts ≡ refused ts
+  unfolding distance _then_
+  range-none a b c = rw (h, ne-eqb _ _ a, ne-eqb _ _ b, ne-eqb _ _ c)
+
+  pub filter-none : ¬ (symbol ≡ k-ordered) → ¬ (symbol ≡ k-window) → ¬ (symbol ≡ k-distance) → ¬ (symbol ≡ k-same) → ¬ (symbol ≡ k-different) → ¬ (symbol ≡ k-at)
+      → ¬ (symbol ≡ k-entire) → filter ts ≡ refused ts
   unfolding filter _then_
-  filter-none a b c d e f g = rw (ne-eqb _ _ a, ne-eqb _ _ b, ne-eqb _ _ c, ne-eqb _ _ d, ne-eqb _ _ e, ne-eqb _ _ f, ne-eqb _ _ g)
+  filter-none a b c d e f g = rw (h, ne-eqb _ _ a, ne-eqb _ _ b, ne-eqb _ _ c, ne-eqb _ _ d, ne-eqb _ _ e, ne-eqb _ _ f, ne-eqb _ _ g)
 
 -- ---- filters: a loop, from where it begins to where it is
 

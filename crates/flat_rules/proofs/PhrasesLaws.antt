@@ -2,48 +2,64 @@
 use Prim.Native.Nat.{ℕ, zero, suc, _+_, _-_, _≤_, _<_}
 use native.Mathlib.Omega.{arith}
 use mathlib.Core.Path.{_≡_, refl, sym, ap, _∙_}
-use mathlib.Core.Bool.{true, false, _&&_, not}
+use mathlib.Core.Bool.{Bool, true, false, _&&_, not}
+use mathlib.Core.Logic.{_⊎_, ⊎-elim}
 use mathlib.Core.List.{List, [], _∷_, _++_}
-use borrow.Author.Tests.{ne-eqb, eq-eqb}
+use borrow.Author.Tests.{ne-eqb}
 use lib.Dec.{eqb}
 use lib.ListN.{take}
 use Rattle.model.specs.declared.Code.{Code}
 use Rattle.model.specs.declared.Code.the-variants.{Word, Phrase}
 use Rattle.model.specs.Limits.{maxWaiting, maxWord}
 use Rattle.model.specs.Tokens.{numberFrom}
-use Rattle.grammar.specs.Stream.{Stream, restOf, streamAt}
-use Rattle.grammar.specs.Symbols.{noMore, s-number, s-quote, symbolIn}
-use Rattle.grammar.specs.Grammar.{read, Rule, behind, _then_, refused, number, words}
+use Rattle.grammar.specs.Stream.{Stream, placeIn, restOf, valueIn, streamAt}
+use Rattle.grammar.specs.Symbols.{s-number, s-quote, symbolIn}
+use Rattle.grammar.specs.Grammar.{failed, read, Rule, behind, _then_, refused, number, words}
 use Rattle.grammar.proofs.JoiningLaws.{behind-behind}
 use Rattle.scanner.specs.Scanned.{Scanned, bytesFrom, capped, startOf, endOf, symbolAt}
 use Rattle.flat_rules.specs.Steps.{Step}
-use Rattle.flat_rules.specs.Answers.{CodeIs, Wrote, Ready, NoLess, Answers}
-use Rattle.flat_rules.proofs.AnswersLaws.{answers-behind, behind-none, ready-after, some-further, symbol-no, wrote-append, wrote-none}
-use Rattle.flat_rules.proofs.TokensLaws.{number-read, rest-here}
+use Rattle.flat_rules.specs.Answers.{Wrote, Ready, NoLess, Answers}
+use Rattle.flat_rules.proofs.AnswersLaws.{answers-behind, behind-none, ready-after, some-further, symbol-here, wrote-append, wrote-none}
+use Rattle.flat_rules.proofs.TokensLaws.{number-none, number-over, number-read, rest-here, value-here}
 
 -- ---- the rule by its first token
 
 -- after a word
-unfoldable pub nextWord : ℕ → ℕ → ℕ → Rule
+unfoldable nextWord : ℕ → ℕ → ℕ → Rule
 nextWord left k v rest = read (Word v ∷ []) rest then words left (k + 1)
 
--- no quote closes the phrase here
-unfoldable pub Open : ℕ → Stream → Type 0
-Open k ts = (eqb (symbolIn ts) s-quote && not (eqb k 0)) ≡ false
+pub words-closed : (left k : ℕ) (ts : Stream) → symbolIn ts ≡ s-quote → ¬ (k ≡ 0) → words left k ts ≡ read (Phrase k ∷ []) (restOf ts)
+unfolding words
+words-closed zero k ts h n = rw (h, ne-eqb k 0 n)
+words-closed (suc left) k ts h n = rw (h, ne-eqb k 0 n)
 
-module _ (k : ℕ) (ts : Stream) where
-  pub words-closed : (left : ℕ) → symbolIn ts ≡ s-quote → ¬ (k ≡ 0) → words left k ts ≡ read (Phrase k ∷ []) (restOf ts)
+-- no quote closes the phrase: there is none, or it has no words yet
+module _ (k : ℕ) (ts : Stream) {symbol : ℕ} (h : symbolIn ts ≡ symbol) (o : ¬ (symbol ≡ s-quote) ⊎ (k ≡ 0)) where
+  unclosed : (eqb (symbolIn ts) s-quote && not (eqb k 0)) ≡ false
+  unclosed = ⊎-elim (λ n. rw (ne-eqb (symbolIn ts) s-quote (λ z. n (sym h ∙ z)))) (λ z. rw z (neither (eqb (symbolIn ts) s-quote))) o where
+    neither : (b : Bool) → (b && false) ≡ false
+    neither true = refl
+    neither false = refl
+
+  pub words-full : k ≡ maxWaiting → words (maxWaiting - k) k ts ≡ refused ts
   unfolding words
-  words-closed zero h n = rw (h, ne-eqb k 0 n)
-  words-closed (suc left) h n = rw (h, ne-eqb k 0 n)
+  words-full e = let none : maxWaiting - k ≡ 0 = omega arith in rw (none, unclosed)
 
-  pub words-full : Open k ts → k ≡ maxWaiting → words (maxWaiting - k) k ts ≡ refused ts
-  unfolding words Open
-  words-full h e = let none : maxWaiting - k ≡ 0 = omega arith in rw (none, h)
+  module _ (f : k ≤ maxWaiting) (n : ¬ (k ≡ maxWaiting)) where
+    words-more : words (maxWaiting - k) k ts ≡ number maxWord (nextWord (maxWaiting - (k + 1)) k) ts
+    unfolding words nextWord
+    words-more = let some : maxWaiting - k ≡ suc (maxWaiting - (k + 1)) = omega arith in rw (some, unclosed)
 
-  pub words-more : Open k ts → ¬ (k ≡ maxWaiting) → k ≤ maxWaiting → words (maxWaiting - k) k ts ≡ number maxWord (nextWord (maxWaiting - (k + 1)) k) ts
-  unfolding words Open nextWord
-  words-more h n f = let some : maxWaiting - k ≡ suc (maxWaiting - (k + 1)) = omega arith in rw (some, h)
+    pub words-none : ¬ (symbol ≡ s-number) → words (maxWaiting - k) k ts ≡ refused ts
+    words-none m = words-more ∙ number-none maxWord (nextWord (maxWaiting - (k + 1)) k) ts h m
+
+    module _ {v : ℕ} (w : v ≡ capped (valueIn ts)) (m : symbol ≡ s-number) where
+      pub words-over : maxWord < v → words (maxWaiting - k) k ts ≡ failed 11 (placeIn ts)
+      words-over l = words-more ∙ number-over maxWord (nextWord (maxWaiting - (k + 1)) k) ts h w m l
+
+      words-read : v ≤ maxWord → words (maxWaiting - k) k ts ≡ behind (Word v ∷ []) (words (maxWaiting - (k + 1)) (k + 1) (restOf ts))
+      unfolding nextWord _then_
+      words-read l = words-more ∙ number-read maxWord (nextWord (maxWaiting - (k + 1)) k) ts h w m l (omega arith)
 
 -- ---- the loop, from where it begins to where it is
 
@@ -70,32 +86,21 @@ module _ {bytes entry exit : List ℕ} {size at count p n k : ℕ} (inv : Phrasi
   pub words-on : {exit' : List ℕ} {r : Step} → Answers (λ _. words (maxWaiting - k) k) bytes size p exit exit' n r → Answers (λ _. words maxWaiting 0) bytes size at entry exit' count r
   words-on {r = r} a = answers-behind (inv .codes) r (λ m l. inv .is) (inv .wrote) (inv .passed .on) (inv .passed .few) a
 
-  module _ {t symbol : ℕ} (s : Scanned bytes size p t) (e : symbol ≡ symbolAt t) where
-    pub open-other : ¬ (symbol ≡ s-quote) → Open k (streamAt (take size bytes) p)
-    unfolding Open
-    open-other h = rw (symbol-no s e s-quote h)
-
-    pub open-empty : symbol ≡ s-quote → k ≡ 0 → Open k (streamAt (take size bytes) p)
-    unfolding Open
-    open-empty h z = rw (s .symbol-is ∙ sym e ∙ h, z)
-
-    -- one word more
-    pub words-step : {exit' : List ℕ} {v m end : ℕ} → Open k (streamAt (take size bytes) p) → ¬ (k ≡ maxWaiting) → symbol ≡ s-number
-        → v ≡ capped (numberFrom 0 (bytesFrom bytes (startOf t) (endOf t))) → v ≤ maxWord → Wrote (Word v ∷ []) exit exit' n m → end ≡ endOf t
-        → Phrasing bytes size at entry exit' count end m (k + 1)
-    unfolding nextWord _then_
-    words-step {v = v} {end = end} o f h w l u q =
-        let ts = streamAt (take size bytes) p in
-        let on = some-further s e (λ z. omega (arith, h, z)) q in
-        let after = ready-after s (inv .ready) q in
-        let left = maxWaiting - (k + 1) in
-        let one : words (maxWaiting - k) k ts ≡ behind (Word v ∷ []) (words left (k + 1) (streamAt (take size bytes) end))
-        = words-more k ts o f (inv .few) ∙ number-read s e maxWord (nextWord left k) h w l (omega arith) ∙ ap (λ us. behind (Word v ∷ []) (words left (k + 1) us)) (rest-here s q) in
-        record {
-          ready = record { inside = after .inside; few = omega (arith, inv .ready .few, u .counted, on) };
-          passed = record { on = omega (arith, inv .passed .on, on); end-within = after .inside .within; few = omega (arith, inv .passed .few, u .counted, on) };
-          few = omega (arith, inv .few);
-          codes = inv .codes ++ Word v ∷ [];
-          is = inv .is ∙ ap (behind (inv .codes)) one ∙ behind-behind (inv .codes) (Word v ∷ []) _;
-          wrote = wrote-append (inv .wrote) u;
-        }
+  -- one word more
+  pub words-step : {t symbol : ℕ} (s : Scanned bytes size p t) (e : symbol ≡ symbolAt t) {exit' : List ℕ} {v m end : ℕ} → ¬ (symbol ≡ s-quote) ⊎ (k ≡ 0) → ¬ (k ≡ maxWaiting)
+      → symbol ≡ s-number → v ≡ capped (numberFrom 0 (bytesFrom bytes (startOf t) (endOf t))) → v ≤ maxWord → Wrote (Word v ∷ []) exit exit' n m → end ≡ endOf t
+      → Phrasing bytes size at entry exit' count end m (k + 1)
+  words-step s e {v = v} {end = end} o f h w l u q =
+      let on = some-further s e (λ z. omega (arith, h, z)) q in
+      let after = ready-after s (inv .ready) q in
+      let word = Word v ∷ [] in
+      let one : words (maxWaiting - k) k (streamAt (take size bytes) p) ≡ behind word (words (maxWaiting - (k + 1)) (k + 1) (streamAt (take size bytes) end))
+      = words-read k _ (symbol-here s e) o (inv .few) f (value-here s w) h l ∙ ap (λ us. behind word (words (maxWaiting - (k + 1)) (k + 1) us)) (rest-here s q) in
+      record {
+        ready = record { inside = after .inside; few = omega (arith, inv .ready .few, u .counted, on) };
+        passed = record { on = omega (arith, inv .passed .on, on); end-within = after .inside .within; few = omega (arith, inv .passed .few, u .counted, on) };
+        few = omega (arith, inv .few);
+        codes = inv .codes ++ word;
+        is = inv .is ∙ ap (behind (inv .codes)) one ∙ behind-behind (inv .codes) word _;
+        wrote = wrote-append (inv .wrote) u;
+      }

@@ -1,15 +1,14 @@
 -- An answer's number holds what was put into it, and a code's two numbers are stored after the codes before it.
-use Prim.Native.Nat.{ℕ, suc, _+_, _*_, _/_, _%_, _≤_, _<_}
+use Prim.Native.Nat.{ℕ, _+_, _*_, _/_, _%_, _≤_}
 use native.Mathlib.Omega.{arith}
 use native.Mathlib.Numerals.{add-one}
-use mathlib.Core.Path.{_≡_, refl, sym, ap, ap₂, _∙_}
-use mathlib.Core.Bool.{true, false}
+use mathlib.Core.Path.{_≡_, refl, ap, ap₂, _∙_}
 use mathlib.Core.List.{List, [], _∷_, flatMap}
 use borrow.Author.Tests.{le-leb, lt-leb}
 use lib.ListN.{set}
 use Rattle.model.specs.declared.Code.{Code}
 use Rattle.model.specs.Limits.{maxCodes, maxText}
-use Rattle.flat_rules.specs.Steps.{Step, reached, stopped, hasFailed, atOf, countOf, numberOf, placeOf, stepOf}
+use Rattle.flat_rules.specs.Steps.{reached, stopped, atOf, numberOf, placeOf, stepOf}
 use Rattle.flat_rules.specs.Answers.{pairs, Wrote, CodeIs}
 use Rattle.flat_rules.proofs.AnswersLaws.{step-reached, step-stopped}
 

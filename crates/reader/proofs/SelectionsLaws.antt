@@ -1,18 +1,25 @@
 -- Codes in pairs as a selection.
-use Prim.Native.Nat.{ℕ, suc, _+_, _*_, _≤_}
+use Prim.Native.Nat.{ℕ, _+_, _≤_, _<_}
 use native.Mathlib.Omega.{arith}
 use mathlib.Core.Path.{_≡_, refl, sym, ap, ap₂, _∙_}
 use mathlib.Core.List.{List, [], _∷_, _++_, map, flatMap}
-use lib.ListN.{length, set, getD, take, drop, replicate}
+use borrow.Author.Tests.{le-leb, lt-leb}
+use lib.ListN.{length, set, drop}
 use lib.Seq.{sets, sets-eq}
 use Rattle.model.specs.declared.Code.{Code}
+use Rattle.model.specs.declared.Reading.{Reading}
+use Rattle.model.specs.declared.Reading.the-variants.{Read, Refused}
+use Rattle.model.specs.declared.Refusal.{Refusal}
+use Rattle.model.specs.Limits.{maxCodes}
 use Rattle.model.specs.Selection.{kindOf, operandOf}
+use Rattle.model.specs.TextAnswer.{TextAnswer, codes, error}
 use Rattle.model.specs.Typed.{selectionOf}
 use Rattle.model.proofs.SetsLaws.{sets-append}
 use Rattle.slices.specs.EverySecond.{everySecond}
 use Rattle.slices.proofs.EverySecondLaws.{length-every, every-cons}
-use Rattle.flat_rules.specs.Answers.{pair, pairs}
-use Rattle.reader.specs.Selections.{spread}
+use Rattle.flat_rules.specs.Answers.{pairs}
+use Rattle.flat_rules.proofs.AnswersLaws.{pairs-length}
+use Rattle.reader.specs.Selections.{InPairs, readingOf, spread, typedNumbers}
 
 -- the number of codes, then one column and the other: what is stored is one list
 pub columns-stored : (s numbers : List ℕ) (m : ℕ) {s₁ s₂ : List ℕ} → s₁ ≡ sets (set s 0 m) 1 (everySecond numbers 0 m)
@@ -49,3 +56,32 @@ spread-pairs cs entry {numbers} h e f =
     let spread-it : spread numbers (length cs) ≡ length cs ∷ (map kindOf cs ++ map operandOf cs) =
     ap (λ l. spread l (length cs)) is ∙ ap₂ (λ ks os. length cs ∷ (ks ++ os)) (kinds-column rest cs) (operands-column rest cs) in
     ap (spread numbers) f ∙ spread-it
+
+-- ---- the reader's answer, and what is put down for it
+
+pub reading-refused : (a : TextAnswer) {r : Refusal} {reading : Reading} → reading ≡ readingOf a → reading ≡ Refused r → a ≡ error r
+reading-refused (codes cs) e f = let z : _≡_ {A = ℕ} 0 1 = cc in absurd (omega arith)
+reading-refused (error s) {r} e f = let same : s ≡ r = cc in ap error same
+
+pub reading-read : (a : TextAnswer) {m : ℕ} {reading : Reading} → reading ≡ readingOf a → reading ≡ Read m → (cs : List Code) × (a ≡ codes cs) × (m ≡ length cs)
+reading-read (codes cs) {m} e f = let same : m ≡ length cs = cc in (cs, refl, same)
+reading-read (error s) e f = let z : _≡_ {A = ℕ} 0 1 = cc in absurd (omega arith)
+
+module _ (a : TextAnswer) {reading : Reading} (e : reading ≡ readingOf a) where
+  pub put-none : {r : Refusal} → reading ≡ Refused r → (s : List ℕ) → s ≡ sets s 0 (typedNumbers a)
+  put-none f s = rw (reading-refused a e f)
+
+  pub put-few : (m : ℕ) → reading ≡ Read m → m ≤ maxCodes → (entry numbers : List ℕ) → length entry ≡ 128 → InPairs a entry numbers
+      → (s : List ℕ) {exit : List ℕ} → exit ≡ sets s 0 (spread numbers m) → exit ≡ sets s 0 (typedNumbers a)
+  unfolding InPairs
+  put-few m f few entry numbers l w s put =
+      let found = reading-read a e f in
+      let cs = found .0 in
+      let within : length cs ≤ maxCodes = omega (arith, found .2) in
+      let stored : numbers ≡ sets entry 0 (pairs cs) = (rw (found .1) at w) within in
+      put ∙ ap (sets s 0) (spread-pairs cs entry (omega (arith, pairs-length cs)) stored (found .2)) ∙ rw (found .1, le-leb (length cs) maxCodes within)
+
+  pub put-many : (m : ℕ) → reading ≡ Read m → maxCodes < m → (s : List ℕ) → set s 0 m ≡ sets s 0 (typedNumbers a)
+  put-many m f many s =
+      let found = reading-read a e f in
+      ap (set s 0) (found .2) ∙ rw (found .1, lt-leb (length (found .0)) maxCodes (omega (arith, found .2)))

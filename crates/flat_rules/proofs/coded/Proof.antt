@@ -1,55 +1,45 @@
 -- The first token has the symbol, and is read with the code, or is refused.
 use mathlib.Core.Path.{refl}
 use native.Mathlib.Omega.{arith}
-use Rattle.flat_rules.proofs.TokensLaws.{answers-code, answers-refused, here-not, one-more}
+use Rattle.flat_rules.proofs.TokensLaws.{answers-code, answers-refused, one-more}
 use Rattle.flat_rules.proofs.FiltersLaws.{coded-no, coded-yes}
 use borrow.Author.Needs.{needs}
 use Rattle.flat_rules.proofs.coded.Statement.{statement}
 use Rattle.flat_rules.proofs.coded.Tie as tie
-use Rattle.flat_rules.proofs.coded.Reads as reads
-use Rattle.flat_rules.proofs.coded.Lts as lts
-use Rattle.flat_rules.proofs.push.Reads as push-reads
-use Rattle.flat_rules.proofs.steps.error_at.Reads as error-at-reads
-use Rattle.flat_rules.proofs.steps.read.Reads as read-reads
-use Rattle.scanner.proofs.end_of.Reads as end-of-reads
-use Rattle.scanner.proofs.symbol_of.Reads as symbol-of-reads
-use Rattle.scanner.proofs.token_at.Reads as token-at-reads
 
--- src/lib.rt:85:9
 token-at-requires : tie.Need-token-at-requires
 token-at-requires c κs = search needs
 
--- src/lib.rt:86:8
 symbol-of-requires : tie.Need-symbol-of-requires
 symbol-of-requires c κs = search needs
 
--- src/lib.rt:87:9
 error-at-requires : tie.Need-error-at-requires
 error-at-requires c κs = search needs
 
--- src/lib.rt:87:9
 returns : tie.Need-returns
-returns c d is = answers-refused (c .before .before .before .token-at .ensures) (c .before .before .symbol-of .ensures) (coded-no _ d _ (here-not (c .before .before .before .token-at .ensures) (c .before .before .symbol-of .ensures) (c .before .if1 .taken))) (c .error-at .ensures)
+returns c d is =
+    let a = c .before .before in
+    answers-refused (a .before .token-at .ensures) (a .symbol-of .ensures) (λ ts h. coded-no _ d ts h (c .before .if1 .taken)) (c .error-at .ensures)
 
--- src/lib.rt:89:5
 push-requires : tie.Need-push-requires
 push-requires c κs = search needs
 
--- src/lib.rt:90:17
 end-of-requires : tie.Need-end-of-requires
 end-of-requires c κs = search needs
 
--- src/lib.rt:90:37
 add-read : tie.Need-add-read
 add-read c = search needs
 
--- src/lib.rt:90:5
 read-requires : tie.Need-read-requires
-read-requires c κs = one-more (c .before .before .before .before .before .token-at .ensures) (c .before .before .before .before .symbol-of .ensures) (c .before .before .before .before .before .before .pre .0) (c .before .before .before .if1 .left) (λ z. omega (arith, z, c .before .before .before .before .before .before .pre .1)) (c .end-of .ensures) refl
+read-requires c κs =
+    let a = c .before .before .before .before in
+    one-more (a .before .token-at .ensures) (a .symbol-of .ensures) (a .before .before .pre .0) (c .before .before .before .if1 .left) (λ z. omega (arith, z, a .before .before .pre .1)) (c .end-of .ensures) refl
 
--- src/lib.rt:71:1
 returns-2 : tie.Need-returns-2
-returns-2 c d is = answers-code (c .before .before .before .before .before .before .token-at .ensures) (c .before .before .before .before .before .symbol-of .ensures) (c .before .before .before .before .if1 .left) (λ z. omega (arith, z, c .before .before .before .before .before .before .before .pre .1)) (c .before .end-of .ensures) (coded-yes _ d) (c .before .before .push .ensures d is) refl (c .read .ensures)
+returns-2 c d is =
+    let a = c .before .before .before .before .before in
+    answers-code (a .before .token-at .ensures) (a .symbol-of .ensures) (c .before .before .before .before .if1 .left) (λ z. omega (arith, z, a .before .before .pre .1)) (c .before .end-of .ensures)
+    (coded-yes _ d) (c .before .before .push .ensures d is) refl (c .read .ensures)
 
 pub coded-spec : {M : Type 1} → statement M
 coded-spec =

@@ -1,66 +1,53 @@
 -- Each of the three words goes on with its rule, and any other token is refused.
-use Rattle.flat_rules.proofs.TokensLaws.{answers-after, answers-refused, here-not}
+use Rattle.flat_rules.proofs.TokensLaws.{answers-after, answers-refused}
 use Rattle.flat_rules.proofs.FiltersLaws.{makes-exactly, range-at, range-exactly, range-from, range-none}
 use borrow.Author.Needs.{needs}
 use Rattle.flat_rules.proofs.distance.Statement.{statement}
 use Rattle.flat_rules.proofs.distance.Tie as tie
-use Rattle.flat_rules.proofs.distance.Reads as reads
-use Rattle.flat_rules.proofs.distance.Lts as lts
-use Rattle.flat_rules.proofs.distance_at.Reads as distance-at-reads
-use Rattle.flat_rules.proofs.distance_from.Reads as distance-from-reads
-use Rattle.flat_rules.proofs.measured.Reads as measured-reads
-use Rattle.flat_rules.proofs.steps.error_at.Reads as error-at-reads
-use Rattle.scanner.proofs.end_of.Reads as end-of-reads
-use Rattle.scanner.proofs.symbol_of.Reads as symbol-of-reads
-use Rattle.scanner.proofs.token_at.Reads as token-at-reads
 
--- src/lib.rt:212:9
 token-at-requires : tie.Need-token-at-requires
 token-at-requires c κs = search needs
 
--- src/lib.rt:213:9
 symbol-of-requires : tie.Need-symbol-of-requires
 symbol-of-requires c κs = search needs
 
--- src/lib.rt:214:9
 end-of-requires : tie.Need-end-of-requires
 end-of-requires c κs = search needs
 
--- src/lib.rt:216:59
 add-measured : tie.Need-add-measured
 add-measured c = search needs
 
--- src/lib.rt:216:9
 measured-requires : tie.Need-measured-requires
 measured-requires c κs = search needs
 
--- src/lib.rt:216:9
 returns : tie.Need-returns
-returns c = answers-after (c .before .before .before .before .before .token-at .ensures) (c .before .before .before .before .symbol-of .ensures) (c .before .before .if1 .taken) (c .before .before .before .end-of .ensures) range-exactly (c .measured .ensures _ makes-exactly)
+returns c =
+    let a = c .before .before .before .before in
+    answers-after (a .before .token-at .ensures) (a .symbol-of .ensures) (c .before .before .if1 .taken) (c .before .before .before .end-of .ensures) range-exactly (c .measured .ensures _ makes-exactly)
 
--- src/lib.rt:219:9
 distance-from-requires : tie.Need-distance-from-requires
 distance-from-requires c κs = search needs
 
--- src/lib.rt:219:9
 returns-2 : tie.Need-returns-2
-returns-2 c = answers-after (c .before .before .before .before .before .before .token-at .ensures) (c .before .before .before .before .before .symbol-of .ensures) (c .before .before .if2 .taken) (c .before .before .before .before .end-of .ensures) range-from (c .distance-from .ensures)
+returns-2 c =
+    let a = c .before .before .before .before .before in
+    answers-after (a .before .token-at .ensures) (a .symbol-of .ensures) (c .before .before .if2 .taken) (c .before .before .before .before .end-of .ensures) range-from (c .distance-from .ensures)
 
--- src/lib.rt:222:9
 error-at-requires : tie.Need-error-at-requires
 error-at-requires c κs = search needs
 
--- src/lib.rt:222:9
 returns-3 : tie.Need-returns-3
-returns-3 c = answers-refused (c .before .before .before .before .before .before .token-at .ensures) (c .before .before .before .before .before .symbol-of .ensures) (range-none _ (here-not (c .before .before .before .before .before .before .token-at .ensures) (c .before .before .before .before .before .symbol-of .ensures) (c .before .before .before .if1 .left)) (here-not (c .before .before .before .before .before .before .token-at .ensures) (c .before .before .before .before .before .symbol-of .ensures) (c .before .before .if2 .left)) (here-not (c .before .before .before .before .before .before .token-at .ensures) (c .before .before .before .before .before .symbol-of .ensures) (c .before .if3 .taken))) (c .error-at .ensures)
+returns-3 c =
+    let a = c .before .before .before .before .before in
+    answers-refused (a .before .token-at .ensures) (a .symbol-of .ensures) (λ ts h. range-none ts h (c .before .before .before .if1 .left) (c .before .before .if2 .left) (c .before .if3 .taken)) (c .error-at .ensures)
 
--- src/lib.rt:224:5
 distance-at-requires : tie.Need-distance-at-requires
 distance-at-requires c κs = search needs
 
--- src/lib.rt:208:1
 returns-4 : tie.Need-returns-4
-returns-4 c = answers-after (c .before .before .before .before .before .before .before .token-at .ensures) (c .before .before .before .before .before .before .symbol-of .ensures) (c .before .before .if3 .left) (c .before .before .before .before .before .end-of .ensures) range-at (c .distance-at .ensures)
+returns-4 c =
+    let a = c .before .before .before .before .before .before in
+    answers-after (a .before .token-at .ensures) (a .symbol-of .ensures) (c .before .before .if3 .left) (c .before .before .before .before .before .end-of .ensures) range-at (c .distance-at .ensures)
 
 pub distance-spec : {M : Type 1} → statement M
 distance-spec =

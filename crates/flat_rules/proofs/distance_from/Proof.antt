@@ -1,90 +1,74 @@
 -- The number after `from` is read, then `to`, and the second number makes the code with it.
-use mathlib.Core.Path.{_∙_}
-use native.Mathlib.Omega.{arith}
-use Rattle.model.specs.declared.Code.the-variants.{Filter as Filtered}
-use Rattle.model.specs.declared.Filter.the-variants.{Distance}
-use Rattle.model.specs.Limits.{maxNumber}
-use Rattle.flat_rules.proofs.TokensLaws.{answers-after, answers-number, answers-over, answers-refused, here-not, number-none, number-over, number-read}
-use Rattle.flat_rules.proofs.FiltersLaws.{from-number, makes-from, toward, toward-no, toward-yes}
+use Rattle.flat_rules.proofs.TokensLaws.{answers-after, answers-number, answers-over, answers-refused}
+use Rattle.flat_rules.proofs.FiltersLaws.{from-none, from-over, from-read, makes-from, toward-none, toward-second}
 use borrow.Author.Needs.{needs}
 use Rattle.flat_rules.proofs.distance_from.Statement.{statement}
 use Rattle.flat_rules.proofs.distance_from.Tie as tie
-use Rattle.flat_rules.proofs.distance_from.Reads as reads
-use Rattle.flat_rules.proofs.distance_from.Lts as lts
-use Rattle.flat_rules.proofs.measured.Reads as measured-reads
-use Rattle.flat_rules.proofs.steps.error_at.Reads as error-at-reads
-use Rattle.scanner.proofs.end_of.Reads as end-of-reads
-use Rattle.scanner.proofs.symbol_of.Reads as symbol-of-reads
-use Rattle.scanner.proofs.token_at.Reads as token-at-reads
-use Rattle.scanner.proofs.value_of.Reads as value-of-reads
 
--- src/lib.rt:158:9
 token-at-requires : tie.Need-token-at-requires
 token-at-requires c κs = search needs
 
--- src/lib.rt:159:8
 symbol-of-requires : tie.Need-symbol-of-requires
 symbol-of-requires c κs = search needs
 
--- src/lib.rt:160:9
 error-at-requires : tie.Need-error-at-requires
 error-at-requires c κs = search needs
 
--- src/lib.rt:160:9
 returns : tie.Need-returns
-returns c = answers-refused (c .before .before .before .token-at .ensures) (c .before .before .symbol-of .ensures) (from-number _ ∙ number-none (c .before .before .before .token-at .ensures) (c .before .before .symbol-of .ensures) maxNumber toward (c .before .if1 .taken)) (c .error-at .ensures)
+returns c =
+    let a = c .before .before in
+    answers-refused (a .before .token-at .ensures) (a .symbol-of .ensures) (λ ts h. from-none ts h (c .before .if1 .taken)) (c .error-at .ensures)
 
--- src/lib.rt:162:9
 value-of-requires : tie.Need-value-of-requires
 value-of-requires c κs = search needs
 
--- src/lib.rt:164:9
 error-at-requires-2 : tie.Need-error-at-requires-2
 error-at-requires-2 c κs = search needs
 
--- src/lib.rt:164:9
 returns-2 : tie.Need-returns-2
-returns-2 c = answers-over (c .before .before .before .before .before .token-at .ensures) (c .before .before .before .before .symbol-of .ensures) (from-number _ ∙ number-over (c .before .before .before .before .before .token-at .ensures) (c .before .before .before .before .symbol-of .ensures) maxNumber toward (c .before .before .before .if1 .left) (c .before .before .value-of .ensures) (c .before .if2 .taken)) (c .error-at2 .ensures)
+returns-2 c =
+    let a = c .before .before .before .before in
+    answers-over (a .before .token-at .ensures) (a .symbol-of .ensures) (c .before .before .value-of .ensures) (λ ts h w. from-over ts h w (c .before .before .before .if1 .left) (c .before .if2 .taken)) (c .error-at2 .ensures)
 
--- src/lib.rt:166:44
 end-of-requires : tie.Need-end-of-requires
 end-of-requires c κs = search needs
 
--- src/lib.rt:166:9
 token-at-requires-2 : tie.Need-token-at-requires-2
 token-at-requires-2 c κs = search needs
 
--- src/lib.rt:167:8
 symbol-of-requires-2 : tie.Need-symbol-of-requires-2
 symbol-of-requires-2 c κs = search needs
 
--- src/lib.rt:168:9
 error-at-requires-3 : tie.Need-error-at-requires-3
 error-at-requires-3 c κs = search needs
 
--- src/lib.rt:168:9
 returns-3 : tie.Need-returns-3
-returns-3 c = answers-number (c .before .before .before .before .before .before .before .before .before .token-at .ensures) (c .before .before .before .before .before .before .before .before .symbol-of .ensures) {rule' = toward (c .before .before .before .before .before .before .value-of .result)} (c .before .before .before .before .end-of .ensures) (from-number _ ∙ number-read (c .before .before .before .before .before .before .before .before .before .token-at .ensures) (c .before .before .before .before .before .before .before .before .symbol-of .ensures) maxNumber toward (c .before .before .before .before .before .before .before .if1 .left) (c .before .before .before .before .before .before .value-of .ensures) (c .before .before .before .before .before .if2 .left) (omega arith)) (answers-refused (c .before .before .before .token-at2 .ensures) (c .before .before .symbol-of2 .ensures) (toward-no _ _ (here-not (c .before .before .before .token-at2 .ensures) (c .before .before .symbol-of2 .ensures) (c .before .if3 .taken))) (c .error-at3 .ensures))
+returns-3 c =
+    let b = c .before .before in
+    let v = c .before .before .before .before .before .before in
+    let a = v .before .before in
+    answers-number (a .before .token-at .ensures) (a .symbol-of .ensures) (v .value-of .ensures) (b .before .before .end-of .ensures) (λ ts h w. from-read ts h w (v .before .if1 .left) (c .before .before .before .before .before .if2 .left))
+    (answers-refused (b .before .token-at2 .ensures) (b .symbol-of2 .ensures) (λ ts h. toward-none ts h (v .value-of .result) (c .before .if3 .taken)) (c .error-at3 .ensures))
 
--- src/lib.rt:173:9
 end-of-requires-2 : tie.Need-end-of-requires-2
 end-of-requires-2 c κs = search needs
 
--- src/lib.rt:178:9
 cast-measured : tie.Need-cast-measured
 cast-measured c = search needs
 
--- src/lib.rt:178:9
 mul-measured : tie.Need-mul-measured
 mul-measured c = search needs
 
--- src/lib.rt:170:5
 measured-requires : tie.Need-measured-requires
 measured-requires c κs = search needs
 
--- src/lib.rt:154:1
 returns-4 : tie.Need-returns-4
-returns-4 c = answers-number (c .before .before .before .before .before .before .before .before .before .before .before .token-at .ensures) (c .before .before .before .before .before .before .before .before .before .before .symbol-of .ensures) {rule' = toward (c .before .before .before .before .before .before .before .before .value-of .result)} (c .before .before .before .before .before .before .end-of .ensures) (from-number _ ∙ number-read (c .before .before .before .before .before .before .before .before .before .before .before .token-at .ensures) (c .before .before .before .before .before .before .before .before .before .before .symbol-of .ensures) maxNumber toward (c .before .before .before .before .before .before .before .before .before .if1 .left) (c .before .before .before .before .before .before .before .before .value-of .ensures) (c .before .before .before .before .before .before .before .if2 .left) (omega arith)) (answers-after (c .before .before .before .before .before .token-at2 .ensures) (c .before .before .before .before .symbol-of2 .ensures) (c .before .before .before .if3 .left) (c .before .before .end-of2 .ensures) (λ ts. toward-yes ts _) (c .measured .ensures (λ n. Filtered (Distance (c .before .before .before .before .before .before .before .before .value-of .result) n)) (makes-from _)))
+returns-4 c =
+    let b = c .before .before .before .before in
+    let v = c .before .before .before .before .before .before .before .before in
+    let a = v .before .before in
+    answers-number (a .before .token-at .ensures) (a .symbol-of .ensures) (v .value-of .ensures) (b .before .before .end-of .ensures) (λ ts h w. from-read ts h w (v .before .if1 .left) (c .before .before .before .before .before .before .before .if2 .left))
+    (answers-after (b .before .token-at2 .ensures) (b .symbol-of2 .ensures) (c .before .before .before .if3 .left) (c .before .before .end-of2 .ensures) (λ ts. toward-second ts (v .value-of .result)) (c .measured .ensures _ (makes-from (v .value-of .result))))
 
 pub distance-from-spec : {M : Type 1} → statement M
 distance-from-spec =

@@ -1,60 +1,49 @@
 -- The first of the two symbols is read with its code, and else the second is asked for.
 use mathlib.Core.Path.{refl}
 use native.Mathlib.Omega.{arith}
-use Rattle.flat_rules.proofs.AnswersLaws.{answers-from}
-use Rattle.flat_rules.proofs.TokensLaws.{answers-code, here-not, one-more}
+use Rattle.flat_rules.proofs.AnswersLaws.{answers-from, symbol-here}
+use Rattle.flat_rules.proofs.TokensLaws.{answers-code, one-more}
 use Rattle.flat_rules.proofs.FiltersLaws.{either-first, either-second}
 use borrow.Author.Needs.{needs}
 use Rattle.flat_rules.proofs.either.Statement.{statement}
 use Rattle.flat_rules.proofs.either.Tie as tie
-use Rattle.flat_rules.proofs.either.Reads as reads
-use Rattle.flat_rules.proofs.either.Lts as lts
-use Rattle.flat_rules.proofs.coded.Reads as coded-reads
-use Rattle.flat_rules.proofs.push.Reads as push-reads
-use Rattle.flat_rules.proofs.steps.read.Reads as read-reads
-use Rattle.scanner.proofs.end_of.Reads as end-of-reads
-use Rattle.scanner.proofs.symbol_of.Reads as symbol-of-reads
-use Rattle.scanner.proofs.token_at.Reads as token-at-reads
 
--- src/lib.rt:109:9
 token-at-requires : tie.Need-token-at-requires
 token-at-requires c κs = search needs
 
--- src/lib.rt:110:8
 symbol-of-requires : tie.Need-symbol-of-requires
 symbol-of-requires c κs = search needs
 
--- src/lib.rt:111:9
 push-requires : tie.Need-push-requires
 push-requires c κs = search needs
 
--- src/lib.rt:112:28
 end-of-requires : tie.Need-end-of-requires
 end-of-requires c κs = search needs
 
--- src/lib.rt:112:48
 add-read : tie.Need-add-read
 add-read c = search needs
 
--- src/lib.rt:112:9
 read-requires : tie.Need-read-requires
-read-requires c κs = one-more (c .before .before .before .before .before .token-at .ensures) (c .before .before .before .before .symbol-of .ensures) (c .before .before .before .before .before .before .pre .0) (c .before .before .before .if1 .taken) (λ z. omega (arith, z, c .before .before .before .before .before .before .pre .1 .0)) (c .end-of .ensures) refl
+read-requires c κs =
+    let a = c .before .before .before .before in
+    one-more (a .before .token-at .ensures) (a .symbol-of .ensures) (a .before .before .pre .0) (c .before .before .before .if1 .taken) (λ z. omega (arith, z, a .before .before .pre .1 .0)) (c .end-of .ensures) refl
 
--- src/lib.rt:112:9
 returns : tie.Need-returns
-returns c a b is also = answers-code (c .before .before .before .before .before .before .token-at .ensures) (c .before .before .before .before .before .symbol-of .ensures) (c .before .before .before .before .if1 .taken) (λ z. omega (arith, z, c .before .before .before .before .before .before .before .pre .1 .0)) (c .before .end-of .ensures) (either-first _ a _ b) (c .before .before .push .ensures a is) refl (c .read .ensures)
+returns c d e is also =
+    let a = c .before .before .before .before .before in
+    answers-code (a .before .token-at .ensures) (a .symbol-of .ensures) (c .before .before .before .before .if1 .taken) (λ z. omega (arith, z, a .before .before .pre .1 .0)) (c .before .end-of .ensures)
+    (either-first _ d _ e) (c .before .before .push .ensures d is) refl (c .read .ensures)
 
--- src/lib.rt:114:49
 add-coded : tie.Need-add-coded
 add-coded c = search needs
 
--- src/lib.rt:114:5
 coded-requires : tie.Need-coded-requires
 coded-requires c κs = search needs
 
--- src/lib.rt:94:1
 returns-2 : tie.Need-returns-2
-returns-2 c a b is also = answers-from _ (λ n l. either-second _ a _ b _ (here-not (c .before .before .before .before .token-at .ensures) (c .before .before .before .symbol-of .ensures) (c .before .before .if1 .left))) (omega arith) (c .coded .ensures b also)
+returns-2 c d e is also =
+    let a = c .before .before .before in
+    answers-from _ (λ n l. either-second _ d _ e _ (symbol-here (a .before .token-at .ensures) (a .symbol-of .ensures)) (c .before .before .if1 .left)) (omega arith) (c .coded .ensures e also)
 
 pub either-spec : {M : Type 1} → statement M
 either-spec =

@@ -1,22 +1,12 @@
 -- The filters read so far are followed by the rest of the filters. Measure: the bytes left.
 use Prim.Native.Nat.{_-_}
 use native.Mathlib.Omega.{arith}
-use borrow.Author.Needs.{needs}
 use borrow.Author.Tests.{not-true, not-false}
 use Rattle.flat_rules.proofs.AnswersLaws.{answers-known, at-short, count-short, read-further, step-failed, step-read, symbol-here}
 use Rattle.flat_rules.proofs.FiltersLaws.{Filters, filters-fail, filters-start, filters-step, filters-stop, starts-here}
+use borrow.Author.Needs.{needs}
 use Rattle.flat_rules.proofs.filters.Statement.{statement}
 use Rattle.flat_rules.proofs.filters.Tie as tie
-use Rattle.flat_rules.proofs.filters.Reads as reads
-use Rattle.flat_rules.proofs.filters.Lts as lts
-use Rattle.flat_rules.proofs.filter.Reads as filter-reads
-use Rattle.flat_rules.proofs.starts_filter.Reads as starts-filter-reads
-use Rattle.flat_rules.proofs.steps.at_of.Reads as at-of-reads
-use Rattle.flat_rules.proofs.steps.count_of.Reads as count-of-reads
-use Rattle.flat_rules.proofs.steps.is_failed.Reads as is-failed-reads
-use Rattle.flat_rules.proofs.steps.read.Reads as read-reads
-use Rattle.scanner.proofs.symbol_of.Reads as symbol-of-reads
-use Rattle.scanner.proofs.token_at.Reads as token-at-reads
 
 abbrev Inv-loop : tie.InvT-loop
 Inv-loop text size at codes₀ count p₀ n₀ codes p n = Filters text size at codes₀ codes count p n
@@ -24,57 +14,62 @@ Inv-loop text size at codes₀ count p₀ n₀ codes p n = Filters text size at 
 abbrev μ-loop : tie.MeasureT-loop
 μ-loop text size at codes₀ count p₀ n₀ codes p n = size - p
 
--- src/lib.rt:294:5
 loop-holds : tie.Need-loop-holds Inv-loop μ-loop
 loop-holds c = filters-start (c .pre)
 
--- src/lib.rt:295:13
 token-at-requires : tie.Need-token-at-requires Inv-loop μ-loop
 token-at-requires c κs = c .loop .inv .ready .inside
 
--- src/lib.rt:296:27
 symbol-of-requires : tie.Need-symbol-of-requires Inv-loop μ-loop
 symbol-of-requires c κs = search needs
 
--- src/lib.rt:296:13
 starts-filter-requires : tie.Need-starts-filter-requires Inv-loop μ-loop
 starts-filter-requires c κs = search needs
 
--- src/lib.rt:297:13
 read-requires : tie.Need-read-requires Inv-loop μ-loop
 read-requires c κs = (at-short (c .before .before .before .before .loop .inv .ready), count-short (c .before .before .before .before .loop .inv .ready))
 
--- src/lib.rt:297:13
 returns : tie.Need-returns Inv-loop μ-loop
-returns c = filters-stop (c .before .before .before .before .before .loop .inv) (starts-here _ (symbol-here (c .before .before .before .before .token-at .ensures) (c .before .before .before .symbol-of .ensures)) (c .before .before .starts-filter .ensures) (not-true _ (c .before .if1 .taken))) (c .read .ensures)
+returns c =
+    let f = c .before .before in
+    let a = f .before in
+    let i = a .before .before .loop .inv in
+    filters-stop i (starts-here _ (symbol-here (a .before .token-at .ensures) (a .symbol-of .ensures)) (f .starts-filter .ensures) (not-true _ (c .before .if1 .taken))) (c .read .ensures)
 
--- src/lib.rt:299:13
 filter-requires : tie.Need-filter-requires Inv-loop μ-loop
 filter-requires c κs = c .before .before .before .before .before .loop .inv .ready
 
--- src/lib.rt:300:12
 is-failed-requires : tie.Need-is-failed-requires Inv-loop μ-loop
 is-failed-requires c κs = search needs
 
--- src/lib.rt:301:13
 returns-2 : tie.Need-returns-2 Inv-loop μ-loop
-returns-2 c = filters-fail (c .before .before .before .before .before .before .before .before .loop .inv) (starts-here _ (symbol-here (c .before .before .before .before .before .before .before .token-at .ensures) (c .before .before .before .before .before .before .symbol-of .ensures)) (c .before .before .before .before .before .starts-filter .ensures) (not-false _ (c .before .before .before .before .if1 .left))) (step-failed _ (c .before .is-failed .ensures) (c .if2 .taken)) (c .before .before .filter .ensures)
+returns-2 c =
+    let f = c .before .before .before .before .before in
+    let a = f .before in
+    let i = a .before .before .loop .inv in
+    let g = c .before in
+    filters-fail i (starts-here _ (symbol-here (a .before .token-at .ensures) (a .symbol-of .ensures)) (f .starts-filter .ensures) (not-false _ (c .before .before .before .before .if1 .left))) (step-failed _ (g .is-failed .ensures) (c .if2 .taken)) (g .before .filter .ensures)
 
--- src/lib.rt:303:9
 at-of-requires : tie.Need-at-of-requires Inv-loop μ-loop
 at-of-requires c κs = search needs
 
--- src/lib.rt:304:9
 count-of-requires : tie.Need-count-of-requires Inv-loop μ-loop
 count-of-requires c κs = search needs
 
--- src/lib.rt:294:5
 loop-less : tie.Need-loop-less Inv-loop μ-loop
-loop-less c = let f = read-further (answers-known (step-read _ (c .before .before .before .is-failed .ensures) (c .before .before .if2 .left) (c .before .at-of .ensures) (c .count-of .ensures)) (c .before .before .before .before .filter .ensures)) in omega (arith, f .on, f .end-within)
+loop-less c =
+    let g = c .before .before .before in
+    let f = read-further (answers-known (step-read _ (g .is-failed .ensures) (c .before .before .if2 .left) (c .before .at-of .ensures) (c .count-of .ensures)) (g .before .filter .ensures)) in
+    omega (arith, f .on, f .end-within)
 
--- src/lib.rt:294:5
 loop-again : tie.Need-loop-again Inv-loop μ-loop
-loop-again c = filters-step (c .before .before .before .before .before .before .before .before .before .before .loop .inv) (starts-here _ (symbol-here (c .before .before .before .before .before .before .before .before .before .token-at .ensures) (c .before .before .before .before .before .before .before .before .symbol-of .ensures)) (c .before .before .before .before .before .before .before .starts-filter .ensures) (not-false _ (c .before .before .before .before .before .before .if1 .left))) (step-read _ (c .before .before .before .is-failed .ensures) (c .before .before .if2 .left) (c .before .at-of .ensures) (c .count-of .ensures)) (c .before .before .before .before .filter .ensures)
+loop-again c =
+    let f = c .before .before .before .before .before .before .before in
+    let a = f .before in
+    let i = a .before .before .loop .inv in
+    let g = c .before .before .before in
+    filters-step i (starts-here _ (symbol-here (a .before .token-at .ensures) (a .symbol-of .ensures)) (f .starts-filter .ensures) (not-false _ (c .before .before .before .before .before .before .if1 .left)))
+    (step-read _ (g .is-failed .ensures) (c .before .before .if2 .left) (c .before .at-of .ensures) (c .count-of .ensures)) (g .before .filter .ensures)
 
 pub filters-spec : {M : Type 1} → statement M
 filters-spec =

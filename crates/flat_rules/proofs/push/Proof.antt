@@ -4,38 +4,28 @@ use Rattle.flat_rules.proofs.StepsLaws.{wrote-one, wrote-past}
 use borrow.Author.Needs.{needs}
 use Rattle.flat_rules.proofs.push.Statement.{statement}
 use Rattle.flat_rules.proofs.push.Tie as tie
-use Rattle.flat_rules.proofs.push.Reads as reads
-use Rattle.flat_rules.proofs.push.Lts as lts
 
--- src/lib.rt:30:17
 mul-i : tie.Need-mul-i
 mul-i c = search needs
 
--- src/lib.rt:31:9
 mul-codes : tie.Need-mul-codes
 mul-codes c = search needs
 
--- src/lib.rt:31:9
 element-write-codes : tie.Need-element-write-codes
 element-write-codes c = search needs
 
--- src/lib.rt:32:15
 add-codes : tie.Need-add-codes
 add-codes c = search needs
 
--- src/lib.rt:32:9
 mul-codes-2 : tie.Need-mul-codes-2
 mul-codes-2 c = search needs
 
--- src/lib.rt:32:9
 element-write-codes-2 : tie.Need-element-write-codes-2
 element-write-codes-2 c = search needs
 
--- src/lib.rt:34:5
 add-result : tie.Need-add-result
 add-result c = search needs
 
--- src/lib.rt:25:1
 returns : tie.Need-returns
 returns c d is = ⊎-elim (λ w. wrote-one is (w .1)) (λ w. wrote-past is (w .0 .left)) (c .if1 .came)
 

@@ -5,31 +5,22 @@ use Rattle.flat_rules.proofs.StepsLaws.{error-step}
 use borrow.Author.Needs.{needs}
 use Rattle.flat_rules.proofs.steps.error_at.Statement.{statement}
 use Rattle.flat_rules.proofs.steps.error_at.Tie as tie
-use Rattle.flat_rules.proofs.steps.error_at.Reads as reads
-use Rattle.flat_rules.proofs.steps.error_at.Lts as lts
-use Rattle.scanner.proofs.start_of.Reads as start-of-reads
 
--- src/steps.rt:26:17
 start-of-requires : tie.Need-start-of-requires
 start-of-requires c κs = search needs
 
--- src/steps.rt:26:17
 cast-place : tie.Need-cast-place
 cast-place c = search needs
 
--- src/steps.rt:26:17
 add-place : tie.Need-add-place
 add-place c = search needs
 
--- src/steps.rt:27:13
 mul-result : tie.Need-mul-result
 mul-result c = search needs
 
--- src/steps.rt:27:5
 add-result : tie.Need-add-result
 add-result c = search needs
 
--- src/steps.rt:21:1
 returns : tie.Need-returns
 returns c = rw (sym (c .start-of .ensures)) (error-step _ _ (c .before .pre .0 .0) (c .before .pre .0 .1) (omega (arith, c .before .pre .1, c .start-of .ensures)))
 
