@@ -5,7 +5,7 @@ use mathlib.Core.Path.{_≡_, refl, sym, ap, ap₂, _∙_}
 use mathlib.Core.List.{List, [], _∷_, _++_, map, flatMap}
 use borrow.Author.Tests.{le-leb, lt-leb}
 use lib.ListN.{length, set, drop}
-use lib.Seq.{sets, sets-eq}
+use lib.Seq.{sets, sets-eq, length-sets}
 use Rattle.model.specs.declared.Code.{Code}
 use Rattle.model.specs.declared.Reading.{Reading}
 use Rattle.model.specs.declared.Reading.the-variants.{Read, Refused}
@@ -67,21 +67,42 @@ pub reading-read : (a : TextAnswer) {m : ℕ} {reading : Reading} → reading �
 reading-read (codes cs) {m} e f = let same : m ≡ length cs = cc in (cs, refl, same)
 reading-read (error s) e f = let z : _≡_ {A = ℕ} 0 1 = cc in absurd (omega arith)
 
+typed-few : (cs : List Code) → length cs ≤ maxCodes → typedNumbers (codes cs) ≡ selectionOf cs
+typed-few cs h = rw (le-leb (length cs) maxCodes h)
+
+typed-many : (cs : List Code) → maxCodes < length cs → typedNumbers (codes cs) ≡ length cs ∷ []
+typed-many cs h = rw (lt-leb (length cs) maxCodes h)
+
+paired : (a : TextAnswer) (cs : List Code) (entry numbers : List ℕ) → a ≡ codes cs → length cs ≤ maxCodes → InPairs a entry numbers → numbers ≡ sets entry 0 (pairs cs)
+unfolding InPairs
+paired a cs entry numbers e h w = (rw e at w) h
+
 module _ (a : TextAnswer) {reading : Reading} (e : reading ≡ readingOf a) where
   pub put-none : {r : Refusal} → reading ≡ Refused r → (s : List ℕ) → s ≡ sets s 0 (typedNumbers a)
-  put-none f s = rw (reading-refused a e f)
+  put-none f s = ap (λ b. sets s 0 (typedNumbers b)) (sym (reading-refused a e f))
 
-  pub put-few : (m : ℕ) → reading ≡ Read m → m ≤ maxCodes → (entry numbers : List ℕ) → length entry ≡ 128 → InPairs a entry numbers
-      → (s : List ℕ) {exit : List ℕ} → exit ≡ sets s 0 (spread numbers m) → exit ≡ sets s 0 (typedNumbers a)
-  unfolding InPairs
-  put-few m f few entry numbers l w s put =
-      let found = reading-read a e f in
-      let cs = found .0 in
-      let within : length cs ≤ maxCodes = omega (arith, found .2) in
-      let stored : numbers ≡ sets entry 0 (pairs cs) = (rw (found .1) at w) within in
-      put ∙ ap (sets s 0) (spread-pairs cs entry (omega (arith, pairs-length cs)) stored (found .2)) ∙ rw (found .1, le-leb (length cs) maxCodes within)
+  -- up to 64 codes stand in pairs in the array, and are put down as a selection
+  module _ (m : ℕ) (f : reading ≡ Read m) (few : m ≤ maxCodes) (entry numbers : List ℕ) (w : InPairs a entry numbers) where
+    abbrev found : (cs : List Code) × (a ≡ codes cs) × (m ≡ length cs)
+    found = reading-read a e f
 
+    within : length (found .0) ≤ maxCodes
+    within = omega (arith, found .2)
+
+    stored : numbers ≡ sets entry 0 (pairs (found .0))
+    stored = paired a (found .0) entry numbers (found .1) within w
+
+    pub same-room : length numbers ≡ length entry
+    same-room = ap length stored ∙ length-sets entry 0 (pairs (found .0))
+
+    pub put-few : length entry ≡ 128 → (s : List ℕ) {exit : List ℕ} → exit ≡ sets s 0 (spread numbers m) → exit ≡ sets s 0 (typedNumbers a)
+    put-few l s put =
+        let cs = found .0 in
+        let selection = spread-pairs cs entry (omega (arith, pairs-length cs, within)) stored (found .2) ∙ sym (typed-few cs within) in
+        put ∙ ap (sets s 0) (selection ∙ ap typedNumbers (sym (found .1)))
+
+  -- of more their number is
   pub put-many : (m : ℕ) → reading ≡ Read m → maxCodes < m → (s : List ℕ) → set s 0 m ≡ sets s 0 (typedNumbers a)
   put-many m f many s =
       let found = reading-read a e f in
-      ap (set s 0) (found .2) ∙ rw (found .1, lt-leb (length (found .0)) maxCodes (omega (arith, found .2)))
+      ap (set s 0) (found .2) ∙ ap (sets s 0) (sym (typed-many (found .0) (omega (arith, found .2))) ∙ ap typedNumbers (sym (found .1)))

@@ -1,8 +1,9 @@
 -- An error puts nothing down; up to 64 codes are put down as a selection, and of more their number.
 use native.Mathlib.Omega.{arith}
-use mathlib.Core.Path.{refl, sym, ap, _∙_}
+use mathlib.Core.Path.{refl, sym, _∙_}
 use borrow.Author.Needs.{needs}
-use Rattle.reader.proofs.SelectionsLaws.{put-none, put-few, put-many}
+use Rattle.grammar.specs.Grammar.{readText}
+use Rattle.reader.proofs.SelectionsLaws.{put-none, same-room, put-few, put-many}
 use Rattle.reader.proofs.read.Statement.{statement}
 use Rattle.reader.proofs.read.Tie as tie
 
@@ -17,14 +18,22 @@ enum-told c = search needs
 
 returns : tie.Need-returns
 returns c =
-    let e = @After-codes-of .codes-of .ensures .0 in
-    (e, put-none _ e (@After-enum-told .enum-told .given .1) (@Start .args .selection .now))
+    let a = readText (c .before .before .before .before .before .before .args .text .now) in
+    let e = c .before .before .codes-of .ensures .0 in
+    (e, put-none a e (c .enum-told .given .1) (c .before .before .before .before .before .before .args .selection .now))
 
 slice-aggregate-put-selection : tie.Need-slice-aggregate-put-selection
-slice-aggregate-put-selection c = ?
+slice-aggregate-put-selection c =
+    let a = readText (c .before .before .before .before .before .before .before .before .before .args .text .now) in
+    let k = c .before .before .before .before .before .codes-of .ensures in
+    sym (same-room a (k .0) _ (c .before .before .before .reading .given .1) (c .before .if1 .taken) _ _ (k .1))
 
 put-selection-requires : tie.Need-put-selection-requires
-put-selection-requires c κs = ?
+put-selection-requires c κs =
+    let a = readText (c .before .before .before .before .before .before .before .before .before .before .args .text .now) in
+    let k = c .before .before .before .before .before .before .codes-of .ensures in
+    let room = same-room a (k .0) _ (c .before .before .before .before .reading .given .1) (c .before .before .if1 .taken) _ _ (k .1) in
+    (c .before .before .if1 .taken, omega (arith, room), c .before .before .before .before .before .before .before .before .before .before .pre)
 
 slice-write-selection : tie.Need-slice-write-selection
 slice-write-selection c = search needs
@@ -33,15 +42,21 @@ same-length : tie.Need-same-length
 same-length c = search needs
 
 returns-2 : tie.Need-returns-2
-returns-2 c = ?
+returns-2 c =
+    let a = readText (c .before .before .before .before .before .before .before .before .before .before .before .before .before .args .text .now) in
+    let k = c .before .before .before .before .before .before .before .before .before .codes-of .ensures in
+    let f = c .before .before .before .before .before .before .before .reading .given .1 in
+    (sym f ∙ k .0, put-few a (k .0) _ f (c .before .before .before .before .before .if1 .taken) _ _ (k .1) refl (c .before .before .before .before .before .before .before .before .before .before .before .before .before .args .selection .now) (c .before .before .put-selection .ensures))
 
 same-length-2 : tie.Need-same-length-2
 same-length-2 c = search needs
 
 returns-3 : tie.Need-returns-3
 returns-3 c =
-    let e = @After-codes-of .codes-of .ensures .0 in
-    (e, put-many _ e _ (@After-reading .reading .given .1) (@Else1 .if1 .left) (@Start .args .selection .now))
+    let a = readText (c .before .before .before .before .before .before .before .before .args .text .now) in
+    let e = c .before .before .before .before .codes-of .ensures .0 in
+    let f = c .before .before .reading .given .1 in
+    (sym f ∙ e, put-many a e _ f (c .if1 .left) (c .before .before .before .before .before .before .before .before .args .selection .now))
 
 pub read-spec : {M : Type 1} → statement M
 read-spec =
