@@ -11,15 +11,20 @@ use lib.Dec.{leb, eqb}
 use lib.ListN.{length, take, drop, length-append, length-map}
 use lib.Seq.{sets, sets-eq, length-sets}
 use Rattle.model.specs.declared.Code.{Code}
+use Rattle.model.specs.declared.Listing.{Listing}
+use Rattle.model.specs.declared.Listing.the-variants.{Refused as ListingRefused}
+use Rattle.model.specs.declared.Quick.{Quick}
+use Rattle.model.specs.declared.Quick.the-variants.{Refused as QuickRefused}
+use Rattle.model.specs.declared.Reading.{Reading}
 use Rattle.model.specs.declared.Reading.the-variants.{Read, Refused}
 use Rattle.model.specs.declared.Refusal.{Refusal}
-use Rattle.model.specs.Answers.{listingRefusal, listingAnswer, listingBuffer, quickAnswer}
+use Rattle.model.specs.Answers.{listingRefusal, listingAnswer, listingBuffer, listingValues, quickAnswer, quickValues}
 use Rattle.model.specs.Checks.{refusal, otherwise, tried, wrongSelection, sectionRefusal, selectionRefusal, inputRefusal, listingChecks, quickChecks}
 use Rattle.model.specs.Limits.{maxCodes, selectionLength}
 use Rattle.model.specs.Section.{size, wellSized}
 use Rattle.model.specs.Selection.{kindOf, operandOf}
 use Rattle.model.specs.TextAnswer.{TextAnswer, codes, error, AnswerOf}
-use Rattle.model.specs.Typed.{selectionOf, readAnswer, readSelection}
+use Rattle.model.specs.Typed.{selectionOf, typedListing, typedBuffer, typedQuick, readAnswer, readSelection, readingValues}
 use Rattle.model.proofs.SetsLaws.{take-written}
 use Rattle.grammar.specs.Grammar.{readText}
 use Rattle.grammar.proofs.AnswerLaws.{reads-exactly}
@@ -77,6 +82,13 @@ module _ (section : List ℕ) {s t : List ℕ} where
 
 -- ---- what the reader puts down
 
+-- what the calls see of it has room in the array
+pub typed-room : (m : ℕ) → typedSize m ≤ 129
+typed-room m = at (leb m maxCodes) refl where
+  at : (x : Bool) → leb m maxCodes ≡ x → cond x (1 + 2 * m) 1 ≤ 129
+  at true h = omega (arith, leb-true m maxCodes h)
+  at false h = omega arith
+
 length-selection : (cs : List Code) → length (selectionOf cs) ≡ 1 + 2 * length cs
 unfolding selectionOf
 length-selection cs = omega (arith, length-append (map kindOf cs) (map operandOf cs), length-map cs kindOf, length-map cs operandOf)
@@ -91,7 +103,7 @@ unfolding selectionOf
 over-selection cs h = over-refused (length cs) (map kindOf cs ++ map operandOf cs) h
 
 -- up to 64 codes are put down as their selection
-pub put-few : (cs : List Code) (entry exit : List ℕ) (m : ℕ) → length entry ≡ 129 → exit ≡ sets entry 0 (typedNumbers (codes cs)) → m ≡ length cs → length cs ≤ maxCodes
+put-few : (cs : List Code) (entry exit : List ℕ) (m : ℕ) → length entry ≡ 129 → exit ≡ sets entry 0 (typedNumbers (codes cs)) → m ≡ length cs → length cs ≤ maxCodes
     → take (typedSize m) exit ≡ selectionOf cs
 put-few cs entry exit m l e f few =
     let h : leb (length cs) maxCodes ≡ true = le-leb (length cs) maxCodes few in
@@ -110,7 +122,7 @@ put-many cs entry exit m l e f many =
     let room : length exit ≡ 129 = ap length put ∙ length-sets entry 0 (length cs ∷ []) ∙ l in
     ap selectionRefusal (take-written entry (length cs ∷ []) (typedSize m) put one (omega (arith, one, room))) ∙ over-refused (length cs) [] many
 
-pub put-down : (cs : List Code) (entry exit : List ℕ) (m : ℕ) → length entry ≡ 129 → exit ≡ sets entry 0 (typedNumbers (codes cs)) → m ≡ length cs
+put-down : (cs : List Code) (entry exit : List ℕ) (m : ℕ) → length entry ≡ 129 → exit ≡ sets entry 0 (typedNumbers (codes cs)) → m ≡ length cs
     → SameToCalls (take (typedSize m) exit) (selectionOf cs)
 put-down cs entry exit m l e f = at (leb (length cs) maxCodes) refl where
   at : (x : Bool) → leb (length cs) maxCodes ≡ x → SameToCalls (take (typedSize m) exit) (selectionOf cs)
@@ -138,3 +150,69 @@ module _ (cs : List Code) (m : ℕ) (f : m ≡ length cs) (lent : List ℕ) wher
         let room = le-leb selectionLength (length lent) h in
         let zero : 0 + length (selectionOf cs) ≡ length (selectionOf cs) = omega arith in
         (rw (within, room) (ap Read f), e ∙ sets-eq (selectionOf cs) lent 0 (omega (arith, length-selection cs)) ∙ rw (within, room) (ap (λ k. selectionOf cs ++ drop k lent) zero))
+
+-- the same for a text that has these codes
+pub text-put-down : (text : List ℕ) (cs : List Code) (entry exit : List ℕ) (m : ℕ) (size : ℕ) → length entry ≡ 129 → exit ≡ sets entry 0 (typedNumbers (readText text)) → readText text ≡ codes cs
+    → m ≡ length cs → size ≡ typedSize m → SameToCalls (take size exit) (selectionOf cs)
+text-put-down text cs entry exit m size l e h f g = rw g (put-down cs entry exit m l (e ∙ ap (λ a. sets entry 0 (typedNumbers a)) h) f)
+
+pub text-put-few : (text : List ℕ) (cs : List Code) (entry exit : List ℕ) (m : ℕ) (size : ℕ) → length entry ≡ 129 → exit ≡ sets entry 0 (typedNumbers (readText text)) → readText text ≡ codes cs
+    → m ≡ length cs → size ≡ typedSize m → m ≤ maxCodes → (lent : List ℕ) → sets lent 0 (take size exit) ≡ sets lent 0 (selectionOf cs)
+text-put-few text cs entry exit m size l e h f g few lent =
+    let put = put-few cs entry exit m l (e ∙ ap (λ a. sets entry 0 (typedNumbers a)) h) f (omega (arith, f, few)) in
+    ap (sets lent 0) (ap (λ k. take k exit) g ∙ put)
+
+-- ---- the contracts, from what holds of the answer that the reader computes
+
+module _ (text section : List ℕ) (work : ℕ) where
+  module _ (buffer : List ℕ) where
+    pub listing-typed : {r : Listing} {exit : List ℕ} → r ≡ typedListing section (readText text) work (length buffer) → exit ≡ typedBuffer section (readText text) work buffer
+        → ((a : TextAnswer) → AnswerOf text a → r ≡ typedListing section a work (length buffer))
+        × (((a : TextAnswer) → AnswerOf text a → listingValues r ≡ listingValues (typedListing section a work (length buffer)))
+        × ((a : TextAnswer) → AnswerOf text a → exit ≡ typedBuffer section a work buffer))
+    listing-typed {r} {exit} p q = (
+      by-answer text (λ a. r ≡ typedListing section a work (length buffer)) p,
+      (by-answer text (λ a. listingValues r ≡ listingValues (typedListing section a work (length buffer))) (ap listingValues p), by-answer text (λ a. exit ≡ typedBuffer section a work buffer) q),
+    )
+
+    pub listing-error : {r : Refusal} → readText text ≡ error r
+        → (ListingRefused r ≡ typedListing section (readText text) work (length buffer)) × (buffer ≡ typedBuffer section (readText text) work buffer)
+    listing-error h = rw h (refl, refl)
+
+    pub listing-codes : (cs : List Code) {s : List ℕ} → readText text ≡ codes cs → SameToCalls s (selectionOf cs)
+        → (listingAnswer section s work (length buffer) ≡ typedListing section (readText text) work (length buffer))
+        × (listingBuffer section s work buffer ≡ typedBuffer section (readText text) work buffer)
+    listing-codes cs h k = rw h (same-listing section k work (length buffer), same-buffer section k work buffer)
+
+  pub quick-typed : {r : Quick} → r ≡ typedQuick section (readText text) work
+      → ((a : TextAnswer) → AnswerOf text a → r ≡ typedQuick section a work)
+      × ((a : TextAnswer) → AnswerOf text a → quickValues r ≡ quickValues (typedQuick section a work))
+  quick-typed {r} p = (
+    by-answer text (λ a. r ≡ typedQuick section a work) p,
+    by-answer text (λ a. quickValues r ≡ quickValues (typedQuick section a work)) (ap quickValues p),
+  )
+
+  pub quick-error : {r : Refusal} → readText text ≡ error r → QuickRefused r ≡ typedQuick section (readText text) work
+  quick-error h = rw h
+
+  pub quick-codes : (cs : List Code) {s : List ℕ} → readText text ≡ codes cs → SameToCalls s (selectionOf cs)
+      → quickAnswer section s work ≡ typedQuick section (readText text) work
+  quick-codes cs h k = rw h (same-quick section k work)
+
+module _ (text lent : List ℕ) where
+  pub read-typed : {r : Reading} {exit : List ℕ} → (r ≡ readAnswer (readText text) (length lent)) × (exit ≡ readSelection (readText text) lent)
+      → ((a : TextAnswer) → AnswerOf text a → r ≡ readAnswer a (length lent))
+      × (((a : TextAnswer) → AnswerOf text a → readingValues r ≡ readingValues (readAnswer a (length lent)))
+      × ((a : TextAnswer) → AnswerOf text a → exit ≡ readSelection a lent))
+  read-typed {r} {exit} p = (
+    by-answer text (λ a. r ≡ readAnswer a (length lent)) (p .0),
+    (by-answer text (λ a. readingValues r ≡ readingValues (readAnswer a (length lent))) (ap readingValues (p .0)), by-answer text (λ a. exit ≡ readSelection a lent) (p .1)),
+  )
+
+  pub read-error : {r : Refusal} {reading : Reading} → reading ≡ Refused r → readText text ≡ error r
+      → (reading ≡ readAnswer (readText text) (length lent)) × (lent ≡ readSelection (readText text) lent)
+  read-error e h = rw h (e, refl)
+
+  pub read-codes : (cs : List Code) {r : Reading} {exit : List ℕ} → readText text ≡ codes cs
+      → (r ≡ readAnswer (codes cs) (length lent)) × (exit ≡ readSelection (codes cs) lent) → (r ≡ readAnswer (readText text) (length lent)) × (exit ≡ readSelection (readText text) lent)
+  read-codes cs h p = rw h p
