@@ -71,7 +71,7 @@ struct Many {
 }
 
 impl Many {
-    const ALL_CALLS: usize = 16;
+    const ALL_CALLS: usize = 64;
 
     /// Reads into the fewest numbers that are enough, and some more.
     fn agree(&mut self, text: &[u8]) {
