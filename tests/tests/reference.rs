@@ -295,7 +295,7 @@ impl Asked<'_> {
         let mut selection = vec![NOISE; self.lent];
         match self.engine.read(text, &mut selection) {
             Ok(codes) => {
-                assert_eq!(selection[..=2 * codes as usize], self.case.selection);
+                assert_eq!(selection[..=2 * codes as usize], self.case.selection, "{}", text.escape_ascii());
                 format!("{codes} codes")
             }
             Err(Refusal { number, place }) => {
