@@ -1,5 +1,5 @@
-/* A panel's calls: the listing of '10 and 20, within a window of 3 words' over document 01's six tokens, the quick answer to 'not 99', and the
- * snippet of the listing's first match.
+/* A panel's calls over document 01's six tokens: the listing of '10 and 20, within a window of 3 words', typed and as codes; a typed search with a
+ * mistake; the quick answer to 'not 99', which is read once and kept as codes; and the snippet of the listing's first match.
  *
  *   rt staticlib jullpinay
  *   cc -Iinclude examples/panel.c target/staticlib/libjullpinay.a -o target/panel && target/panel
@@ -10,22 +10,33 @@
 #include "jullpinay.h"
 
 #define COUNT(array) (sizeof(array) / sizeof((array)[0]))
+/* a text's bytes and their count, without the 0 that ends it */
+#define TEXT(array) (const uint8_t *)(array), sizeof(array) - 1
 
 /* words 10 20 30 10 40 20; sentences 1 1 1 2 2 2; paragraph 1 */
 static const uint32_t section[] = {6, 10, 20, 30, 10, 40, 20, 65537, 65537, 65537, 65538, 65538, 65538};
 /* 10, 20, and, window 3: kinds, then operands */
 static const uint32_t window[] = {6, 0, 1, 0, 1, 3, 7, 10, 1, 20, 1, 0, 3};
-static const uint32_t not_99[] = {3, 0, 1, 4, 99, 1, 0};
+/* the same, typed; a search that ends too soon; and one to keep */
+static const char typed[] = "\"10\" ftand \"20\" window 3 words";
+static const char mistyped[] = "\"10\" ftand";
+static const char kept[] = "ftnot \"99\"";
 
 static uint32_t work[JULLPINAY_WORK];
 static uint32_t buffer[JULLPINAY_BUFFER];
+static uint32_t selection[JULLPINAY_SELECTION];
 
-static void print_listing(const uint32_t answer[4])
+static void print_refusal(const char *call, const uint32_t answer[])
+{
+    printf("%s: refused %" PRIu32 " at %" PRIu32 "\n", call, answer[0], answer[1]);
+}
+
+static void print_listing(const char *call, const uint32_t answer[4])
 {
     uint32_t matches = answer[1], strings = answer[2], next = 0;
     const uint32_t *counts = buffer + 2, *spans = counts + matches, *tags = spans + strings;
 
-    printf("listing: %s, %" PRIu32 " matches, %" PRIu32 " strings\n", answer[3] ? "yes" : "no", matches, strings);
+    printf("%s: %s, %" PRIu32 " matches, %" PRIu32 " strings\n", call, answer[3] ? "yes" : "no", matches, strings);
     for (uint32_t m = 0; m < matches; m++) {
         printf(" ");
         for (uint32_t s = 0; s < counts[m]; s++, next++)
@@ -36,16 +47,28 @@ static void print_listing(const uint32_t answer[4])
 
 int main(void)
 {
-    uint32_t listed[4], answered[3];
+    uint32_t listed[4], answered[3], read[2];
+
+    if (jullpinay_typed_listing(section, COUNT(section), TEXT(typed), work, COUNT(work), buffer, COUNT(buffer), listed))
+        print_refusal("typed listing", listed);
+    else
+        print_listing("typed listing", listed);
 
     if (jullpinay_listing(section, COUNT(section), window, COUNT(window), work, COUNT(work), buffer, COUNT(buffer), listed)) {
-        printf("listing: refused %" PRIu32 " at %" PRIu32 "\n", listed[0], listed[1]);
+        print_refusal("listing", listed);
         return 1;
     }
-    print_listing(listed);
+    print_listing("listing", listed);
 
-    if (jullpinay_quick(section, COUNT(section), not_99, COUNT(not_99), work, COUNT(work), answered))
-        printf("quick: refused %" PRIu32 " at %" PRIu32 "\n", answered[0], answered[1]);
+    if (jullpinay_typed_quick(section, COUNT(section), TEXT(mistyped), work, COUNT(work), answered))
+        print_refusal(mistyped, answered);
+
+    if (jullpinay_read(TEXT(kept), selection, COUNT(selection), read)) {
+        print_refusal(kept, read);
+        return 1;
+    }
+    if (jullpinay_quick(section, COUNT(section), selection, 1 + 2 * read[1], work, COUNT(work), answered))
+        print_refusal("quick", answered);
     else
         printf("quick: %s, %" PRIu32 " codes\n", answered[1] ? "yes" : "no", answered[2]);
 

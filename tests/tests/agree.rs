@@ -1,4 +1,4 @@
-//! The proved engine beside the second one: every example, and random cases.
+//! The proved engine beside the second one: every example, and random cases. Typed searches have a file of their own, typed.rs.
 //!
 //! `rt staticlib jullpinay` builds the library that this is linked with. A case that fails is printed as a test, to be
 //! pasted in here.
@@ -37,17 +37,4 @@ fn random_cases() {
 #[test]
 fn more_random_cases() {
     agree(1);
-}
-
-/// Typed searches agree, a fifth as many.
-#[cfg(feature = "typed")]
-#[test]
-fn random_typed_cases() {
-    let number = |variable: &str| std::env::var(variable).ok().and_then(|text| text.parse().ok());
-    let count = number("CASES").unwrap_or(if cfg!(debug_assertions) { 5_000 } else { 100_000 }) / 5;
-    let (seed, begun) = (number("SEED").unwrap_or(1), Instant::now());
-    if let Err(wrong) = second_engine::hunt_typed(&engine(), seed, count as usize) {
-        panic!("{wrong}");
-    }
-    println!("seed {seed}: {count} typed cases agree, {:?}", begun.elapsed());
 }

@@ -4,17 +4,23 @@ use std::path::Path;
 use std::process::Command;
 
 const PRINTED: &str = "\
+typed listing: yes, 4 matches, 4 strings
+  at 1 to 2
+  at 1 to 2
+  at 2 to 4
+  at 4 to 6
 listing: yes, 4 matches, 4 strings
   at 1 to 2
   at 1 to 2
   at 2 to 4
   at 4 to 6
+\"10\" ftand: refused 10 at 11
 quick: yes, 2 codes
 snippet of 1 to 2: 10 20
 ";
 
 #[test]
-fn the_c_example_prints_a_listing_a_quick_answer_and_a_snippet() {
+fn the_c_example_prints_what_each_call_answers() {
     let root = Path::new(env!("CARGO_MANIFEST_DIR")).join("..");
     let program = Path::new(env!("CARGO_TARGET_TMPDIR")).join("panel");
     let compiled = Command::new("cc")

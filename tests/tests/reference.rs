@@ -10,19 +10,23 @@ use proved::Proved;
 use second_engine::section::MOST_TOKENS;
 use second_engine::selection::{operand_in_table, Code, MOST_CODES, MOST_WAITING, MOST_WORDS};
 use second_engine::sizes::PAPER;
-use second_engine::{compare, text, Case, Engine, Listing, Quick, SecondEngine, BUFFER, WORK};
+use second_engine::typed::{self, MOST_BYTES, MOST_NUMBER, MOST_WORD, SELECTION};
+use second_engine::{
+    compare, compare_typed, text, Case, Engine, Listing, Quick, Refusal, SecondEngine, TypedCase, BUFFER, WORK,
+};
+use std::sync::OnceLock;
 use words::{decode, header, numbers, section, Selection};
 
 const PAGE: &str = include_str!("../../docs/REFERENCE.md");
 
 /// The parts that only give what is passed. All others state something; `section`, `selection` and `bytes` may do both.
-const GIVEN: [&str; 5] = ["words", "sentences", "paragraphs", "codes", "lent"];
+const GIVEN: [&str; 6] = ["words", "sentences", "paragraphs", "codes", "typed", "lent"];
 
 /// What a listing buffer holds before a call.
 const NOISE: u32 = 0xEEEE_EEEE;
 
 /// Refusals of the calls.
-const REFUSALS: std::ops::RangeInclusive<u32> = 1..=9;
+const REFUSALS: std::ops::RangeInclusive<u32> = 1..=11;
 
 /// An example of the page: its line, and what follows each name.
 struct Example {
@@ -64,11 +68,33 @@ impl Example {
         Some(section(&words, &units("sentences"), &units("paragraphs")))
     }
 
+    /// The codes that are given, or those of a typed search that has no error.
     fn selection(&self) -> Option<Vec<u32>> {
         match self.part("codes") {
             Some(codes) => Some(Selection(codes.split(' ').map(code).collect()).numbers()),
-            None => self.part("selection").map(numbers),
+            None => {
+                self.part("selection").map(numbers).or_else(|| Some(typed::numbers(&typed::read(&self.typed()?).ok()?)))
+            }
         }
+    }
+
+    /// A typed search, in which `63*ordered` is that word 63 times.
+    fn typed(&self) -> Option<Vec<u8>> {
+        let several = |item: &str| match item.split_once('*') {
+            None => item.to_string(),
+            Some((times, item)) => vec![item; times.parse().expect("a count")].join(" "),
+        };
+        let text = self.part("typed")?.split(' ').map(several).collect::<Vec<String>>().join(" ");
+        Some(text.into_bytes())
+    }
+
+    /// How many numbers are passed of working memory, of listing buffer, and of selection to the reader alone.
+    fn lent(&self) -> [usize; 3] {
+        let mut lent = [WORK, BUFFER, SELECTION];
+        let given = self.part("lent").map_or(vec![], numbers);
+        given.iter().zip(&mut lent).for_each(|(given, lent)| *lent = *given as usize);
+        assert!([0, 2, 3].contains(&given.len()), "line {}: two or three lengths are lent", self.line);
+        lent
     }
 
     /// Bytes alone, which aren't made of a section and a selection.
@@ -178,10 +204,13 @@ fn on_one_line(printed: &str) -> String {
     printed.trim_end().replace('\n', " / ")
 }
 
-/// An engine, asked for what examples state.
+/// An engine, asked for what examples state: by codes, or by a typed search if there is a text.
 struct Asked<'a> {
     engine: &'a dyn Engine,
     case: &'a Case,
+    text: Option<&'a [u8]>,
+    /// How many numbers are lent to the reader alone.
+    lent: usize,
 }
 
 impl Asked<'_> {
@@ -196,6 +225,7 @@ impl Asked<'_> {
             "listing" => self.listing(),
             "quick" => self.quick(),
             "refused" => self.refused(),
+            "read" => self.read(),
             _ => self.snippet(name),
         }
     }
@@ -203,7 +233,11 @@ impl Asked<'_> {
     fn listed(&self) -> (Listing, Vec<u32>) {
         let mut buffer = self.case.buffer.clone();
         let mut work = vec![NOISE; self.case.work_len];
-        let listing = self.engine.listing(&self.case.section, &self.case.selection, &mut work, &mut buffer);
+        let section = &self.case.section;
+        let listing = match self.text {
+            Some(text) => self.engine.typed_listing(section, text, &mut work, &mut buffer),
+            None => self.engine.listing(section, &self.case.selection, &mut work, &mut buffer),
+        };
         (listing, buffer)
     }
 
@@ -235,7 +269,11 @@ impl Asked<'_> {
 
     fn quick(&self) -> String {
         let mut work = vec![NOISE; self.case.work_len];
-        match self.engine.quick(&self.case.section, &self.case.selection, &mut work) {
+        let answer = match self.text {
+            Some(text) => self.engine.typed_quick(&self.case.section, text, &mut work),
+            None => self.engine.quick(&self.case.section, &self.case.selection, &mut work),
+        };
+        match answer {
             Quick::Refused { number, place } => format!("refused {number} at {place}"),
             Quick::Answered { yes, codes: 1 } => format!("{}, 1 code", yes_or_no(yes)),
             Quick::Answered { yes, codes } => format!("{}, {codes} codes", yes_or_no(yes)),
@@ -248,6 +286,22 @@ impl Asked<'_> {
         match listing.strip_prefix("refused ") {
             Some(refusal) if listing == quick => refusal.to_string(),
             _ => format!("{listing}; quick: {quick}"),
+        }
+    }
+
+    /// What the reader alone answers. Its codes are the example's, and a refusal of the text is that of the calls.
+    fn read(&self) -> String {
+        let text = self.text.expect("a text is read");
+        let mut selection = vec![NOISE; self.lent];
+        match self.engine.read(text, &mut selection) {
+            Ok(codes) => {
+                assert_eq!(selection[..=2 * codes as usize], self.case.selection, "{}", text.escape_ascii());
+                format!("{codes} codes")
+            }
+            Err(Refusal { number, place }) => {
+                assert!(number < 10 || self.refused() == format!("{number} at {place}"), "{number} at {place}");
+                format!("refused {number} at {place}")
+            }
         }
     }
 
@@ -269,32 +323,56 @@ fn check_program(example: &Example, bytes: &[u8]) {
 fn case(example: &Example, first: &[u32]) -> Case {
     let selection = example.selection();
     let about_section = |name: &str| name == "section" || name.starts_with("snippet");
-    assert!(selection.is_some() || example.stated().all(|(name, _)| about_section(name)), "line {}", example.line);
-    let lent = example.part("lent").map_or(vec![WORK as u32, BUFFER as u32], numbers);
-    assert!(lent.len() == 2, "line {}: two lengths are lent", example.line);
+    let searches = selection.is_some() || example.typed().is_some();
+    assert!(searches || example.stated().all(|(name, _)| about_section(name)), "line {}", example.line);
+    let [work_len, buffer_len, _] = example.lent();
     Case {
         section: example.section().unwrap_or_else(|| first.to_vec()),
         selection: selection.unwrap_or_default(),
-        work_len: lent[0] as usize,
-        buffer: vec![NOISE; lent[1] as usize],
+        work_len,
+        buffer: vec![NOISE; buffer_len],
     }
 }
 
-/// Both engines say what the example states, and agree in all else.
+/// Both engines say what the example states, by its codes and by its typed search, and agree in all else.
 fn check(example: &Example, first: &[u32]) {
-    let case = case(example, first);
+    let (case, text, [.., lent]) = (case(example, first), example.typed(), example.lent());
     compare(&Proved, &case).unwrap_or_else(|wrong| panic!("line {}: {wrong}", example.line));
-    let engines: [(&str, &dyn Engine); 2] = [("proved", &Proved), ("second", &SecondEngine::new())];
-    for (engine_name, engine) in engines {
-        for (name, wanted) in example.stated() {
-            let asked = Asked { engine, case: &case };
+    if let Some(text) = &text {
+        check_text(example, &case, text);
+    }
+    let codes = (text.is_none() || example.selection().is_some()).then_some(None);
+    let asks = codes.into_iter().chain(text.as_deref().map(Some));
+    for (asked_text, (engine_name, engine)) in asks.flat_map(|text| engines().map(|engine| (text, engine))) {
+        let asked = Asked { engine, case: &case, text: asked_text, lent };
+        for (name, wanted) in example.stated().filter(|(name, _)| *name != "read" || asked_text.is_some()) {
             assert_eq!(asked.says(name), wanted, "line {}, {name}: the {engine_name} engine", example.line);
         }
     }
     if example.part("prints").is_some() {
         assert!(example.part("lent").is_none(), "line {}: ftlist lends what is enough", example.line);
+        assert!(example.selection().is_some(), "line {}: ftlist reads codes", example.line);
         check_program(example, &text::bytes(&case.section, &case.selection));
     }
+}
+
+/// Both engines read a typed search to the example's codes, or refuse it as the example states.
+fn check_text(example: &Example, case: &Case, text: &[u8]) {
+    let Case { section, work_len, buffer, .. } = case.clone();
+    let [.., lent] = example.lent();
+    let typed_case = TypedCase { text: text.to_vec(), section, work_len, buffer, selection: vec![NOISE; lent] };
+    compare_typed(&Proved, &typed_case).unwrap_or_else(|wrong| panic!("line {}: {wrong}", example.line));
+    for (engine_name, engine) in engines() {
+        let read = Asked { engine, case, text: Some(text), lent }.read();
+        let refusal = read.strip_prefix("refused ");
+        let stated = example.part("read").is_some() || refusal.is_none() || refusal == example.part("refused");
+        assert!(stated, "line {}: the {engine_name} engine's reader: {read}", example.line);
+    }
+}
+
+fn engines() -> [(&'static str, &'static dyn Engine); 2] {
+    static SECOND: OnceLock<SecondEngine> = OnceLock::new();
+    [("proved", &Proved), ("second", SECOND.get_or_init(SecondEngine::new))]
 }
 
 #[test]
@@ -302,7 +380,9 @@ fn every_example() {
     let examples = examples();
     let first = examples[0].section().expect("the first example has a section");
     for example in &examples {
-        assert!(example.stated().next().is_some(), "line {}: nothing is stated", example.line);
+        // of a typed search its codes
+        let codes = example.part("typed").and(example.part("codes"));
+        assert!(example.stated().next().is_some() || codes.is_some(), "line {}: nothing is stated", example.line);
         match example.bytes() {
             Some(bytes) => check_program(example, &bytes),
             None => check(example, &first),
@@ -341,6 +421,9 @@ fn the_limits_are_stated() {
     assert_eq!(limit("matches of a list"), PAPER.matches as usize);
     assert_eq!(limit("strings of a list"), PAPER.strings as usize);
     assert_eq!(limit("input of `ftlist`"), text::MOST_BYTES);
+    assert_eq!(limit("bytes of a typed search"), MOST_BYTES);
+    assert_eq!(limit("a word number in it"), MOST_WORD as usize);
+    assert_eq!(limit("another number in it"), MOST_NUMBER as usize);
     for (what, kind) in [("a window's N", 7), ("a distance's a and b", 8)] {
         let fits = |operand: usize| operand_in_table(Code { kind, operand: operand as u32 });
         assert!(fits(limit(what)) && !fits(limit(what) + 1), "{what}");

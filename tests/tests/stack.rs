@@ -7,7 +7,8 @@
 mod proved;
 mod words;
 
-use proved::exported;
+use proved::{exported, typed};
+use second_engine::typed::{FILTERS, MOST_BYTES, SELECTION};
 use second_engine::{cases, BUFFER, WORK};
 use std::arch::asm;
 use words::examples::examples;
@@ -23,8 +24,8 @@ type Arguments = [usize; 9];
 struct Stack(Vec<u128>);
 
 impl Stack {
-    fn new() -> Stack {
-        Stack(vec![0; 65_536 / 16])
+    fn of_bytes(bytes: usize) -> Stack {
+        Stack(vec![0; bytes / 16])
     }
 
     fn words(&mut self) -> &mut [u64] {
@@ -125,7 +126,7 @@ fn deepest(leaf: &Selection, above: impl Fn(Selection) -> Selection) -> Selectio
 
 #[test]
 fn each_call_stays_within_the_stack_that_the_header_states() {
-    let (mut stack, mut most) = (Stack::new(), Most::default());
+    let (mut stack, mut most) = (Stack::of_bytes(65_536), Most::default());
     for example in examples() {
         most.of(&mut stack, &example.section, &example.selection);
     }
@@ -144,10 +145,135 @@ fn each_call_stays_within_the_stack_that_the_header_states() {
     for case in cases(1, if cfg!(debug_assertions) { 1_000 } else { 20_000 }) {
         most.of(&mut stack, &case.section, &case.selection);
     }
-    for (name, most) in [("LISTING", most.listing), ("QUICK", most.quick), ("SNIPPET", most.snippet)] {
-        let stated = stated(&format!("{name}_STACK"));
+    held(512, [("LISTING", most.listing), ("QUICK", most.quick), ("SNIPPET", most.snippet)]);
+}
+
+/// What each call takes is within what the header states, and that isn't as much as `far` above it.
+fn held(far: usize, calls: [(&str, usize); 3]) {
+    let with_stated = |(name, most)| (name, most, stated(&format!("{name}_STACK")));
+    for (name, most, stated) in calls.map(with_stated) {
         println!("{name}: {most} bytes of stack, {stated} stated");
+    }
+    for (name, most, stated) in calls.map(with_stated) {
         assert!(most <= stated, "{name} takes {most} bytes of stack, the header states {stated}");
-        assert!(stated < most + 512, "{name} takes {most} bytes of stack, the header states as much as {stated}");
+        assert!(stated < most + far, "{name} takes {most} bytes of stack, the header states as much as {stated}");
+    }
+}
+
+// Typed searches
+
+/// What each typed call takes for a text, or the most for several.
+#[derive(Clone, Copy, Default)]
+struct Typed {
+    read: usize,
+    listing: usize,
+    quick: usize,
+}
+
+impl Typed {
+    /// All three typed calls on a text, over document 01's six tokens and with enough memory.
+    fn of(stack: &mut Stack, text: &[u8]) -> Typed {
+        let (section, mut work, mut buffer) = (six_tokens(), vec![0u32; WORK], vec![0u32; BUFFER]);
+        let (mut selection, mut answer) = ([0u32; SELECTION], [0u32; 4]);
+        let (section_at, text_at, answer_at) =
+            (section.as_ptr() as usize, text.as_ptr() as usize, answer.as_mut_ptr() as usize);
+        let (work_at, buffer_at) = (work.as_mut_ptr() as usize, buffer.as_mut_ptr() as usize);
+        let selection_at = selection.as_mut_ptr() as usize;
+        let read = [text_at, text.len(), selection_at, SELECTION, answer_at, 0, 0, 0, 0];
+        let inputs = [section_at, section.len(), text_at, text.len(), work_at, WORK];
+        let with = |rest: [usize; 3]| -> Arguments { [inputs.as_slice(), &rest].concat().try_into().unwrap() };
+        let (listing, quick) = (with([buffer_at, BUFFER, answer_at]), with([answer_at, 0, 0]));
+        // SAFETY: the declarations in `proved::typed`, and slices that do not overlap.
+        unsafe {
+            Typed {
+                read: stack.taken_by(typed::exported::jullpinay_read as *const (), &read),
+                listing: stack.taken_by(typed::exported::jullpinay_typed_listing as *const (), &listing),
+                quick: stack.taken_by(typed::exported::jullpinay_typed_quick as *const (), &quick),
+            }
+        }
+    }
+
+    fn most(self, other: Typed) -> Typed {
+        let (read, listing, quick) =
+            (self.read.max(other.read), self.listing.max(other.listing), self.quick.max(other.quick));
+        Typed { read, listing, quick }
+    }
+}
+
+/// As many of these openings as a text has room for, what stands in them, and the closings.
+fn filled(open: &str, inside: &str, close: &str) -> String {
+    let depth = (MOST_BYTES - inside.len()) / (open.len() + close.len());
+    open.repeat(depth) + inside + &close.repeat(depth)
+}
+
+/// What may stand in the deepest parenthesis, or can't: every filter and what begins it among them.
+fn insides() -> Vec<String> {
+    let mut list: Vec<String> =
+        ["", ")", "x", "1", "\"", "\"1", "\"1\"", "\"4294967295\"", "\"4294967296\"", "ftnot", "ftnot\"1\""]
+            .map(String::from)
+            .to_vec();
+    list.push("\"1 2 3 4 5 6 7 8\"".into());
+    list.push("\"1 2 3 4 5 6 7 8 9\"".into());
+    let after_a_phrase =
+        ["x", "ftor", "ftand", "not", "not in", "ftor\"2\"", "ftand\"2\"", "not in\"2\"", "window 4097"];
+    list.extend(after_a_phrase.map(|rest| format!("\"1\"{rest}")));
+    for filter in FILTERS {
+        let words: Vec<&str> = filter.typed.split(' ').map(|word| if word == "N" { "4096" } else { word }).collect();
+        list.extend((1..=words.len()).map(|count| format!("\"1\"{}", words[..count].join(" "))));
+    }
+    list
+}
+
+/// The deepest texts: each opens as much as 2,048 bytes have room for.
+fn deepest_texts() -> Vec<String> {
+    let operators = ["ftor", "ftand", "not in"];
+    let mut list = vec![];
+    for inside in insides() {
+        list.push(filled("(", &inside, ""));
+        list.push(filled("(", &inside, ")"));
+        list.push(filled("ftnot(", &inside, ""));
+    }
+    for (open, close) in [("(", ")"), ("ftnot(", ")"), ("(", "ordered)"), ("(", "at end)"), ("(", "window 9 words)")] {
+        list.push(filled(open, "\"1\"", close));
+    }
+    for left in operators {
+        list.push(filled(&format!("\"1\"{left}("), "\"1\"", ""));
+        list.push(filled(&format!("\"1\"{left}("), "\"1\"", ")"));
+        list.push(filled("(", "\"1\"", &format!("{left}\"1\")")));
+        for right in operators {
+            list.push(filled(&format!("\"1\"{left}(\"1\"{right}("), "\"1\"", "))"));
+            list.push(filled(&format!("\"1\"{left} ftnot(\"1\"{right}("), "\"1\"", "))"));
+        }
+    }
+    // not deep, and of many codes
+    list.push(filled("", "\"1\"", "ordered "));
+    list.push(filled("\"1\"ftor", "\"1\"", ""));
+    list
+}
+
+#[test]
+fn each_typed_call_stays_within_the_stack_that_the_header_states() {
+    let (mut stack, mut most) = (Stack::of_bytes(1 << 20), Typed::default());
+    for text in deepest_texts() {
+        most = most.most(Typed::of(&mut stack, text.as_bytes()));
+    }
+    held(4_096, [("READ", most.read), ("TYPED_LISTING", most.listing), ("TYPED_QUICK", most.quick)]);
+}
+
+#[test]
+fn a_parenthesis_takes_no_more_stack_than_the_header_states() {
+    let mut stack = Stack::of_bytes(1 << 20);
+    let stated = stated("PARENTHESIS_STACK");
+    let mut of = |depth: usize| Typed::of(&mut stack, "(".repeat(depth).as_bytes());
+    let (shallow, deep) = (of(900), of(1_900));
+    let calls = [
+        ("read", shallow.read, deep.read),
+        ("typed listing", shallow.listing, deep.listing),
+        ("typed quick", shallow.quick, deep.quick),
+    ];
+    for (name, shallow, deep) in calls {
+        let each = (deep - shallow) as f64 / 1_000.0;
+        println!("{name}: {each} bytes of stack a parenthesis, {stated} stated");
+        assert!(each <= stated as f64, "{name}: a parenthesis takes {each} bytes of stack, the header states {stated}");
     }
 }

@@ -1,37 +1,40 @@
-//! Typed searches (request F-1) on one engine, `engine()`: its answers at every edge, and its agreement with the second
-//! engine on every text that is tried.
+//! Typed searches (request F-1) on the proved engine: its answers at every edge, and its agreement with the second engine on
+//! every text that is tried.
 
+mod grammar;
+mod proved;
+mod words;
+
+use grammar::{typed_out, Grammar};
+use proved::Proved;
 use second_engine::agreement::{compare_read, marked};
 use second_engine::gen::{self, Rng};
 use second_engine::typed::{self, SELECTION};
 use second_engine::typed_gen::{joined, rows, rows_that_go_on, spelled, without_blanks};
 use second_engine::{
-    compare_text, compare_typed, hunt_typed, selection, typed_cases, Engine, Listing, Quick, Refusal, TypedCase,
-    BUFFER, WORK,
+    compare_typed, hunt_typed, selection, typed_cases, Engine, Listing, Quick, Refusal, TypedCase, BUFFER, WORK,
 };
 use std::collections::BTreeMap;
 use std::time::Instant;
+use words::six_tokens;
 
-/// The second engine; or the proved one, where the feature `typed` says that its library has the typed calls.
-#[cfg(not(feature = "typed"))]
 fn engine() -> impl Engine {
-    second_engine::SecondEngine::new()
-}
-
-#[cfg(feature = "typed")]
-mod proved;
-
-#[cfg(feature = "typed")]
-fn engine() -> impl Engine {
-    proved::Proved
+    Proved
 }
 
 /// What lent memory holds before a call.
 const NOISE: u32 = 0xEEEE_EEEE;
 
-/// The codes that an engine reads in a text, or its refusal; compared with the second engine's on the way.
+/// A text over document 01's six tokens, with enough memory.
+fn over_six_tokens(text: &[u8]) -> TypedCase {
+    let (section, buffer) = (six_tokens(), vec![NOISE; BUFFER]);
+    TypedCase { text: text.to_vec(), section, work_len: WORK, buffer, selection: marked(SELECTION) }
+}
+
+/// The codes that an engine reads in a text, or its refusal; all three typed calls are compared with the second engine's on
+/// the way, and the listing and the quick answer with the engine's own calls on the codes.
 fn read(engine: &impl Engine, text: &[u8]) -> Result<Vec<(u32, u32)>, Refusal> {
-    compare_text(engine, text).unwrap_or_else(|wrong| panic!("{}: {wrong}", text.escape_ascii()));
+    all_agree(engine, text);
     let mut selection = [NOISE; SELECTION];
     let m = engine.read(text, &mut selection)? as usize;
     assert_eq!(m, selection[0] as usize);
@@ -56,10 +59,29 @@ fn refuses(engine: &impl Engine, texts: &[(&str, u32, usize)]) {
     }
 }
 
-/// Many texts, only compared: into the fewest numbers that are enough, and some more.
-fn agree(engine: &impl Engine, text: &[u8]) {
-    compare_read(engine, text, &marked(SELECTION + 3))
-        .unwrap_or_else(|wrong| panic!("{}: {wrong}", text.escape_ascii()));
+/// All three typed calls.
+fn all_agree(engine: &impl Engine, text: &[u8]) {
+    compare_typed(engine, &over_six_tokens(text)).unwrap_or_else(|wrong| panic!("{}: {wrong}", text.escape_ascii()));
+}
+
+/// Many texts, which are compared: each is read, and one in so many goes to all three calls.
+#[derive(Default)]
+struct Many {
+    texts: usize,
+}
+
+impl Many {
+    const ALL_CALLS: usize = 64;
+
+    /// Reads into the fewest numbers that are enough, and some more.
+    fn agree(&mut self, text: &[u8]) {
+        self.texts += 1;
+        if self.texts.is_multiple_of(Many::ALL_CALLS) {
+            return all_agree(&engine(), text);
+        }
+        compare_read(&engine(), text, &marked(SELECTION + 3))
+            .unwrap_or_else(|wrong| panic!("{}: {wrong}", text.escape_ascii()));
+    }
 }
 
 // What the request says
@@ -446,54 +468,68 @@ fn some_texts() -> Vec<Vec<u8>> {
     list
 }
 
-/// Every byte of some hundred texts by every other byte, left out, or doubled.
+/// Every byte of some hundred texts by every other byte, left out, or doubled; and each text cut short from either side.
 #[test]
 fn every_change_of_a_byte() {
-    let (engine, begun) = (&engine(), Instant::now());
+    let (mut many, begun) = (Many::default(), Instant::now());
     let some = if cfg!(debug_assertions) { 20 } else { 1 };
-    let mut count = 0;
     for text in some_texts().into_iter().step_by(some) {
         for at in 0..text.len() {
             for byte in 0..=255 {
                 let mut changed = text.clone();
                 changed[at] = byte;
-                agree(engine, &changed);
+                many.agree(&changed);
             }
-            agree(engine, &[&text[..at], &text[at + 1..]].concat());
-            agree(engine, &[&text[..=at], &text[at..]].concat());
-            agree(engine, &text[..at]);
-            agree(engine, &text[at..]);
-            count += 260;
+            many.agree(&[&text[..at], &text[at + 1..]].concat());
+            many.agree(&[&text[..=at], &text[at..]].concat());
+            many.agree(&text[..at]);
+            many.agree(&text[at..]);
         }
     }
-    println!("{count} texts in {:?}", begun.elapsed());
+    println!("{} texts in {:?}", many.texts, begun.elapsed());
 }
 
 /// Every row of up to four tokens, and every longer one, up to nine, of which only the last token may be wrong; with a
 /// blank between them, and without.
 #[test]
 fn every_row_of_tokens() {
-    let (engine, begun) = (&engine(), Instant::now());
+    let (mut many, begun) = (Many::default(), Instant::now());
     let (any, most) = if cfg!(debug_assertions) { (2, 5) } else { (4, 9) };
-    let mut count = 0;
     for row in rows(any).chain(rows_that_go_on(most)) {
-        agree(engine, row.join(" ").as_bytes());
-        agree(engine, &without_blanks(&row));
-        count += 2;
+        many.agree(row.join(" ").as_bytes());
+        many.agree(&without_blanks(&row));
     }
-    println!("{count} texts in {:?}", begun.elapsed());
+    println!("{} texts in {:?}", many.texts, begun.elapsed());
+}
+
+/// Every sentence of the grammar up to some tokens has the codes that it is derived with, each of its numbers another one;
+/// its beginnings agree.
+#[test]
+fn every_sentence() {
+    let (mut many, begun) = (Many::default(), Instant::now());
+    let most = if cfg!(debug_assertions) { 8 } else { 12 };
+    let grammar = Grammar::up_to(most);
+    for sentence in grammar.sentences() {
+        let (text, codes) = typed_out(sentence);
+        let mut selection = [NOISE; SELECTION];
+        assert_eq!(engine().read(text.as_bytes(), &mut selection), Ok(codes.len() as u32), "{text}");
+        assert_eq!(selection[..=2 * codes.len()], typed::numbers(&codes), "{text}");
+        many.agree(text.as_bytes());
+        many.agree(&text.as_bytes()[..text.rfind(' ').expect("three tokens at least")]);
+    }
+    println!("{} texts of up to {most} tokens in {:?}", many.texts, begun.elapsed());
 }
 
 /// Every text of one byte, and of two; every byte between a phrase and a filter, and in a phrase.
 #[test]
 fn every_byte() {
-    let engine = &engine();
+    let mut many = Many::default();
     for one in 0..=255 {
-        agree(engine, &[one]);
-        agree(engine, &[b"\"1\"", &[one][..], b"ordered"].concat());
-        agree(engine, &[b"\"1", &[one][..], b"2\""].concat());
+        many.agree(&[one]);
+        many.agree(&[b"\"1\"", &[one][..], b"ordered"].concat());
+        many.agree(&[b"\"1", &[one][..], b"2\""].concat());
         for two in 0..=255 {
-            agree(engine, &[one, two]);
+            many.agree(&[one, two]);
         }
     }
 }
@@ -515,21 +551,22 @@ fn random_texts() {
     println!("{count} typed cases in {:?}", begun.elapsed());
 }
 
-/// A typed case by hand, with every sort of lent memory.
+/// Every sort of text with every sort of section and of lent memory: which refusal comes first.
 #[test]
-fn a_case_by_hand() {
-    for (work_len, buffer_len) in
-        [(WORK, BUFFER), (WORK - 1, BUFFER), (WORK, BUFFER - 1), (0, 0), (WORK + 1, BUFFER + 1)]
-    {
-        for text in ["\"1\"", "\"1\" ftand", "\"1\" window 0 words", "\"4294967296\""] {
-            let case = TypedCase {
-                text: text.as_bytes().to_vec(),
-                section: vec![2, 1, 1, 65_537, 65_537],
-                work_len,
-                buffer: vec![NOISE; buffer_len],
-                selection: vec![NOISE; SELECTION],
-            };
-            compare_typed(&engine(), &case).unwrap();
+fn every_order_of_refusals() {
+    let sixty_five = "\"1\"".to_string() + &" ordered".repeat(63);
+    let long = " ".repeat(2_049);
+    let texts = ["\"1\"", "\"1\" ftand", "\"1\" window 0 words", "\"4294967296\"", &sixty_five, &long];
+    let sections = [vec![2, 1, 1, 65_537, 65_537], vec![2, 1, 1, 2, 1], vec![1, 1], vec![]];
+    let memory = [(WORK, BUFFER), (WORK - 1, BUFFER), (WORK, BUFFER - 1), (0, 0), (WORK + 1, BUFFER + 1)];
+    for (text, section, (work_len, buffer_len)) in texts.iter().flat_map(|text| {
+        let sections = sections.iter();
+        sections.flat_map(move |section| memory.into_iter().map(move |memory| (text, section, memory)))
+    }) {
+        for lent in [SELECTION, SELECTION - 1] {
+            let (text, section) = (text.as_bytes().to_vec(), section.clone());
+            let (buffer, selection) = (vec![NOISE; buffer_len], vec![NOISE; lent]);
+            compare_typed(&engine(), &TypedCase { text, section, work_len, buffer, selection }).unwrap();
         }
     }
 }

@@ -2,13 +2,11 @@
 
 #![allow(dead_code)]
 
-use second_engine::{Engine, Listing, Quick};
+use second_engine::{Engine, Listing, Quick, Refusal};
 
 #[cfg(not_built)]
 compile_error!("target/staticlib/libjullpinay.a is not there: build it by `rt staticlib jullpinay`");
 
-// Compiled only where the library has the typed calls: `cargo test --features typed`.
-#[cfg(feature = "typed")]
 pub mod typed;
 
 pub mod exported {
@@ -137,17 +135,14 @@ impl Engine for Proved {
         snippet(section, from, to)
     }
 
-    #[cfg(feature = "typed")]
-    fn read(&self, text: &[u8], selection: &mut [u32]) -> Result<u32, second_engine::Refusal> {
+    fn read(&self, text: &[u8], selection: &mut [u32]) -> Result<u32, Refusal> {
         typed::read_answer(typed::read(text, selection))
     }
 
-    #[cfg(feature = "typed")]
     fn typed_listing(&self, section: &[u32], text: &[u8], work: &mut [u32], buffer: &mut [u32]) -> Listing {
         listing_answer(typed::listing(section, text, work, buffer))
     }
 
-    #[cfg(feature = "typed")]
     fn typed_quick(&self, section: &[u32], text: &[u8], work: &mut [u32]) -> Quick {
         quick_answer(typed::quick(section, text, work))
     }
