@@ -14,20 +14,20 @@ use Rattle.flat_rules.proofs.AnswersLaws.{step-reached, step-stopped}
 
 -- ---- answers
 
-pub read-step : (at count : ℕ) → at ≤ maxText → count ≤ maxText → stepOf (at + count * 1048576) ≡ reached at count
+pub read-step : (at count : ℕ) → at ≤ maxText → count ≤ maxText → stepOf (at + count * 4096) ≡ reached at count
 read-step at count a b =
-    let r = at + count * 1048576 in
+    let r = at + count * 4096 in
     let e : atOf r ≡ at = omega arith in
-    let f : r / 1048576 ≡ count = omega arith in
-    let g : count % 1048576 ≡ count = omega arith in
-    step-reached r (lt-leb 1099511627776 r (omega arith)) ∙ ap₂ reached e (ap (λ n. n % 1048576) f ∙ g)
+    let f : r / 4096 ≡ count = omega arith in
+    let g : count % 4096 ≡ count = omega arith in
+    step-reached r (lt-leb 4294967296 r (omega arith)) ∙ ap₂ reached e (ap (λ n. n % 4096) f ∙ g)
 
-pub error-step : (number place : ℕ) → 1 ≤ number → number ≤ 1024 → place ≤ maxText + 1 → stepOf (place + number * 1099511627776) ≡ stopped number place
+pub error-step : (number place : ℕ) → 1 ≤ number → number ≤ 1024 → place ≤ maxText + 1 → stepOf (place + number * 4294967296) ≡ stopped number place
 error-step number place a b c =
-    let r = place + number * 1099511627776 in
+    let r = place + number * 4294967296 in
     let e : numberOf r ≡ number = omega arith in
     let f : placeOf r ≡ place = omega arith in
-    step-stopped r (le-leb 1099511627776 r (omega arith)) ∙ ap₂ stopped e f
+    step-stopped r (le-leb 4294967296 r (omega arith)) ∙ ap₂ stopped e f
 
 -- ---- a code
 

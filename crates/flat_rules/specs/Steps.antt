@@ -1,4 +1,4 @@
--- What a rule answers, and the number that it is in the code: at + count × 2^20, or place + number × 2^40.
+-- What a rule answers, and the number that it is in the code: at + count × 2^12, or place + number × 2^32.
 use Prim.Native.Nat.{ℕ, _/_, _%_}
 use mathlib.Core.Bool.{Bool, cond}
 use lib.Dec.{leb}
@@ -8,19 +8,19 @@ pub data Step : Type 0 where
   stopped : (number place : ℕ) → Step
 
 abbrev pub hasFailed : ℕ → Bool
-hasFailed r = leb 1099511627776 r
+hasFailed r = leb 4294967296 r
 
 abbrev pub atOf : ℕ → ℕ
-atOf r = r % 1048576
+atOf r = r % 4096
 
 abbrev pub countOf : ℕ → ℕ
-countOf r = r / 1048576 % 1048576
+countOf r = r / 4096 % 4096
 
 abbrev pub numberOf : ℕ → ℕ
-numberOf r = r / 1099511627776
+numberOf r = r / 4294967296
 
 abbrev pub placeOf : ℕ → ℕ
-placeOf r = r % 1048576
+placeOf r = r % 4096
 
 unfoldable pub stepOf : ℕ → Step
 stepOf r = cond (hasFailed r) (stopped (numberOf r) (placeOf r)) (reached (atOf r) (countOf r))

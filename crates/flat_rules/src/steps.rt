@@ -1,4 +1,4 @@
-// What a rule answers, in one number: the position and the number of codes after what was read, at + count × 2^20; or an error, place + number × 2^40.
+// What a rule answers, in one number: the position and the number of codes after what was read, at + count × 2^12; or an error, place + number × 2^32.
 // An enum would take room in the frame of every rule.
 ghost use mathlib.Core.Path.{_≡_};
 ghost use Prim.Native.Nat.{_+_, _≤_};
@@ -6,9 +6,9 @@ ghost use Rattle.model.specs.Limits.{maxText};
 ghost use Rattle.scanner.specs.Scanned.{startOf};
 ghost use Rattle.flat_rules.specs.Steps.{atOf, countOf, hasFailed, numberOf, placeOf, reached, stepOf, stopped};
 
-const COUNT_AT: u64 = 1048576;
+const COUNT_AT: u64 = 4096;
 
-const NUMBER_AT: u64 = 1099511627776;
+const NUMBER_AT: u64 = 4294967296;
 
 pub fn read(at: u32, count: u32) -> u64
     requires { ⌜ (at ≤ maxText) × (count ≤ maxText) ⌝ }

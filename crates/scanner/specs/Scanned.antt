@@ -1,4 +1,4 @@
--- What the scanner's functions say. A text is the first `size` bytes of an array; a token is one number, end + start × 2^20 + symbol × 2^40.
+-- What the scanner's functions say. A text is the first `size` bytes of an array; a token is one number, end + start × 2^12 + symbol × 2^32.
 use Prim.Native.Nat.{ℕ, _+_, _-_, _/_, _%_, _≤_, _<_, min}
 use mathlib.Core.Path.{_≡_}
 use mathlib.Core.List.{List}
@@ -12,13 +12,13 @@ abbrev pub bytesFrom : List ℕ → ℕ → ℕ → List ℕ
 bytesFrom bytes start end = take (end - start) (drop start bytes)
 
 abbrev pub endOf : ℕ → ℕ
-endOf t = t % 1048576
+endOf t = t % 4096
 
 abbrev pub startOf : ℕ → ℕ
-startOf t = t / 1048576 % 1048576
+startOf t = t / 4096 % 4096
 
 abbrev pub symbolAt : ℕ → ℕ
-symbolAt t = t / 1099511627776
+symbolAt t = t / 4294967296
 
 -- a position in a text of at most 2,048 bytes, which an array holds; of a token, its start in the text up to its end
 pub record Inside (bytes : List ℕ) (size at : ℕ) : Type 0 where

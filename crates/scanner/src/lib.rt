@@ -12,10 +12,10 @@ ghost use Rattle.model.specs.Tokens.{numberFrom};
 ghost use Rattle.grammar.specs.Stream.{runLength, sortOf};
 ghost use Rattle.scanner.specs.Scanned.{Inside, Scanned, bytesFrom, capped as cappedOf, endOf, startOf, symbolAt};
 
-// A token is end + start × 2^20 + symbol × 2^40.
-const START_AT: u64 = 1048576;
+// A token is end + start × 2^12 + symbol × 2^32.
+const START_AT: u64 = 4096;
 
-const SYMBOL_AT: u64 = 1099511627776;
+const SYMBOL_AT: u64 = 4294967296;
 
 const BLANK: u32 = 32;
 

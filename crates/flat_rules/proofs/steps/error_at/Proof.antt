@@ -1,4 +1,4 @@
--- The place is below 2^20, and the number makes the sum at least 2^40.
+-- The place is below 2^12, and the number makes the sum at least 2^32.
 use mathlib.Core.Path.{sym}
 use native.Mathlib.Omega.{arith}
 use Rattle.flat_rules.proofs.StepsLaws.{error-step}

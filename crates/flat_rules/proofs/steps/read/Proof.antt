@@ -1,4 +1,4 @@
--- Both numbers are below 2^20.
+-- Both numbers are below 2^12.
 use Rattle.flat_rules.proofs.StepsLaws.{read-step}
 use borrow.Author.Needs.{needs}
 use Rattle.flat_rules.proofs.steps.read.Statement.{statement}
