@@ -1,4 +1,4 @@
-//! `bench` prints the table of times; `bench once` runs each case once for `bench/count`; `bench cases` prints the cases for `bench/compare`; `bench search SECONDS SEED [KIND]...`
+//! `bench` prints the table of times, `bench typed` that of the reader; `bench once` runs each case once for `bench/count`; `bench cases` prints the cases for `bench/compare`; `bench search SECONDS SEED [KIND]...`
 //! looks for the accepted inputs that cost most, some kinds left out, and `bench slower` for those that cost most beside the
 //! second engine.
 
@@ -9,6 +9,7 @@ mod notation;
 mod proved;
 mod search;
 mod timing;
+mod typed;
 
 use cases::Case;
 use proved::Proved;
@@ -81,6 +82,7 @@ fn main() {
     let arguments: Vec<&str> = arguments.iter().map(String::as_str).collect();
     match arguments[..] {
         [] => timing::table(),
+        ["typed"] => typed::table(),
         ["once"] => once(),
         ["cases"] => print_cases(),
         [aim @ ("search" | "slower"), seconds, seed, ref without @ ..] => {
@@ -89,6 +91,8 @@ fn main() {
             let without: Vec<u32> = without.iter().map(|kind| number(kind) as u32).collect();
             search::search(aim, number(seconds), number(seed), &without);
         }
-        _ => panic!("bench, bench once, bench cases, or bench search|slower SECONDS SEED [KIND LEFT OUT]..."),
+        _ => panic!(
+            "bench, bench typed, bench once, bench cases, or bench search|slower SECONDS SEED [KIND LEFT OUT]..."
+        ),
     }
 }

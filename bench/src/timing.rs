@@ -27,7 +27,7 @@ fn time(call: &mut dyn FnMut()) -> f64 {
 }
 
 /// The least of the rounds, for each call.
-fn times<const N: usize>(mut calls: [&mut dyn FnMut(); N]) -> [f64; N] {
+pub fn times<const N: usize>(mut calls: [&mut dyn FnMut(); N]) -> [f64; N] {
     let mut best = [f64::INFINITY; N];
     for _ in 0..ROUNDS {
         for (call, best) in calls.iter_mut().zip(&mut best) {
