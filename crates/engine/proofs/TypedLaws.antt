@@ -23,16 +23,16 @@ use Rattle.model.specs.Checks.{refusal, otherwise, tried, wrongSelection, secti
 use Rattle.model.specs.Limits.{maxCodes, selectionLength}
 use Rattle.model.specs.Section.{size, wellSized}
 use Rattle.model.specs.Selection.{kindOf, operandOf}
-use Rattle.model.specs.TextAnswer.{TextAnswer, codes, error, AnswerOf}
+use Rattle.model.specs.TextAnswer.{TextAnswer, codes, error, ForAnswer}
 use Rattle.model.specs.Typed.{selectionOf, typedListing, typedBuffer, typedQuick, readAnswer, readSelection, readingValues}
 use Rattle.model.proofs.SetsLaws.{take-written}
 use Rattle.grammar.specs.Grammar.{readText}
-use Rattle.grammar.proofs.AnswerLaws.{reads-exactly}
+use Rattle.grammar.proofs.AnswerLaws.{some-answer}
 use Rattle.reader.specs.Selections.{typedNumbers, typedSize}
 
 -- what holds of the answer that the reader computes holds of the text's
-pub by-answer : (text : List ℕ) (P : TextAnswer → Type 0) → P (readText text) → (a : TextAnswer) → AnswerOf text a → P a
-by-answer text P p a h = rw (reads-exactly text a .1 h) at p
+for-answer : (text : List ℕ) (P : TextAnswer → Type 0) → P (readText text) → ForAnswer text P
+for-answer text P p = record { answer = readText text; answers = some-answer text; holds = p }
 
 -- ---- the same to the calls
 
@@ -167,12 +167,12 @@ text-put-few text cs entry exit m size l e h f g few lent =
 module _ (text section : List ℕ) (work : ℕ) where
   module _ (buffer : List ℕ) where
     pub listing-typed : {r : Listing} {exit : List ℕ} → r ≡ typedListing section (readText text) work (length buffer) → exit ≡ typedBuffer section (readText text) work buffer
-        → ((a : TextAnswer) → AnswerOf text a → r ≡ typedListing section a work (length buffer))
-        × (((a : TextAnswer) → AnswerOf text a → listingValues r ≡ listingValues (typedListing section a work (length buffer)))
-        × ((a : TextAnswer) → AnswerOf text a → exit ≡ typedBuffer section a work buffer))
+        → ForAnswer text (λ a. r ≡ typedListing section a work (length buffer))
+        × (ForAnswer text (λ a. listingValues r ≡ listingValues (typedListing section a work (length buffer)))
+        × ForAnswer text (λ a. exit ≡ typedBuffer section a work buffer))
     listing-typed {r} {exit} p q = (
-      by-answer text (λ a. r ≡ typedListing section a work (length buffer)) p,
-      (by-answer text (λ a. listingValues r ≡ listingValues (typedListing section a work (length buffer))) (ap listingValues p), by-answer text (λ a. exit ≡ typedBuffer section a work buffer) q),
+      for-answer text (λ a. r ≡ typedListing section a work (length buffer)) p,
+      (for-answer text (λ a. listingValues r ≡ listingValues (typedListing section a work (length buffer))) (ap listingValues p), for-answer text (λ a. exit ≡ typedBuffer section a work buffer) q),
     )
 
     pub listing-error : {r : Refusal} → readText text ≡ error r
@@ -185,11 +185,11 @@ module _ (text section : List ℕ) (work : ℕ) where
     listing-codes cs h k = rw h (same-listing section k work (length buffer), same-buffer section k work buffer)
 
   pub quick-typed : {r : Quick} → r ≡ typedQuick section (readText text) work
-      → ((a : TextAnswer) → AnswerOf text a → r ≡ typedQuick section a work)
-      × ((a : TextAnswer) → AnswerOf text a → quickValues r ≡ quickValues (typedQuick section a work))
+      → ForAnswer text (λ a. r ≡ typedQuick section a work)
+      × ForAnswer text (λ a. quickValues r ≡ quickValues (typedQuick section a work))
   quick-typed {r} p = (
-    by-answer text (λ a. r ≡ typedQuick section a work) p,
-    by-answer text (λ a. quickValues r ≡ quickValues (typedQuick section a work)) (ap quickValues p),
+    for-answer text (λ a. r ≡ typedQuick section a work) p,
+    for-answer text (λ a. quickValues r ≡ quickValues (typedQuick section a work)) (ap quickValues p),
   )
 
   pub quick-error : {r : Refusal} → readText text ≡ error r → QuickRefused r ≡ typedQuick section (readText text) work
@@ -201,12 +201,12 @@ module _ (text section : List ℕ) (work : ℕ) where
 
 module _ (text lent : List ℕ) where
   pub read-typed : {r : Reading} {exit : List ℕ} → (r ≡ readAnswer (readText text) (length lent)) × (exit ≡ readSelection (readText text) lent)
-      → ((a : TextAnswer) → AnswerOf text a → r ≡ readAnswer a (length lent))
-      × (((a : TextAnswer) → AnswerOf text a → readingValues r ≡ readingValues (readAnswer a (length lent)))
-      × ((a : TextAnswer) → AnswerOf text a → exit ≡ readSelection a lent))
+      → ForAnswer text (λ a. r ≡ readAnswer a (length lent))
+      × (ForAnswer text (λ a. readingValues r ≡ readingValues (readAnswer a (length lent)))
+      × ForAnswer text (λ a. exit ≡ readSelection a lent))
   read-typed {r} {exit} p = (
-    by-answer text (λ a. r ≡ readAnswer a (length lent)) (p .0),
-    (by-answer text (λ a. readingValues r ≡ readingValues (readAnswer a (length lent))) (ap readingValues (p .0)), by-answer text (λ a. exit ≡ readSelection a lent) (p .1)),
+    for-answer text (λ a. r ≡ readAnswer a (length lent)) (p .0),
+    (for-answer text (λ a. readingValues r ≡ readingValues (readAnswer a (length lent))) (ap readingValues (p .0)), for-answer text (λ a. exit ≡ readSelection a lent) (p .1)),
   )
 
   pub read-error : {r : Refusal} {reading : Reading} → reading ≡ Refused r → readText text ≡ error r

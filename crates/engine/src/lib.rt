@@ -1,5 +1,5 @@
-// The engine's calls. None has a requires: any slices of any lengths may come in, and each gets a result or one refusal. Of a typed call a contract says
-// what it answers for the answer that its text has; every text has exactly one (theorems/specs/Demands.antt).
+// The engine's calls. None has a requires: any slices of any lengths may come in, and each gets a result or one refusal. A typed call
+// answers by the answer that its text has; every text has exactly one (theorems/specs/Demands.antt).
 use build::Part;
 use model::Checked;
 use model::Listing;
@@ -15,7 +15,7 @@ ghost use lib.ListN.{length};
 ghost use lib.Seq.{sets};
 ghost use Rattle.model.specs.Answers.{listed as listedOf, listingAnswer, listingBuffer, listingNumbers, listingValues, quickAnswer, quickValues, snippetOf, snippetStart, standsAt};
 ghost use Rattle.model.specs.Limits.{bufferLength};
-ghost use Rattle.model.specs.TextAnswer.{AnswerOf, TextAnswer};
+ghost use Rattle.model.specs.TextAnswer.{ForAnswer};
 ghost use Rattle.model.specs.Typed.{readAnswer, readSelection, readingValues, typedBuffer, typedListing, typedQuick};
 ghost use Rattle.reader.specs.Selections.{typedSize};
 ghost use Rattle.store.specs.Slot.{SlotAt};
@@ -88,9 +88,9 @@ fn typed_size(codes: u32) -> usize
 
 // The reader alone. The selection then holds the codes; the rest of it is unchanged, and all of it by a refusal.
 pub fn read(text: &[u8], selection: &mut [u32]) -> Reading
-    ensures { λ r. ⌜ ((a : TextAnswer) → AnswerOf (now (text .entry)) a → r ≡ readAnswer a (length (now (selection .entry)))) ⌝ }
-    ensures { λ r. ⌜ ((a : TextAnswer) → AnswerOf (now (text .entry)) a → readingValues r ≡ readingValues (readAnswer a (length (now (selection .entry))))) ⌝ }
-    ensures { λ _. ⌜ ((a : TextAnswer) → AnswerOf (now (text .entry)) a → now (selection .exit) ≡ readSelection a (now (selection .entry))) ⌝ }
+    ensures { λ r. ⌜ ForAnswer (now (text .entry)) (λ a. r ≡ readAnswer a (length (now (selection .entry)))) ⌝ }
+    ensures { λ r. ⌜ ForAnswer (now (text .entry)) (λ a. readingValues r ≡ readingValues (readAnswer a (length (now (selection .entry))))) ⌝ }
+    ensures { λ _. ⌜ ForAnswer (now (text .entry)) (λ a. now (selection .exit) ≡ readSelection a (now (selection .entry))) ⌝ }
 {
     let mut own = [0; 129];
     let reading = reader::read(text, &mut own);
@@ -116,9 +116,9 @@ pub fn read(text: &[u8], selection: &mut [u32]) -> Reading
 
 // The full listing of a typed search: the text's error, or what the listing answers for its codes.
 pub fn typed_listing(section: &[u32], text: &[u8], work: &mut [u32], buffer: &mut [u32]) -> Listing
-    ensures { λ r. ⌜ ((a : TextAnswer) → AnswerOf (now (text .entry)) a → r ≡ typedListing (now (section .entry)) a (length (now (work .entry))) (length (now (buffer .entry)))) ⌝ }
-    ensures { λ r. ⌜ ((a : TextAnswer) → AnswerOf (now (text .entry)) a → listingValues r ≡ listingValues (typedListing (now (section .entry)) a (length (now (work .entry))) (length (now (buffer .entry))))) ⌝ }
-    ensures { λ _. ⌜ ((a : TextAnswer) → AnswerOf (now (text .entry)) a → now (buffer .exit) ≡ typedBuffer (now (section .entry)) a (length (now (work .entry))) (now (buffer .entry))) ⌝ }
+    ensures { λ r. ⌜ ForAnswer (now (text .entry)) (λ a. r ≡ typedListing (now (section .entry)) a (length (now (work .entry))) (length (now (buffer .entry)))) ⌝ }
+    ensures { λ r. ⌜ ForAnswer (now (text .entry)) (λ a. listingValues r ≡ listingValues (typedListing (now (section .entry)) a (length (now (work .entry))) (length (now (buffer .entry))))) ⌝ }
+    ensures { λ _. ⌜ ForAnswer (now (text .entry)) (λ a. now (buffer .exit) ≡ typedBuffer (now (section .entry)) a (length (now (work .entry))) (now (buffer .entry))) ⌝ }
 {
     let mut selection = [0; 129];
     let reading = reader::read(text, &mut selection);
@@ -133,8 +133,8 @@ pub fn typed_listing(section: &[u32], text: &[u8], work: &mut [u32], buffer: &mu
 
 // The quick answer of a typed search: the text's error, or what the quick answer is for its codes.
 pub fn typed_quick(section: &[u32], text: &[u8], work: &mut [u32]) -> Quick
-    ensures { λ r. ⌜ ((a : TextAnswer) → AnswerOf (now (text .entry)) a → r ≡ typedQuick (now (section .entry)) a (length (now (work .entry)))) ⌝ }
-    ensures { λ r. ⌜ ((a : TextAnswer) → AnswerOf (now (text .entry)) a → quickValues r ≡ quickValues (typedQuick (now (section .entry)) a (length (now (work .entry))))) ⌝ }
+    ensures { λ r. ⌜ ForAnswer (now (text .entry)) (λ a. r ≡ typedQuick (now (section .entry)) a (length (now (work .entry)))) ⌝ }
+    ensures { λ r. ⌜ ForAnswer (now (text .entry)) (λ a. quickValues r ≡ quickValues (typedQuick (now (section .entry)) a (length (now (work .entry))))) ⌝ }
 {
     let mut selection = [0; 129];
     let reading = reader::read(text, &mut selection);

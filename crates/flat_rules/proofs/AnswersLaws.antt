@@ -13,7 +13,7 @@ use Rattle.model.specs.Limits.{maxText}
 use Rattle.model.proofs.SetsLaws.{sets-append}
 use Rattle.grammar.specs.Stream.{Stream, streamAt}
 use Rattle.grammar.specs.Symbols.{noMore, symbolIn}
-use Rattle.grammar.specs.Grammar.{Outcome, failed, read, Rule, behind, _then_, refused, expect, writes}
+use Rattle.grammar.specs.Grammar.{Outcome, failed, read, Rule, prefixed, _then_, refused, expect, writes}
 use Rattle.scanner.specs.Scanned.{Scanned, startOf, endOf, symbolAt}
 use Rattle.flat_rules.specs.Steps.{Step, reached, stopped, hasFailed, atOf, countOf, numberOf, placeOf, stepOf}
 use Rattle.flat_rules.specs.Answers.{pair, pairs, Wrote, Ready, Further, ReadsTo, Says, Went, Answers}
@@ -37,12 +37,12 @@ step-failed r e h = step-stopped r (sym e ∙ h)
 
 -- ---- outcomes
 
-pub behind-none : (o : Outcome) → behind [] o ≡ o
-unfolding behind
-behind-none (failed n p) = refl
-behind-none (read es ts) = refl
+pub prefixed-none : (o : Outcome) → prefixed [] o ≡ o
+unfolding prefixed
+prefixed-none (failed n p) = refl
+prefixed-none (read es ts) = refl
 
-pub then-read : {o : Outcome} {cs : List Code} {us : Stream} (r : Rule) → o ≡ read cs us → (o then r) ≡ behind cs (r us)
+pub then-read : {o : Outcome} {cs : List Code} {us : Stream} (r : Rule) → o ≡ read cs us → (o then r) ≡ prefixed cs (r us)
 unfolding _then_
 then-read r e = ap (λ x. x then r) e
 
@@ -52,17 +52,17 @@ then-failed r e = ap (λ z. z then r) e
 
 -- after a rule that writes nothing
 pub then-goes : {o : Outcome} {us : Stream} (r : Rule) → o ≡ read [] us → (o then r) ≡ r us
-then-goes {us = us} r e = then-read r e ∙ behind-none (r us)
+then-goes {us = us} r e = then-read r e ∙ prefixed-none (r us)
 
 -- a code after what was read
 pub then-writes : {o : Outcome} {cs : List Code} {us : Stream} (c : Code) → o ≡ read cs us → (o then writes c) ≡ read (cs ++ c ∷ []) us
-unfolding behind
+unfolding prefixed
 then-writes c e = then-read (writes c) e
 
 -- nothing after what was read
 pub then-none : {o : Outcome} {cs : List Code} {us vs : Stream} (r : Rule) → o ≡ read cs us → r us ≡ read [] vs → (o then r) ≡ read cs vs
-unfolding behind
-then-none {cs = cs} {vs = vs} r e f = then-read r e ∙ ap (behind cs) f ∙ ap (λ l. read l vs) (append-nil cs)
+unfolding prefixed
+then-none {cs = cs} {vs = vs} r e f = then-read r e ∙ ap (prefixed cs) f ∙ ap (λ l. read l vs) (append-nil cs)
 
 -- ---- writing
 
@@ -96,22 +96,22 @@ wrote-append {cs} {ds} {entry} {middle} {exit} {n} {m} {r} a b = record {
 -- ---- answers
 
 -- a rule that goes on as another does after codes
-pub answers-behind : {rule rule' : ℕ → Rule} {bytes entry middle exit : List ℕ} {size at q count m : ℕ} (cs : List Code) (r : Step)
-    → ((n : ℕ) → size - at ≤ n → rule n (streamAt (take size bytes) at) ≡ behind cs (rule' n (streamAt (take size bytes) q)))
+pub answers-prefixed : {rule rule' : ℕ → Rule} {bytes entry middle exit : List ℕ} {size at q count m : ℕ} (cs : List Code) (r : Step)
+    → ((n : ℕ) → size - at ≤ n → rule n (streamAt (take size bytes) at) ≡ prefixed cs (rule' n (streamAt (take size bytes) q)))
     → Wrote cs entry middle count m → at ≤ q → m + at ≤ count + q
     → Answers rule' bytes size q middle exit m r → Answers rule bytes size at entry exit count r
-unfolding behind Went Says
-answers-behind cs (reached p k) e w h f a = record {
+unfolding prefixed Went Says
+answers-prefixed cs (reached p k) e w h f a = record {
   went = record { on = omega (arith, a .went .on); end-within = a .went .end-within; few = omega (arith, a .went .few) };
-  says = λ n l. let s = a .says n (omega arith) in record { codes = cs ++ s .codes; is = e n l ∙ ap (behind cs) (s .is); wrote = wrote-append w (s .wrote) };
+  says = λ n l. let s = a .says n (omega arith) in record { codes = cs ++ s .codes; is = e n l ∙ ap (prefixed cs) (s .is); wrote = wrote-append w (s .wrote) };
 }
-answers-behind cs (stopped x y) e w h f a = record { went = tt; says = λ n l. e n l ∙ ap (behind cs) (a .says n (omega arith)) }
+answers-prefixed cs (stopped x y) e w h f a = record { went = tt; says = λ n l. e n l ∙ ap (prefixed cs) (a .says n (omega arith)) }
 
 -- .. after none
 pub answers-from : {rule rule' : ℕ → Rule} {bytes entry exit : List ℕ} {size at q count : ℕ} (r : Step)
     → ((n : ℕ) → size - at ≤ n → rule n (streamAt (take size bytes) at) ≡ rule' n (streamAt (take size bytes) q)) → at ≤ q
     → Answers rule' bytes size q entry exit count r → Answers rule bytes size at entry exit count r
-answers-from {entry = entry} {count = count} r e h a = answers-behind [] r (λ n l. e n l ∙ sym (behind-none _)) (wrote-none entry count) h (omega arith) a
+answers-from {entry = entry} {count = count} r e h a = answers-prefixed [] r (λ n l. e n l ∙ sym (prefixed-none _)) (wrote-none entry count) h (omega arith) a
 
 module _ {rule : ℕ → Rule} {bytes entry exit : List ℕ} {size at count : ℕ} where
   pub answers-failed : {x y : ℕ} → ((n : ℕ) → size - at ≤ n → rule n (streamAt (take size bytes) at) ≡ failed x y) → Answers rule bytes size at entry exit count (stopped x y)

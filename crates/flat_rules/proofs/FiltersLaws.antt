@@ -14,19 +14,19 @@ use Rattle.model.specs.declared.Filter.the-variants.{Ordered, Window, Distance,
 use Rattle.model.specs.Limits.{maxDistance, maxNumber}
 use Rattle.grammar.specs.Stream.{Stream, placeIn, restOf, valueIn, streamAt}
 use Rattle.grammar.specs.Symbols.{k-ordered, k-window, k-distance, k-same, k-different, k-at, k-entire, k-start, k-end, k-sentence, k-paragraph, k-content, k-exactly, k-from, k-to, k-least, k-most, k-words, s-number, symbolIn}
-use Rattle.grammar.specs.Grammar.{failed, read, Rule, behind, _then_, refused, expect, coded, measured, distanceFrom, distanceAt, distance, either, startsFilter, filter, filters}
-use Rattle.grammar.proofs.JoiningLaws.{behind-behind}
+use Rattle.grammar.specs.Grammar.{failed, read, Rule, prefixed, _then_, refused, expect, coded, measured, distanceFrom, distanceAt, distance, either, startsFilter, filter, filters}
+use Rattle.grammar.proofs.JoiningLaws.{prefixed-prefixed}
 use Rattle.scanner.specs.Scanned.{capped}
 use Rattle.flat_rules.specs.Steps.{Step, reached, stopped}
 use Rattle.flat_rules.specs.Answers.{Makes, Wrote, Ready, NoLess, Says, Answers, WentMany, AnswersMany}
-use Rattle.flat_rules.proofs.AnswersLaws.{behind-none, failed-is, read-codes, read-further, ready-next, then-failed, then-read, wrote-append, wrote-none}
+use Rattle.flat_rules.proofs.AnswersLaws.{prefixed-none, failed-is, read-codes, read-further, ready-next, then-failed, then-read, wrote-append, wrote-none}
 use Rattle.flat_rules.proofs.TokensLaws.{number-none, number-over, number-read}
 
 -- ---- a symbol and its code
 
 module _ (k : ℕ) (c : Code) (ts : Stream) where
   pub coded-yes : symbolIn ts ≡ k → coded k c ts ≡ read (c ∷ []) (restOf ts)
-  unfolding coded _then_ behind
+  unfolding coded _then_ prefixed
   coded-yes h = rw (eq-eqb _ _ h)
 
   pub coded-no : {symbol : ℕ} → symbolIn ts ≡ symbol → ¬ (symbol ≡ k) → coded k c ts ≡ refused ts
@@ -107,7 +107,7 @@ module _ (ts : Stream) {symbol : ℕ} (h : symbolIn ts ≡ symbol) where
 module _ (ts : Stream) where
   pub toward-second : (a : ℕ) → symbolIn ts ≡ k-to → toward a ts ≡ measured (λ b. Filtered (Distance a b)) (restOf ts)
   unfolding toward _then_
-  toward-second a h = rw h (behind-none _)
+  toward-second a h = rw h (prefixed-none _)
 
   pub at-least : symbolIn ts ≡ k-least → distanceAt ts ≡ measured (λ a. Filtered (Distance a maxDistance)) (restOf ts)
   unfolding distanceAt
@@ -115,7 +115,7 @@ module _ (ts : Stream) where
 
   pub at-most : symbolIn ts ≡ k-most → distanceAt ts ≡ measured (λ b. Filtered (Distance 0 b)) (restOf ts)
   unfolding distanceAt _then_
-  at-most h = rw h (behind-none _)
+  at-most h = rw h (prefixed-none _)
 
   pub range-exactly : symbolIn ts ≡ k-exactly → distance ts ≡ measured (λ n. Filtered (Distance n n)) (restOf ts)
   unfolding distance
@@ -127,7 +127,7 @@ module _ (ts : Stream) where
 
   pub range-at : symbolIn ts ≡ k-at → distance ts ≡ distanceAt (restOf ts)
   unfolding distance _then_
-  range-at h = rw h (behind-none _)
+  range-at h = rw h (prefixed-none _)
 
   pub filter-ordered : symbolIn ts ≡ k-ordered → filter ts ≡ read (Filtered Ordered ∷ []) (restOf ts)
   unfolding filter
@@ -155,7 +155,7 @@ module _ (ts : Stream) where
 
   pub filter-entire : symbolIn ts ≡ k-entire → filter ts ≡ coded k-content (Filtered EntireContent) (restOf ts)
   unfolding filter _then_
-  filter-entire h = rw h (behind-none _)
+  filter-entire h = rw h (prefixed-none _)
 
 -- any other symbol
 module _ (ts : Stream) {symbol : ℕ} (h : symbolIn ts ≡ symbol) where
@@ -178,7 +178,7 @@ pub record Filtering (bytes : List ℕ) (size at : ℕ) (entry exit : List ℕ) 
   pub fuel : ℕ
   pub enough : size - p < fuel
   pub codes : List Code
-  pub is : filters k (streamAt (take size bytes) at) ≡ behind codes (filters fuel (streamAt (take size bytes) p))
+  pub is : filters k (streamAt (take size bytes) at) ≡ prefixed codes (filters fuel (streamAt (take size bytes) p))
   pub wrote : Wrote codes entry exit count m
 
 pub record Filters (bytes : List ℕ) (size at : ℕ) (entry exit : List ℕ) (count p m : ℕ) : Type 0 where
@@ -199,7 +199,7 @@ pub filters-start : {bytes entry : List ℕ} {size at count : ℕ} → Ready byt
 filters-start {entry = entry} {count = count} r = record {
   ready = r;
   passed = record { on = omega arith; end-within = r .inside .within; few = omega arith };
-  going = λ k h. record { fuel = k; enough = h; codes = []; is = sym (behind-none _); wrote = wrote-none entry count };
+  going = λ k h. record { fuel = k; enough = h; codes = []; is = sym (prefixed-none _); wrote = wrote-none entry count };
 }
 
 -- the test of the first symbol
@@ -209,13 +209,13 @@ starts-here ts h e g = rw h (sym e ∙ g)
 
 module _ {bytes entry exit : List ℕ} {size at count p m : ℕ} (t : Filters bytes size at entry exit count p m) where
   pub filters-stop : {r : Step} → startsFilter (streamAt (take size bytes) p) ≡ false → r ≡ reached p m → AnswersMany filters bytes size at entry exit count r
-  unfolding WentMany Says behind
+  unfolding WentMany Says prefixed
   filters-stop h e = rw e (record {
     went = t .passed;
     says = λ k l. let g = t .going k l in record {
       codes = g .codes;
       wrote = g .wrote;
-      is = g .is ∙ ap (behind (g .codes)) (filters-none (g .fuel) (streamAt (take size bytes) p) h) ∙ ap (λ c. read c (streamAt (take size bytes) p)) (append-nil (g .codes));
+      is = g .is ∙ ap (prefixed (g .codes)) (filters-none (g .fuel) (streamAt (take size bytes) p) h) ∙ ap (λ c. read c (streamAt (take size bytes) p)) (append-nil (g .codes));
     };
   })
 
@@ -224,11 +224,11 @@ module _ {bytes entry exit : List ℕ} {size at count p m : ℕ} (t : Filters by
     filter-first f l = let one : f ≡ suc (f - 1) = omega arith in ap (λ k. filters k (streamAt (take size bytes) p)) one ∙ filters-some (f - 1) (streamAt (take size bytes) p) h
 
     pub filters-fail : {exit' : List ℕ} {x y : ℕ} {r : Step} → r ≡ stopped x y → Answers (λ _. filter) bytes size p exit exit' m r → AnswersMany filters bytes size at entry exit' count r
-    unfolding WentMany Says behind
+    unfolding WentMany Says prefixed
     filters-fail e a = rw e (let b = rw e at a in record {
       went = tt;
       says = λ k l. let g = t .going k l in
-          g .is ∙ ap (behind (g .codes)) (filter-first (g .fuel) (g .enough) ∙ then-failed (filters (g .fuel - 1)) (failed-is b size (omega arith)));
+          g .is ∙ ap (prefixed (g .codes)) (filter-first (g .fuel) (g .enough) ∙ then-failed (filters (g .fuel - 1)) (failed-is b size (omega arith)));
     })
 
     pub filters-step : {exit' : List ℕ} {q j : ℕ} {r : Step} → r ≡ reached q j → Answers (λ _. filter) bytes size p exit exit' m r → Filters bytes size at entry exit' count q j
@@ -245,7 +245,7 @@ module _ {bytes entry exit : List ℕ} {size at count p m : ℕ} (t : Filters by
                 fuel = g .fuel - 1;
                 enough = omega (arith, g .enough, f .on, f .end-within);
                 codes = g .codes ++ s .codes;
-                is = g .is ∙ ap (behind (g .codes)) (filter-first (g .fuel) (g .enough) ∙ then-read (filters (g .fuel - 1)) (s .is)) ∙ behind-behind (g .codes) (s .codes) _;
+                is = g .is ∙ ap (prefixed (g .codes)) (filter-first (g .fuel) (g .enough) ∙ then-read (filters (g .fuel - 1)) (s .is)) ∙ prefixed-prefixed (g .codes) (s .codes) _;
                 wrote = wrote-append (g .wrote) (s .wrote);
               };
         }

@@ -10,16 +10,16 @@ use lib.Dec.{eqb}
 use lib.ListN.{take}
 use Rattle.model.specs.declared.Code.{Code}
 use Rattle.model.specs.declared.Code.the-variants.{Word, Phrase}
-use Rattle.model.specs.Limits.{maxWaiting, maxWord}
+use Rattle.model.specs.Limits.{maxWords, maxWord}
 use Rattle.model.specs.Tokens.{numberFrom}
 use Rattle.grammar.specs.Stream.{Stream, placeIn, restOf, valueIn, streamAt}
 use Rattle.grammar.specs.Symbols.{s-number, s-quote, symbolIn}
-use Rattle.grammar.specs.Grammar.{failed, read, Rule, behind, _then_, refused, number, words}
-use Rattle.grammar.proofs.JoiningLaws.{behind-behind}
+use Rattle.grammar.specs.Grammar.{failed, read, Rule, prefixed, _then_, refused, number, words}
+use Rattle.grammar.proofs.JoiningLaws.{prefixed-prefixed}
 use Rattle.scanner.specs.Scanned.{Scanned, bytesFrom, capped, startOf, endOf, symbolAt}
 use Rattle.flat_rules.specs.Steps.{Step}
 use Rattle.flat_rules.specs.Answers.{Wrote, Ready, NoLess, Answers}
-use Rattle.flat_rules.proofs.AnswersLaws.{answers-behind, behind-none, ready-after, some-further, symbol-here, wrote-append, wrote-none}
+use Rattle.flat_rules.proofs.AnswersLaws.{answers-prefixed, prefixed-none, ready-after, some-further, symbol-here, wrote-append, wrote-none}
 use Rattle.flat_rules.proofs.TokensLaws.{number-none, number-over, number-read, rest-here, value-here}
 
 -- ---- the rule by its first token
@@ -41,34 +41,34 @@ module _ (k : ℕ) (ts : Stream) {symbol : ℕ} (h : symbolIn ts ≡ symbol) (o 
     neither true = refl
     neither false = refl
 
-  pub words-full : k ≡ maxWaiting → words (maxWaiting - k) k ts ≡ refused ts
+  pub words-full : k ≡ maxWords → words (maxWords - k) k ts ≡ refused ts
   unfolding words
-  words-full e = let none : maxWaiting - k ≡ 0 = omega arith in rw (none, unclosed)
+  words-full e = let none : maxWords - k ≡ 0 = omega arith in rw (none, unclosed)
 
-  module _ (f : k ≤ maxWaiting) (n : ¬ (k ≡ maxWaiting)) where
-    words-more : words (maxWaiting - k) k ts ≡ number maxWord (nextWord (maxWaiting - (k + 1)) k) ts
+  module _ (f : k ≤ maxWords) (n : ¬ (k ≡ maxWords)) where
+    words-more : words (maxWords - k) k ts ≡ number maxWord (nextWord (maxWords - (k + 1)) k) ts
     unfolding words nextWord
-    words-more = let some : maxWaiting - k ≡ suc (maxWaiting - (k + 1)) = omega arith in rw (some, unclosed)
+    words-more = let some : maxWords - k ≡ suc (maxWords - (k + 1)) = omega arith in rw (some, unclosed)
 
-    pub words-none : ¬ (symbol ≡ s-number) → words (maxWaiting - k) k ts ≡ refused ts
-    words-none m = words-more ∙ number-none maxWord (nextWord (maxWaiting - (k + 1)) k) ts h m
+    pub words-none : ¬ (symbol ≡ s-number) → words (maxWords - k) k ts ≡ refused ts
+    words-none m = words-more ∙ number-none maxWord (nextWord (maxWords - (k + 1)) k) ts h m
 
     module _ {v : ℕ} (w : v ≡ capped (valueIn ts)) (m : symbol ≡ s-number) where
-      pub words-over : maxWord < v → words (maxWaiting - k) k ts ≡ failed 11 (placeIn ts)
-      words-over l = words-more ∙ number-over maxWord (nextWord (maxWaiting - (k + 1)) k) ts h w m l
+      pub words-over : maxWord < v → words (maxWords - k) k ts ≡ failed 11 (placeIn ts)
+      words-over l = words-more ∙ number-over maxWord (nextWord (maxWords - (k + 1)) k) ts h w m l
 
-      words-read : v ≤ maxWord → words (maxWaiting - k) k ts ≡ behind (Word v ∷ []) (words (maxWaiting - (k + 1)) (k + 1) (restOf ts))
+      words-read : v ≤ maxWord → words (maxWords - k) k ts ≡ prefixed (Word v ∷ []) (words (maxWords - (k + 1)) (k + 1) (restOf ts))
       unfolding nextWord _then_
-      words-read l = words-more ∙ number-read maxWord (nextWord (maxWaiting - (k + 1)) k) ts h w m l (omega arith)
+      words-read l = words-more ∙ number-read maxWord (nextWord (maxWords - (k + 1)) k) ts h w m l (omega arith)
 
 -- ---- the loop, from where it begins to where it is
 
 pub record Phrasing (bytes : List ℕ) (size at : ℕ) (entry exit : List ℕ) (count p n k : ℕ) : Type 0 where
   pub ready : Ready bytes size p n
   pub passed : NoLess size at count p n
-  pub few : k ≤ maxWaiting
+  pub few : k ≤ maxWords
   pub codes : List Code
-  pub is : words maxWaiting 0 (streamAt (take size bytes) at) ≡ behind codes (words (maxWaiting - k) k (streamAt (take size bytes) p))
+  pub is : words maxWords 0 (streamAt (take size bytes) at) ≡ prefixed codes (words (maxWords - k) k (streamAt (take size bytes) p))
   pub wrote : Wrote codes entry exit count n
 
 pub words-start : {bytes entry : List ℕ} {size at count : ℕ} → Ready bytes size at count → Phrasing bytes size at entry entry count at count 0
@@ -77,30 +77,30 @@ words-start {entry = entry} {count = count} r = record {
   passed = record { on = omega arith; end-within = r .inside .within; few = omega arith };
   few = omega arith;
   codes = [];
-  is = sym (behind-none _);
+  is = sym (prefixed-none _);
   wrote = wrote-none entry count;
 }
 
 module _ {bytes entry exit : List ℕ} {size at count p n k : ℕ} (inv : Phrasing bytes size at entry exit count p n k) where
   -- what the rule answers from here on it answers as a whole
-  pub words-on : {exit' : List ℕ} {r : Step} → Answers (λ _. words (maxWaiting - k) k) bytes size p exit exit' n r → Answers (λ _. words maxWaiting 0) bytes size at entry exit' count r
-  words-on {r = r} a = answers-behind (inv .codes) r (λ m l. inv .is) (inv .wrote) (inv .passed .on) (inv .passed .few) a
+  pub words-on : {exit' : List ℕ} {r : Step} → Answers (λ _. words (maxWords - k) k) bytes size p exit exit' n r → Answers (λ _. words maxWords 0) bytes size at entry exit' count r
+  words-on {r = r} a = answers-prefixed (inv .codes) r (λ m l. inv .is) (inv .wrote) (inv .passed .on) (inv .passed .few) a
 
   -- one word more
-  pub words-step : {t symbol : ℕ} (s : Scanned bytes size p t) (e : symbol ≡ symbolAt t) {exit' : List ℕ} {v m end : ℕ} → ¬ (symbol ≡ s-quote) ⊎ (k ≡ 0) → ¬ (k ≡ maxWaiting)
+  pub words-step : {t symbol : ℕ} (s : Scanned bytes size p t) (e : symbol ≡ symbolAt t) {exit' : List ℕ} {v m end : ℕ} → ¬ (symbol ≡ s-quote) ⊎ (k ≡ 0) → ¬ (k ≡ maxWords)
       → symbol ≡ s-number → v ≡ capped (numberFrom 0 (bytesFrom bytes (startOf t) (endOf t))) → v ≤ maxWord → Wrote (Word v ∷ []) exit exit' n m → end ≡ endOf t
       → Phrasing bytes size at entry exit' count end m (k + 1)
   words-step s e {v = v} {end = end} o f h w l u q =
       let on = some-further s e (λ z. omega (arith, h, z)) q in
       let after = ready-after s (inv .ready) q in
       let word = Word v ∷ [] in
-      let one : words (maxWaiting - k) k (streamAt (take size bytes) p) ≡ behind word (words (maxWaiting - (k + 1)) (k + 1) (streamAt (take size bytes) end))
-      = words-read k _ (symbol-here s e) o (inv .few) f (value-here s w) h l ∙ ap (λ us. behind word (words (maxWaiting - (k + 1)) (k + 1) us)) (rest-here s q) in
+      let one : words (maxWords - k) k (streamAt (take size bytes) p) ≡ prefixed word (words (maxWords - (k + 1)) (k + 1) (streamAt (take size bytes) end))
+      = words-read k _ (symbol-here s e) o (inv .few) f (value-here s w) h l ∙ ap (λ us. prefixed word (words (maxWords - (k + 1)) (k + 1) us)) (rest-here s q) in
       record {
         ready = record { inside = after .inside; few = omega (arith, inv .ready .few, u .counted, on) };
         passed = record { on = omega (arith, inv .passed .on, on); end-within = after .inside .within; few = omega (arith, inv .passed .few, u .counted, on) };
         few = omega (arith, inv .few);
         codes = inv .codes ++ word;
-        is = inv .is ∙ ap (behind (inv .codes)) one ∙ behind-behind (inv .codes) word _;
+        is = inv .is ∙ ap (prefixed (inv .codes)) one ∙ prefixed-prefixed (inv .codes) word _;
         wrote = wrote-append (inv .wrote) u;
       }

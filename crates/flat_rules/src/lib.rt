@@ -5,8 +5,8 @@ pub mod steps; // what a rule answers, in one number
 use model::MAX_CODES;
 use model::MAX_DISTANCE;
 use model::MAX_NUMBER;
-use model::MAX_WAITING;
 use model::MAX_WORD;
+use model::MAX_WORDS;
 use model::RADIX;
 use scanner::symbols;
 ghost use mathlib.Core.Bool.{_&&_};
@@ -15,7 +15,7 @@ ghost use mathlib.Core.Path.{_≡_};
 ghost use Prim.Native.Nat.{ℕ, _+_, _≤_, _<_};
 ghost use lib.Dec.{leb};
 ghost use Rattle.model.specs.declared.Code.{Code};
-ghost use Rattle.model.specs.Limits.{maxText, maxWaiting};
+ghost use Rattle.model.specs.Limits.{maxText, maxWords};
 ghost use Rattle.grammar.specs.Grammar.{coded as codedRule, distance as distanceRule, distanceAt, distanceFrom, either as eitherRule, filter as filterRule, filters as filtersRule, measured as measuredRule, words as wordsRule};
 ghost use Rattle.grammar.specs.Symbols.{k-entire, k-ordered};
 ghost use Rattle.flat_rules.specs.Steps.{stepOf};
@@ -37,7 +37,7 @@ pub fn push(codes: &mut [u32; 128], count: u32, kind: u32, operand: u32) -> u32
 // The words of a phrase, "one to eight word numbers", and the closing quote.
 pub fn words(text: &[u8; 2048], size: usize, at: u32, codes: &mut [u32; 128], count: u32) -> u64
     requires { ⌜ Ready (now text) size at count ⌝ }
-    ensures { λ r. ⌜ Answers (λ _. wordsRule maxWaiting 0) (now (text .entry)) size at (now (codes .entry)) (now (codes .exit)) count (stepOf r) ⌝ }
+    ensures { λ r. ⌜ Answers (λ _. wordsRule maxWords 0) (now (text .entry)) size at (now (codes .entry)) (now (codes .exit)) count (stepOf r) ⌝ }
 {
     let mut p = at;
     let mut n = count;
@@ -51,7 +51,7 @@ pub fn words(text: &[u8; 2048], size: usize, at: u32, codes: &mut [u32; 128], co
                 return steps::read(scanner::end_of(t), m);
             }
         }
-        if k == MAX_WAITING {
+        if k == MAX_WORDS {
             return steps::error_at(10, t);
         }
         if symbol != symbols::NUMBER {

@@ -12,7 +12,7 @@ use Rattle.model.specs.declared.Code.{Code}
 use Rattle.model.specs.Checks.{refusal}
 use Rattle.model.specs.Limits.{maxText}
 use Rattle.model.specs.Productions.{FTSelection}
-use Rattle.model.specs.TextAnswer.{TextAnswer, codes, error, Begins, Alike, StartAlike, both-end, both-go-on, firstPlace, Point, NotAllowed, TooLarge, TokensAnswer, selects, not-allowed, too-large, AnswerOf, too-long, by-tokens}
+use Rattle.model.specs.TextAnswer.{TextAnswer, codes, error, Begins, Alike, StartAlike, both-end, both-go-on, firstPlace, Point, NotAllowed, TooLarge, AnswerOfTokens, selects, not-allowed, too-large, AnswerOf, too-long, by-tokens}
 use Rattle.model.specs.Tokens.{Token}
 use Rattle.grammar.specs.Grammar.{answerIn, outcomeOf, readText}
 use Rattle.grammar.proofs.GoingLaws.{aNumber, a-number}
@@ -108,7 +108,7 @@ module _ (tokens : List Token) (end : ℕ) where
       n .stops (aNumber ∷ b .more) (b .codes) (rw e (both-go-on (record { sort = sym (l .digits); bytes = λ h. absurd (h (l .digits)) })))
       (rw append-assoc at (b .selection))
 
-  tokens-answer : {a b : TextAnswer} → TokensAnswer tokens end a → TokensAnswer tokens end b → a ≡ b
+  tokens-answer : {a b : TextAnswer} → AnswerOfTokens tokens end a → AnswerOfTokens tokens end b → a ≡ b
   tokens-answer (selects d) (selects e) = ap codes (codes-unique d e)
   tokens-answer (selects d) (not-allowed n) = absurd (no-fault d n)
   tokens-answer (selects d) (too-large n) = absurd (no-large d n)

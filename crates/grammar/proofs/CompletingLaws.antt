@@ -11,19 +11,19 @@ use Rattle.model.specs.declared.Code.{Code}
 use Rattle.model.specs.declared.Code.the-variants.{Phrase, Combine, Not, Filter as Filtered}
 use Rattle.model.specs.declared.Filter.{Filter}
 use Rattle.model.specs.declared.Pair.the-variants.{Or, And, MildNot}
-use Rattle.model.specs.Limits.{maxWaiting}
+use Rattle.model.specs.Limits.{maxWords}
 use Rattle.model.specs.Productions.{Sign, Keyword, Words, no-word, word-more, FTPosFilter, ordered, window, distance-exactly, distance-least, distance-most, distance-from, same-sentence, same-paragraph, different-sentence, different-paragraph, at-start, at-end, entire-content, FTSelection, selection-or, selection-filter, or-and, or-more, and-mild, and-more, mild-unary, mild-more, unary-primary, unary-not, FTPrimary, phrase, nested}
 use Rattle.model.specs.Tokens.{Token, quote, opening, closing}
 use Rattle.grammar.specs.Stream.{Stream, ends, token, valueIn}
 use Rattle.grammar.specs.Symbols.{k-ftor, k-ftand, k-ftnot, k-not, k-in, k-ordered, k-entire, sameBytes, numberAmong, symbolOf, symbolIn}
-use Rattle.grammar.specs.Grammar.{Outcome, read, Rule, behind, _then_, expect, words, coded, measured, distanceFrom, distanceAt, distance, either, startsFilter, filter, filters, row, notIn, ftPrimary, ftUnaryNot, ftMildNot, ftAnd, ftOr, ftSelection}
-use Rattle.grammar.proofs.JoiningLaws.{_⊕_, size, join-append, size-join, behind-behind}
+use Rattle.grammar.specs.Grammar.{Outcome, read, Rule, prefixed, _then_, expect, words, coded, measured, distanceFrom, distanceAt, distance, either, startsFilter, filter, filters, row, notIn, ftPrimary, ftUnaryNot, ftMildNot, ftAnd, ftOr, ftSelection}
+use Rattle.grammar.proofs.JoiningLaws.{_⊕_, size, join-append, size-join, prefixed-prefixed}
 use Rattle.grammar.proofs.SymbolsLaws.{keyword-symbol, sign-symbol, number-symbol, number-within}
 
 -- ---- filters
 
 filter-complete : {us : List Token} {f : Filter} (rest : Stream) → FTPosFilter us f → filter (us ⊕ rest) ≡ read (Filtered f ∷ []) rest
-unfolding _⊕_ filter distance distanceAt distanceFrom either coded measured numberAmong sameBytes valueIn _then_ behind
+unfolding _⊕_ filter distance distanceAt distanceFrom either coded measured numberAmong sameBytes valueIn _then_ prefixed
 filter-complete rest (ordered a) = rw (keyword-symbol a)
 filter-complete rest (window a n z) = rw (keyword-symbol a, number-symbol n, number-within n, keyword-symbol z)
 filter-complete rest (distance-exactly a b n z) = rw (keyword-symbol a, keyword-symbol b, number-symbol n, number-within n, keyword-symbol z)
@@ -73,7 +73,7 @@ filter-length (u ∷ us) d = omega arith
 
 words-complete : {j : ℕ} {ts : List Token} {cs : List Code} {u : Token} (left k : ℕ) (rest : Stream) → Sign quote u → 1 ≤ k + j → j ≤ left
     → Words j ts cs → words left k (ts ⊕ token u rest) ≡ read (cs ++ (Phrase (k + j) ∷ [])) rest
-unfolding _⊕_ words valueIn _then_ behind
+unfolding _⊕_ words valueIn _then_ prefixed
 words-complete zero k rest s h l no-word = let e : k + 0 ≡ k = omega arith in rw (sign-symbol s refl, ne-eqb k 0 (λ z. omega arith), e)
 words-complete (suc left) k rest s h l no-word = let e : k + 0 ≡ k = omega arith in rw (sign-symbol s refl, ne-eqb k 0 (λ z. omega arith), e)
 words-complete zero k rest s h l (word-more n d) = absurd (omega arith)
@@ -88,7 +88,7 @@ words-complete (suc left) k rest s h l (word-more {k = j} n d) =
 pub record Rowed (o : Outcome) (cs : List Code) (r : ℕ → Rule) (rest : Stream) : Type 0 where
   pub turns : ℕ
   pub enough : size rest ≤ turns
-  pub is : o ≡ behind cs (r turns rest)
+  pub is : o ≡ prefixed cs (r turns rest)
 
 abbrev Other : ℕ → Stream → Type 0
 Other s ts = eqb (symbolIn ts) s ≡ false
@@ -100,12 +100,12 @@ module _ (s : ℕ) (op : Rule) (c : Code) (operand : Rule) where
   row-stops (suc m) rest h = rw h
 
   stopped : {o : Outcome} {cs : List Code} {rest : Stream} → Other s rest → Rowed o cs (λ m. row m s op c operand) rest → o ≡ read cs rest
-  unfolding behind
-  stopped {o} {cs} {rest} h r = r .is ∙ ap (behind cs) (row-stops (r .turns) rest h) ∙ ap (λ l. read l rest) (append-nil cs)
+  unfolding prefixed
+  stopped {o} {cs} {rest} h r = r .is ∙ ap (prefixed cs) (row-stops (r .turns) rest h) ∙ ap (λ l. read l rest) (append-nil cs)
 
   row-goes : {ds : List Code} {rest : Stream} (m : ℕ) (ts us : Stream) → symbolIn ts ≡ s → op ts ≡ read [] us → operand us ≡ read ds rest
       → size rest < size ts → size ts ≤ m → Rowed (row m s op c operand ts) (ds ++ (c ∷ [])) (λ k. row k s op c operand) rest
-  unfolding row _then_ behind
+  unfolding row _then_ prefixed
   row-goes zero ts us h o d l k = absurd (omega arith)
   row-goes {ds} {rest} (suc m) ts us h o d l k = record { turns = m; enough = omega arith; is = rw (eq-eqb _ _ h, o, d) }
 
@@ -114,7 +114,7 @@ module _ (s : ℕ) (op : Rule) (c : Code) (operand : Rule) where
       → Rowed o (cs ++ (ds ++ (c ∷ []))) (λ m. row m s op c operand) rest
   row-more {cs = cs} {ds = ds} ts us r h o d l =
       let g = row-goes (r .turns) ts us h o d l (r .enough) in
-      record { turns = g .turns; enough = g .enough; is = r .is ∙ ap (behind cs) (g .is) ∙ behind-behind cs (ds ++ (c ∷ [])) _ }
+      record { turns = g .turns; enough = g .enough; is = r .is ∙ ap (prefixed cs) (g .is) ∙ prefixed-prefixed cs (ds ++ (c ∷ [])) _ }
 
   row-first : {o : Outcome} {cs : List Code} {rest : Stream} (n : ℕ) → o ≡ read cs rest → size rest ≤ n
       → Rowed (o then row n s op c operand) cs (λ m. row m s op c operand) rest
@@ -144,8 +144,8 @@ filters-stop zero rest h = refl
 filters-stop (suc m) rest h = rw h
 
 pub filtered : {o : Outcome} {cs : List Code} {rest : Stream} → startsFilter rest ≡ false → Rowed o cs filters rest → o ≡ read cs rest
-unfolding behind
-filtered {o} {cs} {rest} h r = r .is ∙ ap (behind cs) (filters-stop (r .turns) rest h) ∙ ap (λ l. read l rest) (append-nil cs)
+unfolding prefixed
+filtered {o} {cs} {rest} h r = r .is ∙ ap (prefixed cs) (filters-stop (r .turns) rest h) ∙ ap (λ l. read l rest) (append-nil cs)
 
 filters-go : {us : List Token} {f : Filter} (m : ℕ) (rest : Stream) → FTPosFilter us f → size (us ⊕ rest) ≤ m
     → Rowed (filters m (us ⊕ rest)) (Filtered f ∷ []) filters rest
@@ -178,18 +178,18 @@ nested-complete : {cs : List Code} {t u : Token} (ts : List Token) (n : ℕ) (re
     → suc (length (ts ++ (u ∷ []))) + size rest ≤ n
     → ((k : ℕ) → length ts + size (token u rest) ≤ k → Rowed (ftSelection (suc k) (ts ⊕ token u rest)) cs filters (token u rest))
     → ftPrimary n (ftSelection n) ((t ∷ (ts ++ (u ∷ []))) ⊕ rest) ≡ read cs rest
-unfolding _⊕_ ftPrimary _then_ behind size
+unfolding _⊕_ ftPrimary _then_ prefixed size
 nested-complete ts zero rest o c l inner = absurd (omega arith)
 nested-complete {cs} {t} {u} ts (suc n) rest o c l inner =
     let e = filtered (closing-starts rest c) (inner n (omega (arith, length-append ts (u ∷ [])))) in
     rw (sign-symbol o refl, join-append ts (u ∷ []) rest, e, sign-symbol c refl) (ap (λ l. read l rest) (append-nil cs))
 
 phrase-complete : {k : ℕ} {ts : List Token} {cs : List Code} {t u : Token} (n : ℕ) (rest : Stream) → Sign quote t → Words k ts cs → 1 ≤ k
-    → k ≤ maxWaiting → Sign quote u → ftPrimary n (ftSelection n) ((t ∷ (ts ++ (u ∷ []))) ⊕ rest) ≡ read (cs ++ (Phrase k ∷ [])) rest
+    → k ≤ maxWords → Sign quote u → ftPrimary n (ftSelection n) ((t ∷ (ts ++ (u ∷ []))) ⊕ rest) ≡ read (cs ++ (Phrase k ∷ [])) rest
 unfolding _⊕_ ftPrimary
 phrase-complete {k} {ts} {cs} {t} {u} n rest q d low high r =
     let z : 0 + k ≡ k = omega arith in
-    rw (sign-symbol q refl, join-append ts (u ∷ []) rest, words-complete maxWaiting 0 rest r (omega arith) high d, z)
+    rw (sign-symbol q refl, join-append ts (u ∷ []) rest, words-complete maxWords 0 rest r (omega arith) high d, z)
 
 unary-complete : {cs : List Code} (ts : Stream) (n : ℕ) (rest : Stream) → Other k-ftnot ts → ftPrimary n (ftSelection n) ts ≡ read cs rest
     → ftUnaryNot n (ftSelection n) ts ≡ read cs rest
@@ -203,7 +203,7 @@ primary-first rest (nested o d c) = rw (sign-symbol o refl)
 
 unary-not-complete : {cs : List Code} {t : Token} (ts : List Token) (n : ℕ) (rest : Stream) → Keyword "ftnot" t
     → ftPrimary n (ftSelection n) (ts ⊕ rest) ≡ read cs rest → ftUnaryNot n (ftSelection n) ((t ∷ ts) ⊕ rest) ≡ read (cs ++ (Not ∷ [])) rest
-unfolding _⊕_ ftUnaryNot numberAmong sameBytes _then_ behind
+unfolding _⊕_ ftUnaryNot numberAmong sameBytes _then_ prefixed
 unary-not-complete ts n rest w e = rw (keyword-symbol w, e)
 
 mild-first : {cs : List Code} (ts : Stream) (n : ℕ) (rest : Stream) → ftUnaryNot n (ftSelection n) ts ≡ read cs rest → size rest ≤ n
@@ -237,14 +237,14 @@ module _ (s : ℕ) (c : Code) (operand : Rule) where
 mild-joined : {o : Outcome} {cs ds : List Code} (t u : Token) (n : ℕ) (us : List Token) (rest : Stream)
     → symbolOf t ≡ k-not → symbolOf u ≡ k-in → Rowed o cs (mildRow n) ((t ∷ u ∷ us) ⊕ rest) → ftUnaryNot n (ftSelection n) (us ⊕ rest) ≡ read ds rest
     → Rowed o (cs ++ (ds ++ (Combine MildNot ∷ []))) (mildRow n) rest
-unfolding _⊕_ size _then_ behind
+unfolding _⊕_ size _then_ prefixed
 mild-joined t u n us rest h i r d = row-more k-not _ (Combine MildNot) _ _ (us ⊕ rest) r h (rw (h, i)) d (omega (arith, size-join us rest))
 
 selection-joined : {o : Outcome} {us : List Token} {cs : List Code} {f : Filter} (rest : Stream) → Rowed o cs filters (us ⊕ rest) → FTPosFilter us f
     → Rowed o (cs ++ (Filtered f ∷ [])) filters rest
 selection-joined {us = us} {cs = cs} {f = f} rest r d =
     let g = filters-go (r .turns) rest d (r .enough) in
-    record { turns = g .turns; enough = g .enough; is = r .is ∙ ap (behind cs) (g .is) ∙ behind-behind cs (Filtered f ∷ []) _ }
+    record { turns = g .turns; enough = g .enough; is = r .is ∙ ap (prefixed cs) (g .is) ∙ prefixed-prefixed cs (Filtered f ∷ []) _ }
 
 -- the operators' symbols
 or-symbol : {t : Token} → Keyword "ftor" t → symbolOf t ≡ k-ftor

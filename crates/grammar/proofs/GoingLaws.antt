@@ -16,7 +16,7 @@ use Rattle.model.specs.Productions.{Sign, Keyword, Number}
 use Rattle.model.specs.Tokens.{Token, digit, letter, numberFrom, valueOf}
 use Rattle.grammar.specs.Stream.{Stream, ends, token, placeIn, bytesIn, restOf, valueIn}
 use Rattle.grammar.specs.Symbols.{noMore, s-number, symbolOf, symbolIn}
-use Rattle.grammar.specs.Grammar.{Outcome, failed, read, Rule, behind, _then_, refused, expect, number}
+use Rattle.grammar.specs.Grammar.{Outcome, failed, read, Rule, prefixed, _then_, refused, expect, number}
 use Rattle.grammar.proofs.JoiningLaws.{_⊕_, join-append}
 use Rattle.grammar.proofs.SymbolsLaws.{spelling, isKeyword, keyword-range, symbol-keyword, symbol-sort, number-symbol, number-within}
 
@@ -115,8 +115,8 @@ pub data Seq (P Q : Production) : List Token → List Code → Type 0 where
 module _ {P Q : Production} (r s : ℕ → Rule) (s₀ : Rule) (some : Viable Q []) (ts : Stream) where
   second : {cs : List Code} {rest : Stream} (pre : List Token) → ts ≡ pre ⊕ rest → P pre cs
       → ((i : ℕ) (later : Stream) → Near rest later → r i (pre ⊕ later) ≡ read cs later)
-      → {o : Outcome} → Went Q s rest o → Went (Seq P Q) (λ i us. r i us then s i) ts (behind cs o)
-  unfolding behind _then_
+      → {o : Outcome} → Went Q s rest o → Went (Seq P Q) (λ i us. r i us then s i) ts (prefixed cs o)
+  unfolding prefixed _then_
   second {cs} pre e d g (reads next f h k) =
       reads (pre ++ next) (e ∙ ap (λ us. pre ⊕ us) f ∙ sym (join-append pre next _)) (seq d h)
       (λ i later n. rw (join-append pre next later, g i (next ⊕ later) (rw f (near-join next n)), k i later n))

@@ -7,7 +7,7 @@ use lib.ListN.{length}
 use Rattle.model.specs.declared.Code.{Code}
 use Rattle.model.specs.Tokens.{Token}
 use Rattle.grammar.specs.Stream.{Stream, ends, token, streamAt}
-use Rattle.grammar.specs.Grammar.{Outcome, failed, read, behind}
+use Rattle.grammar.specs.Grammar.{Outcome, failed, read, prefixed}
 
 unfoldable pub listOf : Stream → List Token
 listOf (ends p) = []
@@ -53,7 +53,7 @@ list-join (t ∷ ts) rest = ap (λ us. t ∷ us) (list-join ts rest)
 
 -- ---- outcomes
 
-pub behind-behind : (cs ds : List Code) (o : Outcome) → behind cs (behind ds o) ≡ behind (cs ++ ds) o
-unfolding behind
-behind-behind cs ds (failed n p) = refl
-behind-behind cs ds (read es ts) = ap (λ l. read l ts) (sym (append-assoc cs ds es))
+pub prefixed-prefixed : (cs ds : List Code) (o : Outcome) → prefixed cs (prefixed ds o) ≡ prefixed (cs ++ ds) o
+unfolding prefixed
+prefixed-prefixed cs ds (failed n p) = refl
+prefixed-prefixed cs ds (read es ts) = ap (λ l. read l ts) (sym (append-assoc cs ds es))

@@ -13,7 +13,7 @@ use Rattle.model.specs.declared.Code.the-variants.{Word, Phrase, Combine, Not, 
 use Rattle.model.specs.declared.Filter.{Filter}
 use Rattle.model.specs.declared.Filter.the-variants.{Ordered, Window, Distance, SameSentence, SameParagraph, DifferentSentence, DifferentParagraph, AtStart, AtEnd, EntireContent}
 use Rattle.model.specs.declared.Pair.the-variants.{Or, And, MildNot}
-use Rattle.model.specs.Limits.{maxDistance, maxNumber, maxWaiting, maxWord}
+use Rattle.model.specs.Limits.{maxDistance, maxNumber, maxWords, maxWord}
 use Rattle.model.specs.Productions.{Sign, Keyword, Number, Words, no-word, word-more, FTPosFilter, ordered, window, distance-exactly, distance-least, distance-most, distance-from, same-sentence, same-paragraph, different-sentence, different-paragraph, at-start, at-end, entire-content, FTSelection, selection-or, selection-filter, FTOr, or-and, or-more, FTAnd, and-mild, and-more, FTMildNot, mild-unary, mild-more, FTUnaryNot, unary-primary, unary-not, FTPrimary, phrase, nested}
 use Rattle.model.specs.Tokens.{Token, quote, opening, closing, valueOf}
 use Rattle.grammar.specs.Stream.{Stream, ends, token, restOf}
@@ -347,7 +347,7 @@ mild-some = let v = unary-some in record { more = v .more; codes = v .codes; hol
 and-some : Viable FTAnd []
 and-some = let v = mild-some in record { more = v .more; codes = v .codes; holds = and-mild (v .holds) }
 
-phrase-join : Joins (Sign quote) (Tail maxWaiting 0) FTPrimary
+phrase-join : Joins (Sign quote) (Tail maxWords 0) FTPrimary
 phrase-join t vs ds q (tail {j = j} {m = m} d e l h r) = let f : m ≡ j = omega arith in rw f (phrase q d (omega arith) h r)
 
 nested-join : Joins (Sign opening) (Seq FTSelection (One (Sign closing))) FTPrimary
@@ -390,8 +390,8 @@ module _ (n : ℕ) (inner : (us : Stream) → size us < n → Went FTSelection (
       let rule₀ : Rule = λ us. ftSelection n us then expect s-closing in
       let other : ℕ → Rule = λ i us. cond (eqb (symbolIn us) s-opening) (rule i (restOf us)) (refused us) in
       let other₀ : Rule = λ us. cond (eqb (symbolIn us) s-opening) (rule₀ (restOf us)) (refused us) in
-      went-case (λ s. eqb s s-quote) (sign-taken quote) (λ i. words maxWaiting 0) (words maxWaiting 0) other other₀ phrase-join
-      ts (λ t us e q. went-words maxWaiting 0 (omega arith) us)
+      went-case (λ s. eqb s s-quote) (sign-taken quote) (λ i. words maxWords 0) (words maxWords 0) other other₀ phrase-join
+      ts (λ t us e q. went-words maxWords 0 (omega arith) us)
       (λ e. went-case (λ s. eqb s s-opening) (sign-taken opening) rule rule₀ (λ i us. refused us) (λ us. refused us) nested-join
       ts (λ t us f o. went-then (λ i. ftSelection (plus n i)) (λ i. expect s-closing) (expect s-closing) (sign-some closing) us
       (inner us (omega (arith, token-size t us, ap size f))) (λ pre rest cs x d. went-sign closing rest))

@@ -9,11 +9,11 @@ use lib.Dec.{eqb}
 use lib.ListN.{length}
 use Rattle.model.specs.declared.Code.{Code}
 use Rattle.model.specs.Productions.{FTSelection}
-use Rattle.model.specs.TextAnswer.{Begins, StartAlike, both-end, both-go-on, Point, TokensAnswer, selects, not-allowed, too-large}
+use Rattle.model.specs.TextAnswer.{Begins, StartAlike, both-end, both-go-on, Point, AnswerOfTokens, selects, not-allowed, too-large}
 use Rattle.model.specs.Tokens.{Token, digit}
 use Rattle.grammar.specs.Stream.{Stream, ends, token, placeIn, bytesIn, valueIn, streamAt}
 use Rattle.grammar.specs.Symbols.{noMore, symbolOf, symbolIn}
-use Rattle.grammar.specs.Grammar.{Outcome, failed, read, Rule, behind, _then_, expect, ftSelection, answerIn, outcomeOf}
+use Rattle.grammar.specs.Grammar.{Outcome, failed, read, Rule, prefixed, _then_, expect, ftSelection, answerIn, outcomeOf}
 use Rattle.grammar.proofs.CompletingLaws.{no-filter, filtered, closes-end, selection-complete}
 use Rattle.grammar.proofs.GoingLaws.{Within, Near, Viable, ten, eleven, Went, reads, fails, went-map, Seq, seq, went-then, Wrote, wrote, wrote-some}
 use Rattle.grammar.proofs.JoiningLaws.{listOf, tokensOf, _⊕_, size, plus, plus-sum, join-append}
@@ -27,7 +27,7 @@ whole n ts = ftSelection n ts then expect noMore
 -- ---- what the productions derive is read
 
 pub whole-complete : {ts : List Token} {cs : List Code} (n p : ℕ) → length ts ≤ n → FTSelection ts cs → whole (suc n) (ts ⊕ ends p) ≡ read cs (ends p)
-unfolding size _then_ behind
+unfolding size _then_ prefixed
 whole-complete {cs = cs} n p l d =
     rw (filtered (no-filter p) (selection-complete d n (ends p) (omega arith) (closes-end p))) (ap (λ k. read k (ends p)) (append-nil cs))
 
@@ -55,7 +55,7 @@ went-whole n ts h =
 
 -- it leaves nothing
 whole-end : (o : Outcome) (cs : List Code) (rest : Stream) → (o then expect noMore) ≡ read cs rest → symbolIn rest ≡ noMore
-unfolding _then_ behind
+unfolding _then_ prefixed
 whole-end (failed n p) cs rest e = let z : _≡_ {A = ℕ} 0 1 = cc in absurd (omega arith)
 whole-end (read ds (ends p)) cs rest e = let f : ends p ≡ rest = cc in sym (ap symbolIn f)
 whole-end (read ds (token t ts)) cs rest e =
@@ -105,7 +105,7 @@ module _ (text : List ℕ) where
       let g : tokensOf text ≡ pre = text-parted text pre rest e ∙ ap (λ l. pre ++ l) (list-end rest f) ∙ append-nil pre in rw g d
 
   answer-of : {o : Outcome} → Went FTSelection (λ i. whole (plus (suc (length text)) i)) (streamAt text 0) o
-      → ((cs : List Code) (rest : Stream) → o ≡ read cs rest → symbolIn rest ≡ noMore) → TokensAnswer (tokensOf text) (suc (length text)) (answerIn o)
+      → ((cs : List Code) (rest : Stream) → o ≡ read cs rest → symbolIn rest ≡ noMore) → AnswerOfTokens (tokensOf text) (suc (length text)) (answerIn o)
   unfolding point-at listOf valueIn
   answer-of (reads {cs = cs} {rest = rest} pre e d g) k = selects (read-answer pre rest e (k cs rest refl) d)
   answer-of (fails {place = place} pre rest e p (ten v) g) k =
@@ -130,7 +130,7 @@ module _ (text : List ℕ) where
       })
 
   -- What the grammar as functions answers is an answer by the productions.
-  pub outcome-answer : TokensAnswer (tokensOf text) (suc (length text)) (answerIn (outcomeOf text))
+  pub outcome-answer : AnswerOfTokens (tokensOf text) (suc (length text)) (answerIn (outcomeOf text))
   unfolding outcomeOf
   outcome-answer =
       let n = suc (length text) in

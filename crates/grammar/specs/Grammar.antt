@@ -19,7 +19,7 @@ use Rattle.model.specs.declared.Code.the-variants.{Word, Phrase, Combine, Not, 
 use Rattle.model.specs.declared.Filter.the-variants.{Ordered, Window, Distance, SameSentence, SameParagraph, DifferentSentence, DifferentParagraph, AtStart, AtEnd, EntireContent}
 use Rattle.model.specs.declared.Pair.the-variants.{Or, And, MildNot}
 use Rattle.model.specs.Checks.{refusal}
-use Rattle.model.specs.Limits.{maxDistance, maxNumber, maxText, maxWaiting, maxWord}
+use Rattle.model.specs.Limits.{maxDistance, maxNumber, maxText, maxWords, maxWord}
 use Rattle.model.specs.TextAnswer.{TextAnswer, codes, error}
 use Rattle.grammar.specs.Stream.{Stream, placeIn, restOf, valueIn, streamAt}
 use Rattle.grammar.specs.Symbols.{k-ftor, k-ftand, k-ftnot, k-not, k-in, k-ordered, k-window, k-distance, k-same, k-different, k-at, k-entire, k-start, k-end, k-sentence, k-paragraph, k-content, k-exactly, k-from, k-to, k-least, k-most, k-words, noMore, s-quote, s-opening, s-closing, s-number, symbolIn}
@@ -32,15 +32,15 @@ abbrev pub Rule : Type 0
 Rule = Stream → Outcome
 
 -- what is read after codes
-unfoldable pub behind : List Code → Outcome → Outcome
-behind cs (failed n p) = failed n p
-behind cs (read ds ts) = read (cs ++ ds) ts
+unfoldable pub prefixed : List Code → Outcome → Outcome
+prefixed cs (failed n p) = failed n p
+prefixed cs (read ds ts) = read (cs ++ ds) ts
 
 -- one rule, then another on what it left
 infixl 40 _then_
 unfoldable pub _then_ : Outcome → Rule → Outcome
 failed n p then r = failed n p
-read cs ts then r = behind cs (r ts)
+read cs ts then r = prefixed cs (r ts)
 
 -- ---- tokens
 
@@ -133,7 +133,7 @@ notIn ts = expect k-not ts then expect k-in
 module _ (n : ℕ) (inner : Rule) where
   unfoldable pub ftPrimary : Rule
   ftPrimary ts =
-      cond (eqb (symbolIn ts) s-quote) (words maxWaiting 0 (restOf ts))
+      cond (eqb (symbolIn ts) s-quote) (words maxWords 0 (restOf ts))
       (cond (eqb (symbolIn ts) s-opening) (inner (restOf ts) then expect s-closing) (refused ts))
 
   unfoldable pub ftUnaryNot : Rule

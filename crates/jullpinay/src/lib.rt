@@ -7,7 +7,7 @@ ghost use mathlib.Core.Path.{_≡_};
 ghost use lib.ListN.{drop, getD, length, take};
 ghost use lib.Seq.{sets};
 ghost use Rattle.model.specs.Answers.{listingAnswer, listingBuffer, listingValues, quickAnswer, quickValues, snippetOf};
-ghost use Rattle.model.specs.TextAnswer.{AnswerOf, TextAnswer};
+ghost use Rattle.model.specs.TextAnswer.{ForAnswer};
 ghost use Rattle.model.specs.Typed.{readAnswer, readSelection, readingValues, typedBuffer, typedListing, typedQuick};
 
 // A listing's answer put down in document 01's numbers. Returned is the first of them: 0, or the refusal's number.
@@ -106,9 +106,9 @@ pub extern "C" fn jullpinay_typed_listing(
     buffer: &mut [u32],
     answer: &mut [u32; 4],
 ) -> u32
-    ensures { λ r. ⌜ ((a : TextAnswer) → AnswerOf (now (text .entry)) a → r ≡ getD (listingValues (typedListing (now (section .entry)) a (length (now (work .entry))) (length (now (buffer .entry))))) 0 0) ⌝ }
-    ensures { λ _. ⌜ ((a : TextAnswer) → AnswerOf (now (text .entry)) a → now (answer .exit) ≡ sets (now (answer .entry)) 0 (listingValues (typedListing (now (section .entry)) a (length (now (work .entry))) (length (now (buffer .entry)))))) ⌝ }
-    ensures { λ _. ⌜ ((a : TextAnswer) → AnswerOf (now (text .entry)) a → now (buffer .exit) ≡ typedBuffer (now (section .entry)) a (length (now (work .entry))) (now (buffer .entry))) ⌝ }
+    ensures { λ r. ⌜ ForAnswer (now (text .entry)) (λ a. r ≡ getD (listingValues (typedListing (now (section .entry)) a (length (now (work .entry))) (length (now (buffer .entry))))) 0 0) ⌝ }
+    ensures { λ _. ⌜ ForAnswer (now (text .entry)) (λ a. now (answer .exit) ≡ sets (now (answer .entry)) 0 (listingValues (typedListing (now (section .entry)) a (length (now (work .entry))) (length (now (buffer .entry)))))) ⌝ }
+    ensures { λ _. ⌜ ForAnswer (now (text .entry)) (λ a. now (buffer .exit) ≡ typedBuffer (now (section .entry)) a (length (now (work .entry))) (now (buffer .entry))) ⌝ }
 {
     let listing = engine::typed_listing(section, text, work, buffer);
     put_listing(listing, answer)
@@ -122,8 +122,8 @@ pub extern "C" fn jullpinay_typed_quick(
     work: &mut [u32],
     answer: &mut [u32; 3],
 ) -> u32
-    ensures { λ r. ⌜ ((a : TextAnswer) → AnswerOf (now (text .entry)) a → r ≡ getD (quickValues (typedQuick (now (section .entry)) a (length (now (work .entry))))) 0 0) ⌝ }
-    ensures { λ _. ⌜ ((a : TextAnswer) → AnswerOf (now (text .entry)) a → now (answer .exit) ≡ sets (now (answer .entry)) 0 (quickValues (typedQuick (now (section .entry)) a (length (now (work .entry)))))) ⌝ }
+    ensures { λ r. ⌜ ForAnswer (now (text .entry)) (λ a. r ≡ getD (quickValues (typedQuick (now (section .entry)) a (length (now (work .entry))))) 0 0) ⌝ }
+    ensures { λ _. ⌜ ForAnswer (now (text .entry)) (λ a. now (answer .exit) ≡ sets (now (answer .entry)) 0 (quickValues (typedQuick (now (section .entry)) a (length (now (work .entry)))))) ⌝ }
 {
     let quick = engine::typed_quick(section, text, work);
     put_quick(quick, answer)
@@ -151,9 +151,9 @@ fn put_reading(reading: Reading, answer: &mut [u32; 2]) -> u32
 // The reader alone: a typed search's codes as a selection. The answer is 0 and the number of codes; or a refusal's number and place.
 #[no_mangle]
 pub extern "C" fn jullpinay_read(text: &[u8], selection: &mut [u32], answer: &mut [u32; 2]) -> u32
-    ensures { λ r. ⌜ ((a : TextAnswer) → AnswerOf (now (text .entry)) a → r ≡ getD (readingValues (readAnswer a (length (now (selection .entry))))) 0 0) ⌝ }
-    ensures { λ _. ⌜ ((a : TextAnswer) → AnswerOf (now (text .entry)) a → now (answer .exit) ≡ sets (now (answer .entry)) 0 (readingValues (readAnswer a (length (now (selection .entry)))))) ⌝ }
-    ensures { λ _. ⌜ ((a : TextAnswer) → AnswerOf (now (text .entry)) a → now (selection .exit) ≡ readSelection a (now (selection .entry))) ⌝ }
+    ensures { λ r. ⌜ ForAnswer (now (text .entry)) (λ a. r ≡ getD (readingValues (readAnswer a (length (now (selection .entry))))) 0 0) ⌝ }
+    ensures { λ _. ⌜ ForAnswer (now (text .entry)) (λ a. now (answer .exit) ≡ sets (now (answer .entry)) 0 (readingValues (readAnswer a (length (now (selection .entry)))))) ⌝ }
+    ensures { λ _. ⌜ ForAnswer (now (text .entry)) (λ a. now (selection .exit) ≡ readSelection a (now (selection .entry))) ⌝ }
 {
     let reading = engine::read(text, selection);
     put_reading(reading, answer)

@@ -19,7 +19,7 @@ pub mod Productions
 pub mod TextAnswer
 pub mod Typed
 pub mod TypedExamples
--- .. its worked examples ..
+-- .. document 01's worked examples ..
 pub mod Examples
 -- .. and what the laws and the code's contracts say besides: no part of the meaning.
 pub mod Parts

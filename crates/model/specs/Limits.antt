@@ -43,6 +43,10 @@ radix = 65536
 abbrev pub maxText : ℕ
 maxText = 2048
 
+-- F-1: "A phrase is one to eight word numbers"
+abbrev pub maxWords : ℕ
+maxWords = 8
+
 -- F-1: "a word number over 4,294,967,295 or another number over 4,096"
 abbrev pub maxWord : ℕ
 maxWord = 4294967295

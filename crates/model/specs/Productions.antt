@@ -19,7 +19,7 @@ use Rattle.model.specs.declared.Filter.{Filter}
 use Rattle.model.specs.declared.Filter.the-variants.{Ordered, Window, Distance, SameSentence, SameParagraph, DifferentSentence, DifferentParagraph, AtStart, AtEnd, EntireContent}
 use Rattle.model.specs.declared.Pair.the-variants.{Or, And, MildNot}
 use Rattle.model.specs.Bytes.{bytes}
-use Rattle.model.specs.Limits.{maxDistance, maxNumber, maxWaiting, maxWord}
+use Rattle.model.specs.Limits.{maxDistance, maxNumber, maxWord, maxWords}
 use Rattle.model.specs.Tokens.{Token, quote, opening, closing, digit, letter, valueOf}
 
 -- ---- tokens
@@ -94,7 +94,7 @@ mutual
 
   pub data FTPrimary : List Token → List Code → Type 0 where
     -- "A phrase is one to eight word numbers in double quotes."
-    phrase : {k : ℕ} {ts : List Token} {cs : List Code} {t u : Token} → Sign quote t → Words k ts cs → 1 ≤ k → k ≤ maxWaiting → Sign quote u
+    phrase : {k : ℕ} {ts : List Token} {cs : List Code} {t u : Token} → Sign quote t → Words k ts cs → 1 ≤ k → k ≤ maxWords → Sign quote u
         → FTPrimary (t ∷ (ts ++ (u ∷ []))) (cs ++ (Phrase k ∷ []))
     -- "A selection in parentheses is read by the rule that reads the whole"
     nested : {ts : List Token} {cs : List Code} {t u : Token} → Sign opening t → FTSelection ts cs → Sign closing u

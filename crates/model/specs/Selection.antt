@@ -49,7 +49,7 @@ codeOf kind operand =
 abbrev pub codeAt : List ℕ → ℕ → Code
 codeAt selection c = codeOf (kindAt selection c) (operandAt selection c)
 
--- And back: the kind number and the operand of each code, for laws and for whoever writes codes.
+-- And back: the kind number and the operand of each code.
 abbrev pub filterKind : Filter → ℕ
 filterKind Ordered = 6
 filterKind (Window n) = 7

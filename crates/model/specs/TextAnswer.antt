@@ -17,7 +17,7 @@ pub data TextAnswer : Type 0 where
   codes : List Code → TextAnswer
   error : Refusal → TextAnswer
 
--- some selection begins with these tokens
+-- Some selection begins with these tokens, of whatever length.
 pub record Begins (ts : List Token) : Type 0 where
   pub more : List Token
   pub codes : List Code
@@ -45,15 +45,15 @@ pub record Point (tokens : List Token) (end place : ℕ) : Type 0 where
   pub parted : tokens ≡ before ++ after
   pub there : place ≡ firstPlace end after
 
--- "10 where the grammar doesn't allow it (or length + 1)": what stands before the place begins a selection, and no selection goes on from there as the
--- text does, with a token like the text's, or ends there as the text does.
+-- "10 where the grammar doesn't allow it (or length + 1)": the tokens before the place begin a selection; none goes on with a token like the next one, or,
+-- where the text ends, none ends there.
 pub record NotAllowed (tokens : List Token) (end place : ℕ) : Type 0 where
   pub point : Point tokens end place
   pub begins : Begins (point .before)
   pub stops : (us : List Token) (cs : List Code) → StartAlike (point .after) us → ¬ FTSelection (point .before ++ us) cs
 
 -- "else 11 for a word number over 4,294,967,295 or another number over 4,096": a selection goes on from there with every number within a limit, the text
--- with a number over it, and with that one no selection does.
+-- with a number over it, and with that one no selection does. (Where a word number may stand, the lower limit is one of that sort too.)
 pub record TooLarge (tokens : List Token) (end place : ℕ) : Type 0 where
   pub point : Point tokens end place
   pub most : ℕ
@@ -67,12 +67,18 @@ pub record TooLarge (tokens : List Token) (end place : ℕ) : Type 0 where
   pub stops : ¬ Begins (point .before ++ (large ∷ []))
 
 -- the answer of tokens, in a text whose end is at a place
-pub data TokensAnswer (tokens : List Token) (end : ℕ) : TextAnswer → Type 0 where
-  selects : {cs : List Code} → FTSelection tokens cs → TokensAnswer tokens end (codes cs)
-  not-allowed : {place : ℕ} → NotAllowed tokens end place → TokensAnswer tokens end (error (refusal 10 place))
-  too-large : {place : ℕ} → TooLarge tokens end place → TokensAnswer tokens end (error (refusal 11 place))
+pub data AnswerOfTokens (tokens : List Token) (end : ℕ) : TextAnswer → Type 0 where
+  selects : {cs : List Code} → FTSelection tokens cs → AnswerOfTokens tokens end (codes cs)
+  not-allowed : {place : ℕ} → NotAllowed tokens end place → AnswerOfTokens tokens end (error (refusal 10 place))
+  too-large : {place : ℕ} → TooLarge tokens end place → AnswerOfTokens tokens end (error (refusal 11 place))
 
 -- `AnswerOf text a`: the answer of the text is a. Every text has exactly one (theorems/specs/Demands.antt).
 pub data AnswerOf (text : List ℕ) : TextAnswer → Type 0 where
   too-long : maxText < length text → AnswerOf text (error (refusal 11 0))
-  by-tokens : {ts : List Token} {a : TextAnswer} → length text ≤ maxText → Tokens 1 text ts → TokensAnswer ts (suc (length text)) a → AnswerOf text a
+  by-tokens : {ts : List Token} {a : TextAnswer} → length text ≤ maxText → Tokens 1 text ts → AnswerOfTokens ts (suc (length text)) a → AnswerOf text a
+
+-- the text's answer has P
+pub record ForAnswer (text : List ℕ) (P : TextAnswer → Type 0) : Type 0 where
+  pub answer : TextAnswer
+  pub answers : AnswerOf text answer
+  pub holds : P answer

@@ -39,7 +39,7 @@ pub record Token : Type 0 where
   pub place : ℕ
   pub bytes : List ℕ
 
--- "longest": nothing follows, or another byte
+-- "longest": nothing follows, or a byte of another sort
 pub data Stops (T : ℕ → Type 0) : List ℕ → Type 0 where
   stops-end : Stops T []
   stops-other : {b : ℕ} {bs : List ℕ} → ¬ T b → Stops T (b ∷ bs)
@@ -56,7 +56,7 @@ pub data Tokens : ℕ → List ℕ → List Token → Type 0 where
   a-sign : {p b : ℕ} {bs : List ℕ} {ts : List Token} → ¬ (b ≡ blank) → ¬ Letter b → ¬ Digit b → Tokens (suc p) bs ts
       → Tokens p (b ∷ bs) (record { sort = b; place = p; bytes = b ∷ [] } ∷ ts)
 
--- the number that digits write, after a number already read
+-- "Written numbers are base ten": the number that digits write, after a number already read
 unfoldable pub numberFrom : ℕ → List ℕ → ℕ
 numberFrom v [] = v
 numberFrom v (b ∷ bs) = numberFrom (v * 10 + (b - digit)) bs

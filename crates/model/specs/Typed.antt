@@ -5,7 +5,7 @@ use mathlib.Core.Bool.{cond}
 use mathlib.Core.List.{List, [], _∷_, _++_, map}
 use mathlib.Core.Option.{Option, some, none}
 use lib.Dec.{leb}
-use lib.ListN.{length, drop}
+use lib.ListN.{length}
 use Rattle.model.specs.declared.Code.{Code}
 use Rattle.model.specs.declared.Listing.{Listing}
 use Rattle.model.specs.declared.Listing.the-variants.{Refused as ListingRefused}
@@ -39,24 +39,21 @@ typedQuick section (codes cs) work = quickAnswer section (selectionOf cs) work
 typedQuick section (error r) work = QuickRefused r
 
 -- The reader alone: the text's error, 3 for over 64 codes, then 8 where the lent numbers are fewer than the longest selection's.
-abbrev pub readRefusal : TextAnswer → ℕ → Option Refusal
-readRefusal (codes cs) lent = otherwise (cond (leb (length cs) maxCodes) none (some (refusal 3 0))) (roomRefusal (leb selectionLength lent))
-readRefusal (error r) lent = some r
-
-abbrev pub codesOf : TextAnswer → List Code
-codesOf (codes cs) = cs
-codesOf (error r) = []
+abbrev pub codesRefusal : List Code → ℕ → Option Refusal
+codesRefusal cs lent = otherwise (cond (leb (length cs) maxCodes) none (some (refusal 3 0))) (roomRefusal (leb selectionLength lent))
 
 abbrev pub readUnless : Option Refusal → List Code → Reading
 readUnless (some r) cs = ReadingRefused r
 readUnless none cs = Read (length cs)
 
 abbrev pub readAnswer : TextAnswer → ℕ → Reading
-readAnswer a lent = readUnless (readRefusal a lent) (codesOf a)
+readAnswer (codes cs) lent = readUnless (codesRefusal cs lent) cs
+readAnswer (error r) lent = ReadingRefused r
 
 -- The lent numbers then hold the selection; the rest of them is unchanged, and all of them by a refusal.
 abbrev pub readSelection : TextAnswer → List ℕ → List ℕ
-readSelection a lent = bufferUnless (readRefusal a (length lent)) (selectionOf (codesOf a)) lent
+readSelection (codes cs) lent = bufferUnless (codesRefusal cs (length lent)) (selectionOf cs) lent
+readSelection (error r) lent = lent
 
 -- in numbers: 0 and the codes, or a refusal's number and place
 abbrev pub readingValues : Reading → List ℕ

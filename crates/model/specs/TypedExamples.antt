@@ -31,6 +31,8 @@ examples =
     ∷ reads "\"1\" ftor \"2\" ftand \"3\"" (codes (Word 1 ∷ Phrase 1 ∷ Word 2 ∷ Phrase 1 ∷ Word 3 ∷ Phrase 1 ∷ Combine And ∷ Combine Or ∷ []))
     ∷ reads "(\"1\"ftor\"2\")ftand ftnot\"3\"" (codes (Word 1 ∷ Phrase 1 ∷ Word 2 ∷ Phrase 1 ∷ Combine Or ∷ Word 3 ∷ Phrase 1 ∷ Not ∷ Combine And ∷ []))
     ∷ reads "\"1\" ftand \"2\" not in \"3\"" (codes (Word 1 ∷ Phrase 1 ∷ Word 2 ∷ Phrase 1 ∷ Word 3 ∷ Phrase 1 ∷ Combine MildNot ∷ Combine And ∷ []))
+    ∷ reads "\"1\" not in \"2\" not in \"3\""
+    (codes (Word 1 ∷ Phrase 1 ∷ Word 2 ∷ Phrase 1 ∷ Combine MildNot ∷ Word 3 ∷ Phrase 1 ∷ Combine MildNot ∷ []))
     ∷ reads "((\"1\"))" (codes (Word 1 ∷ Phrase 1 ∷ []))
     -- filters after a whole selection
     ∷ reads "\"10\" ftand \"20\" window 3 words" (codes (Word 10 ∷ Phrase 1 ∷ Word 20 ∷ Phrase 1 ∷ Combine And ∷ Filtered (Window 3) ∷ []))
@@ -44,6 +46,8 @@ examples =
     ∷ reads "\"1\" same paragraph different sentence different paragraph"
     (codes (Word 1 ∷ Phrase 1 ∷ Filtered SameParagraph ∷ Filtered DifferentSentence ∷ Filtered DifferentParagraph ∷ []))
     ∷ reads "\"1\" at start at end entire content" (codes (Word 1 ∷ Phrase 1 ∷ Filtered AtStart ∷ Filtered AtEnd ∷ Filtered EntireContent ∷ []))
+    -- codes that document 01 refuses
+    ∷ reads "\"1\" window 0 words distance from 3 to 2 words " (codes (Word 1 ∷ Phrase 1 ∷ Filtered (Window 0) ∷ Filtered (Distance 3 2) ∷ []))
     -- 10, the grammar doesn't allow the token, or the end
     ∷ reads "" (fails 10 1)
     ∷ reads "\"1\" ftor  " (fails 10 11)
@@ -55,12 +59,16 @@ examples =
     ∷ reads "(\"1\"" (fails 10 5)
     ∷ reads "\"1\")" (fails 10 4)
     ∷ reads "\"\"" (fails 10 2)
+    ∷ reads "\"1" (fails 10 3)
+    ∷ reads "\"1\"\t" (fails 10 4)
     -- 11, a number too large
     ∷ reads "\"4294967295\"" (codes (Word 4294967295 ∷ Phrase 1 ∷ []))
     ∷ reads "\"4294967296\"" (fails 11 2)
     ∷ reads "\"1\" window 4096 words" (codes (Word 1 ∷ Phrase 1 ∷ Filtered (Window 4096) ∷ []))
     ∷ reads "\"1\" window 4097" (fails 11 12)
+    ∷ reads "\"1\" distance from 1 to 4097 and" (fails 11 24)
     -- where no number may stand, 10
+    ∷ reads "\"1\" 99999999999" (fails 10 5)
     ∷ reads "\"1 2 3 4 5 6 7 8 99999999999\"" (fails 10 18)
     ∷ []
 

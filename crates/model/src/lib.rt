@@ -22,6 +22,8 @@ pub const BUFFER_LENGTH: usize = 1282;
 pub const RADIX: u32 = 65536;
 // Document 02, F-1: "text of at most 2,048 bytes"
 pub const MAX_TEXT: usize = 2048;
+// "A phrase is one to eight word numbers"
+pub const MAX_WORDS: u32 = 8;
 // "a word number over 4,294,967,295 or another number over 4,096"
 pub const MAX_WORD: u64 = 4294967295;
 

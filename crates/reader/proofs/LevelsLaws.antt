@@ -12,11 +12,11 @@ use Rattle.model.specs.declared.Code.the-variants.{Combine}
 use Rattle.model.specs.declared.Pair.the-variants.{Or, And, MildNot}
 use Rattle.grammar.specs.Stream.{Stream}
 use Rattle.grammar.specs.Symbols.{k-ftor, k-ftand, k-not, k-in, symbolIn}
-use Rattle.grammar.specs.Grammar.{Outcome, failed, read, Rule, behind, _then_, writes, expect, row, notIn, ftUnaryNot, ftMildNot, ftAnd, ftOr, ftSelection}
-use Rattle.grammar.proofs.JoiningLaws.{behind-behind}
+use Rattle.grammar.specs.Grammar.{Outcome, failed, read, Rule, prefixed, _then_, writes, expect, row, notIn, ftUnaryNot, ftMildNot, ftAnd, ftOr, ftSelection}
+use Rattle.grammar.proofs.JoiningLaws.{prefixed-prefixed}
 use Rattle.flat_rules.specs.Steps.{reached, stopped}
 use Rattle.flat_rules.specs.Answers.{Wrote, Ready, Further, Says, Went, Answers}
-use Rattle.flat_rules.proofs.AnswersLaws.{answers-failed, behind-none, ready-next, then-failed, then-goes, then-none, then-read, then-writes, wrote-append, wrote-none}
+use Rattle.flat_rules.proofs.AnswersLaws.{answers-failed, prefixed-none, ready-next, then-failed, then-goes, then-none, then-read, then-writes, wrote-append, wrote-none}
 use Rattle.reader.proofs.CallsLaws.{streamIn, Begins, expect-is}
 
 -- ---- levels
@@ -58,10 +58,10 @@ module _ (L : Level) where
   turn-failed true k f ts e = then-failed (rowOf k f) (then-failed (writes (L .code)) e)
   turn-failed false k f ts e = then-failed (rowOf k f) e
 
-  turn-read : (more : Bool) (k f : ℕ) (ts us : Stream) (cs : List Code) → L .operand k ts ≡ read cs us → turn more k f ts ≡ behind (cs ++ codeIf more) (rowOf k f us)
+  turn-read : (more : Bool) (k f : ℕ) (ts us : Stream) (cs : List Code) → L .operand k ts ≡ read cs us → turn more k f ts ≡ prefixed (cs ++ codeIf more) (rowOf k f us)
   unfolding turn
   turn-read true k f ts us cs e = then-read (rowOf k f) (then-writes (L .code) e)
-  turn-read false k f ts us cs e = then-read (rowOf k f) e ∙ ap (λ l. behind l (rowOf k f us)) (sym (append-nil cs))
+  turn-read false k f ts us cs e = then-read (rowOf k f) e ∙ ap (λ l. prefixed l (rowOf k f us)) (sym (append-nil cs))
 
   turn-some : (k f : ℕ) (ts us : Stream) → eqb (symbolIn ts) (L .symbol) ≡ true → L .op ts ≡ read [] us → rowOf k (suc f) ts ≡ turn true k f us
   unfolding turn
@@ -74,7 +74,7 @@ pub record Going (o : Outcome) (left : ℕ → Outcome) (least : ℕ) (entry exi
   pub fuel : ℕ
   pub enough : least ≤ fuel
   pub codes : List Code
-  pub is : o ≡ behind codes (left fuel)
+  pub is : o ≡ prefixed codes (left fuel)
   pub wrote : Wrote codes entry exit count count'
 
 -- before an operand at p: `more` says whether an operator was read before it
@@ -105,7 +105,7 @@ turns-start L {bytes} {entry} {size} {at} {count} r = record {
     fuel = k;
     enough = h;
     codes = [];
-    is = L .level-is k (streamIn bytes size at) ∙ sym (behind-none _);
+    is = L .level-is k (streamIn bytes size at) ∙ sym (prefixed-none _);
     wrote = wrote-none entry count;
   };
 }
@@ -120,9 +120,9 @@ module _ {L : Level} {bytes entry exit : List ℕ} {size at count p n : ℕ} {mo
   -- the operand fails
   pub turns-fails : {exit' : List ℕ} (x y : ℕ) → Answers (L .operand) bytes size p exit exit' n (stopped x y)
       → Answers (L .level) bytes size at entry exit' count (stopped x y)
-  unfolding behind Says
+  unfolding prefixed Says
   turns-fails x y a = answers-failed (λ k h. let g = t .going k h in
-      g .is ∙ ap (behind (g .codes)) (turn-failed L more k (g .fuel) (streamIn bytes size p) (a .says k (omega (arith, t .on)))))
+      g .is ∙ ap (prefixed (g .codes)) (turn-failed L more k (g .fuel) (streamIn bytes size p) (a .says k (omega (arith, t .on)))))
 
   -- the operand is read, and the code of its operator written
   pub turns-read : {exit' exit'' : List ℕ} {q m n' : ℕ} → Answers (L .operand) bytes size p exit exit' n (reached q m) → Wrote (codeIf L more) exit' exit'' m n'
@@ -145,8 +145,8 @@ module _ {L : Level} {bytes entry exit : List ℕ} {size at count p n : ℕ} {mo
           fuel = g .fuel - 1;
           enough = omega (arith, g .enough, a .went .on, a .went .end-within);
           codes = g .codes ++ cs;
-          is = g .is ∙ ap (behind (g .codes)) (turn-read L more k (g .fuel) (streamIn bytes size p) (streamIn bytes size q) (s .codes) (s .is))
-              ∙ behind-behind (g .codes) cs _ ∙ ap (λ f. behind (g .codes ++ cs) (rowOf L k f (streamIn bytes size q))) one;
+          is = g .is ∙ ap (prefixed (g .codes)) (turn-read L more k (g .fuel) (streamIn bytes size p) (streamIn bytes size q) (s .codes) (s .is))
+              ∙ prefixed-prefixed (g .codes) cs _ ∙ ap (λ f. prefixed (g .codes ++ cs) (rowOf L k f (streamIn bytes size q))) one;
           wrote = wrote-append (g .wrote) (wrote-append (s .wrote) v);
         };
   }
@@ -157,12 +157,12 @@ module _ {L : Level} {bytes entry exit : List ℕ} {size at count p q n : ℕ} (
 
   -- no operator begins at q
   pub row-stop : eqb (symbolIn (streamIn bytes size q)) (L .symbol) ≡ false → Answers (L .level) bytes size at entry exit count (reached q n)
-  unfolding Went Says behind
+  unfolding Went Says prefixed
   row-stop h = record {
     went = r .further;
     says = λ k l. let g = r .going k l in record {
       codes = g .codes;
-      is = g .is ∙ ap (behind (g .codes)) (row-none L k (suc (g .fuel)) (streamIn bytes size q) h)
+      is = g .is ∙ ap (prefixed (g .codes)) (row-none L k (suc (g .fuel)) (streamIn bytes size q) h)
           ∙ ap (λ cs. read cs (streamIn bytes size q)) (append-nil (g .codes));
       wrote = g .wrote;
     };
@@ -171,9 +171,9 @@ module _ {L : Level} {bytes entry exit : List ℕ} {size at count p q n : ℕ} (
   module _ {d : ℕ} (b : Begins (L .symbol) bytes size q d) where
     -- an operator begins, and is not whole
     pub row-broken : {x y : ℕ} → L .op (streamIn bytes size q) ≡ failed x y → Answers (L .level) bytes size at entry exit count (stopped x y)
-    unfolding behind
+    unfolding prefixed
     row-broken e = answers-failed (λ k l. let g = r .going k l in
-        g .is ∙ ap (behind (g .codes)) (row-some L k (g .fuel) (streamIn bytes size q) (b .first)
+        g .is ∙ ap (prefixed (g .codes)) (row-some L k (g .fuel) (streamIn bytes size q) (b .first)
         ∙ then-failed (rowOf L k (g .fuel)) (then-failed (writes (L .code)) (then-failed (L .operand k) e))))
 
     -- an operator is read
@@ -187,7 +187,7 @@ module _ {L : Level} {bytes entry exit : List ℕ} {size at count p q n : ℕ} (
         fuel = g .fuel;
         enough = omega (arith, g .enough, b .on);
         codes = g .codes;
-        is = g .is ∙ ap (behind (g .codes)) (turn-some L k (g .fuel) (streamIn bytes size q) (streamIn bytes size e) (b .first) op-is);
+        is = g .is ∙ ap (prefixed (g .codes)) (turn-some L k (g .fuel) (streamIn bytes size q) (streamIn bytes size e) (b .first) op-is);
         wrote = g .wrote;
       };
     }

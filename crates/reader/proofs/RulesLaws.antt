@@ -7,10 +7,10 @@ use mathlib.Core.List.{List, [], _∷_, _++_}
 use lib.Dec.{eqb}
 use lib.ListN.{length}
 use Rattle.model.specs.declared.Code.the-variants.{Not}
-use Rattle.model.specs.Limits.{maxWaiting}
+use Rattle.model.specs.Limits.{maxWords}
 use Rattle.grammar.specs.Stream.{placeIn}
 use Rattle.grammar.specs.Symbols.{k-ftnot, s-quote, s-opening, s-closing, symbolIn}
-use Rattle.grammar.specs.Grammar.{failed, Rule, behind, _then_, writes, expect, words, filters, ftPrimary, ftUnaryNot, ftSelection}
+use Rattle.grammar.specs.Grammar.{failed, Rule, prefixed, _then_, writes, expect, words, filters, ftPrimary, ftUnaryNot, ftSelection}
 use Rattle.flat_rules.specs.Steps.{Step, reached, stopped}
 use Rattle.flat_rules.specs.Answers.{Wrote, Ready, Says, Went, Answers, WentMany, AnswersMany}
 use Rattle.flat_rules.proofs.AnswersLaws.{answers-failed, answers-from, then-failed, then-none, then-read, then-writes, wrote-append}
@@ -32,16 +32,16 @@ module _ {bytes entry middle : List ℕ} {size at count : ℕ} where
 
   pub whole-is : {exit : List ℕ} {q m : ℕ} (r : Step) → Answers orRule bytes size at entry middle count (reached q m) → AnswersMany filters bytes size q middle exit m r
       → Answers wholeRule bytes size at entry exit count r
-  unfolding Went Says WentMany ftSelection behind
+  unfolding Went Says WentMany ftSelection prefixed
   whole-is (reached e j) a b = record {
     went = record { on = omega (arith, a .went .on, b .went .on); end-within = b .went .end-within; few = omega (arith, a .went .few, b .went .few) };
     says = λ n l.
         let s = a .says n l in
         let t = b .says n (omega (arith, a .went .on, a .went .end-within)) in
-        record { codes = s .codes ++ t .codes; is = then-read (filters n) (s .is) ∙ ap (behind (s .codes)) (t .is); wrote = wrote-append (s .wrote) (t .wrote) };
+        record { codes = s .codes ++ t .codes; is = then-read (filters n) (s .is) ∙ ap (prefixed (s .codes)) (t .is); wrote = wrote-append (s .wrote) (t .wrote) };
   }
   whole-is (stopped x y) a b = answers-failed (λ n l. let s = a .says n l in
-      then-read (filters n) (s .is) ∙ ap (behind (s .codes)) (b .says n (omega (arith, a .went .on, a .went .end-within))))
+      then-read (filters n) (s .is) ∙ ap (prefixed (s .codes)) (b .says n (omega (arith, a .went .on, a .went .end-within))))
 
 -- ---- ftnot
 
@@ -89,7 +89,7 @@ module _ {negated : Bool} {bytes : List ℕ} {size at p : ℕ} (g : Negated nega
 -- ---- a phrase, or a selection in parentheses
 
 module _ {bytes : List ℕ} {size at : ℕ} where
-  pub primary-words : {entry exit : List ℕ} {count e : ℕ} (r : Step) → Begins s-quote bytes size at e → Answers (λ _. words maxWaiting 0) bytes size e entry exit count r
+  pub primary-words : {entry exit : List ℕ} {count e : ℕ} (r : Step) → Begins s-quote bytes size at e → Answers (λ _. words maxWords 0) bytes size e entry exit count r
       → Answers primaryRule bytes size at entry exit count r
   unfolding ftPrimary
   primary-words r b a = answers-from r (λ n l. rw (b .first, b .rest)) (omega (arith, b .on)) a
@@ -115,9 +115,9 @@ module _ {bytes : List ℕ} {size at : ℕ} where
 
         module _ {q m : ℕ} (a : Answers wholeRule bytes size e entry exit count (reached q m)) where
           pub primary-open : {x y : ℕ} → expect s-closing (streamIn bytes size q) ≡ failed x y → Answers primaryRule bytes size at entry exit count (stopped x y)
-          unfolding Says behind
+          unfolding Says prefixed
           primary-open h = answers-failed (λ n l. let t = a .says (n - 1) (omega (arith, b .on, b .end-within)) in
-              inner-is n l ∙ then-read (expect s-closing) (t .is) ∙ ap (behind (t .codes)) h)
+              inner-is n l ∙ then-read (expect s-closing) (t .is) ∙ ap (prefixed (t .codes)) h)
 
           pub primary-closed : {d : ℕ} → Begins s-closing bytes size q d → Answers primaryRule bytes size at entry exit count (reached d m)
           unfolding Went Says

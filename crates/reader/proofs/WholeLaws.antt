@@ -16,7 +16,7 @@ use Rattle.model.specs.Limits.{maxCodes, maxText}
 use Rattle.model.specs.TextAnswer.{TextAnswer, codes, error}
 use Rattle.grammar.specs.Stream.{Stream, ends, token, restOf, streamAt}
 use Rattle.grammar.specs.Symbols.{symbolIn, noMore}
-use Rattle.grammar.specs.Grammar.{Outcome, failed, read, behind, _then_, expect, ftSelection, answerIn, outcomeOf, readText}
+use Rattle.grammar.specs.Grammar.{Outcome, failed, read, prefixed, _then_, expect, ftSelection, answerIn, outcomeOf, readText}
 use Rattle.grammar.proofs.SymbolsLaws.{symbol-more}
 use Rattle.scanner.specs.Scanned.{Scanned, startOf, symbolAt}
 use Rattle.flat_rules.specs.Answers.{Answers, ReadsTo, Says, pairs}
@@ -43,7 +43,7 @@ module _ (bytes entry exit : List ℕ) (size : ℕ) (held : size ≤ length byte
 
   module _ {q m t : ℕ} (a : Answers (λ k. ftSelection (suc k)) bytes size 0 entry exit 0 (reached q m)) (s : Scanned bytes size q t) where
     pub whole-goes-on : (r : ℕ) → stepOf r ≡ stopped 10 (startOf t + 1) → ¬ (symbolAt t ≡ noMore) → Says (outcomeOf text) text entry exit 0 (stepOf r)
-    unfolding Says outcomeOf behind
+    unfolding Says outcomeOf prefixed
     whole-goes-on r e h =
         let w = selection-says a in
         let more : eqb (symbolIn (streamAt text q)) noMore ≡ false = ne-eqb _ _ (λ z. h (sym (s .symbol-is) ∙ z)) in

@@ -58,7 +58,7 @@ module _ (bytes word : List ℕ) (start end : ℕ) (inside : Inside bytes end st
 
 -- ---- a word among others
 
--- one keyword: the word is it, or stands behind it
+-- one keyword: the word is it, or stands after it
 module _ (n : ℕ) (k : String) (ks : List String) (w : List ℕ) (t : Bool) (is : t ≡ sameBytes w (bytesOf k))
     (whole : ℕ) (left : numberAmong n (k ∷ ks) w ≡ whole) where
   pub found : t ≡ true → n ≡ whole
@@ -80,7 +80,7 @@ among-most n (k ∷ ks) w = at (sameBytes w (bytesOf k)) (among-most (suc n) ks 
 pub keyword-most : (w : List ℕ) (r : ℕ) → r ≡ numberAmong 1 keywords w → r ≤ otherWord
 keyword-most w r e = omega (arith, e, among-most 1 keywords w)
 
--- one row of keywords: the word is in it, or in a row behind it
+-- one row of keywords: the word is in it, or in a row after it
 among-either : (n : ℕ) (ks ls : List String) (w : List ℕ)
     → (numberAmong n ks w < n + length ks → numberAmong n ks w ≡ numberAmong n (ks ++ ls) w)
     × (n + length ks ≤ numberAmong n ks w → numberAmong (n + length ks) ls w ≡ numberAmong n (ks ++ ls) w)

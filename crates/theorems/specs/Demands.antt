@@ -223,54 +223,69 @@ Demand3 = (section selection : List ℕ) (work : ℕ) → Demand3Of section sele
 
 -- ---- document 02's F-1, typed searches
 
--- The tokens of a text derive codes.
+-- The tokens of a text derive codes; "text of at most 2,048 bytes".
 abbrev pub Derives : List ℕ → List Code → Type 0
 Derives text cs = (ts : List Token) × Tokens 1 text ts × FTSelection ts cs
 
--- F-1: "10 where the grammar doesn't allow it (or length + 1), else 11 for a word number over 4,294,967,295 or another number over 4,096"
+abbrev pub HasCodes : List ℕ → List Code → Type 0
+HasCodes text cs = (length text ≤ maxText) × Derives text cs
+
+-- F-1: "10 where the grammar doesn't allow it (or length + 1), else 11 for a word number over 4,294,967,295 or another number over 4,096"; "11 at place 0,
+-- first of all, for too long a text"
 abbrev pub FailsAt : List ℕ → Refusal → Type 0
 FailsAt text r = (ts : List Token) × Tokens 1 text ts
     × (((r .number ≡ 10) × NotAllowed ts (suc (length text)) (r .place)) ⊎ ((r .number ≡ 11) × TooLarge ts (suc (length text)) (r .place)))
 
--- for a text: the reader reads the grammar and nothing else
-pub record ReaderOf (text : List ℕ) : Type 0 where
-  -- Every text has exactly one answer,
+abbrev pub HasError : List ℕ → Refusal → Type 0
+HasError text r = ((maxText < length text) × (r ≡ refusal 11 0)) ⊎ ((length text ≤ maxText) × FailsAt text r)
+
+-- for a text: it has exactly one answer, codes or an error as the productions say
+pub record TextOf (text : List ℕ) : Type 0 where
   pub some-answer : (a : TextAnswer) × AnswerOf text a
   pub one-answer : (a b : TextAnswer) → AnswerOf text a → AnswerOf text b → a ≡ b
-  -- codes exactly where its tokens derive them, and then no others,
-  pub codes-exactly : (cs : List Code) → AnswerOf text (codes cs) ↔ ((length text ≤ maxText) × Derives text cs)
+  pub codes-exactly : (cs : List Code) → AnswerOf text (codes cs) ↔ HasCodes text cs
   pub codes-unique : (cs ds : List Code) → Derives text cs → Derives text ds → cs ≡ ds
-  -- an error exactly where the productions say so, or: "11 at place 0, first of all, for too long a text".
-  pub error-exactly : (r : Refusal)
-      → AnswerOf text (error r) ↔ (((maxText < length text) × (r ≡ refusal 11 0)) ⊎ ((length text ≤ maxText) × FailsAt text r))
+  pub error-exactly : (r : Refusal) → AnswerOf text (error r) ↔ HasError text r
+
+-- a text's error by its number
+abbrev pub OfText : Refusal → Type 0
+OfText r = (r .number ≡ 10) ⊎ (r .number ≡ 11)
 
 -- for a section, a text and its answer, working memory's length, the listing buffer and a lent selection: what the typed calls answer
-pub record TypedOf (section text : List ℕ) (a : TextAnswer) (work : ℕ) (buffer lent : List ℕ) : Type 0 where
+pub record TypedOf (section text : List ℕ) (a : TextAnswer) (work : ℕ) (buffer selection : List ℕ) : Type 0 where
   -- "What a typed search answers is what its codes answer."
-  pub listing-of-codes : (cs : List Code) → AnswerOf text (codes cs)
+  pub listing-of-codes : (cs : List Code) → HasCodes text cs
       → (typedListing section a work (length buffer) ≡ listingAnswer section (selectionOf cs) work (length buffer))
       × (typedBuffer section a work buffer ≡ listingBuffer section (selectionOf cs) work buffer)
-  pub quick-of-codes : (cs : List Code) → AnswerOf text (codes cs) → typedQuick section a work ≡ quickAnswer section (selectionOf cs) work
+  pub quick-of-codes : (cs : List Code) → HasCodes text cs → typedQuick section a work ≡ quickAnswer section (selectionOf cs) work
+  -- "over 64 codes is refusal 3": so of a typed call, after 1 and 2.
+  pub over-64 : (cs : List Code) → maxCodes < length cs → wrongSelection (selectionOf cs) ≡ some 0
   -- The text's errors come "all before document 01's refusals": whatever section and memory are, and nothing is written.
-  pub error-first : (r : Refusal) → AnswerOf text (error r)
+  pub error-first : (r : Refusal) → HasError text r
       → ListingRefuses (typedListing section a work (length buffer)) r
       × (typedBuffer section a work buffer ≡ buffer)
       × QuickRefuses (typedQuick section a work) r
-      × (readAnswer a (length lent) ≡ ReadingRefused r)
+      × (readAnswer a (length selection) ≡ ReadingRefused r)
+      × (readSelection a selection ≡ selection)
   -- Refusals 10 and 11 are the text's errors, the others those of its codes.
-  pub listing-error-exactly : (r : Refusal)
-      → (ListingRefuses (typedListing section a work (length buffer)) r × (10 ≤ r .number)) ↔ AnswerOf text (error r)
-  pub quick-error-exactly : (r : Refusal) → (QuickRefuses (typedQuick section a work) r × (10 ≤ r .number)) ↔ AnswerOf text (error r)
-  -- The reader alone gives the codes exactly where they are at most 64 and 129 numbers are lent, as a selection; the rest is unchanged,
-  pub read-exactly : (m : ℕ) → (readAnswer a (length lent) ≡ Read m)
-      ↔ ((cs : List Code) × AnswerOf text (codes cs) × (length cs ≡ m) × (m ≤ maxCodes) × (selectionLength ≤ length lent))
-  pub read-holds : (cs : List Code) (m : ℕ) → AnswerOf text (codes cs) → readAnswer a (length lent) ≡ Read m
-      → readSelection a lent ≡ selectionOf cs ++ drop (length (selectionOf cs)) lent
-  -- and all of it by a refusal.
-  pub read-unchanged : (r : Refusal) → readAnswer a (length lent) ≡ ReadingRefused r → readSelection a lent ≡ lent
+  pub listing-error-exactly : (r : Refusal) → (ListingRefuses (typedListing section a work (length buffer)) r × OfText r) ↔ HasError text r
+  pub quick-error-exactly : (r : Refusal) → (QuickRefuses (typedQuick section a work) r × OfText r) ↔ HasError text r
+  -- The reader alone reads the grammar and nothing else. It gives the codes of a text exactly where they are at most 64 and 129 numbers are lent,
+  pub read-exactly : (m : ℕ) → (readAnswer a (length selection) ≡ Read m)
+      ↔ ((cs : List Code) × HasCodes text cs × (length cs ≡ m) × (m ≤ maxCodes) × (selectionLength ≤ length selection))
+  -- and refuses exactly by the text's error, then 3 for over 64 codes, then 8.
+  pub read-refused-exactly : (r : Refusal) → (readAnswer a (length selection) ≡ ReadingRefused r)
+      ↔ (HasError text r
+      ⊎ ((cs : List Code) × HasCodes text cs
+      × (((maxCodes < length cs) × (r ≡ refusal 3 0)) ⊎ ((length cs ≤ maxCodes) × (length selection < selectionLength) × (r ≡ refusal 8 0)))))
+  -- The selection then holds the codes, and the rest of it is unchanged; all of it by a refusal.
+  pub read-holds : (cs : List Code) (m : ℕ) → HasCodes text cs → readAnswer a (length selection) ≡ Read m
+      → (length (selectionOf cs) ≤ length selection) × (readSelection a selection ≡ selectionOf cs ++ drop (length (selectionOf cs)) selection)
+  pub read-unchanged : (r : Refusal) → readAnswer a (length selection) ≡ ReadingRefused r → readSelection a selection ≡ selection
 
 pub record TypedSearches : Type 0 where
-  pub reader : (text : List ℕ) → ReaderOf text
-  pub calls : (section text : List ℕ) (a : TextAnswer) (work : ℕ) (buffer lent : List ℕ) → AnswerOf text a → TypedOf section text a work buffer lent
+  pub texts : (text : List ℕ) → TextOf text
+  pub calls : (section text : List ℕ) (a : TextAnswer) (work : ℕ) (buffer selection : List ℕ) → AnswerOf text a
+      → TypedOf section text a work buffer selection
   -- model/specs/TypedExamples.antt
   pub examples : ExamplesHold

@@ -4,7 +4,7 @@ use mathlib.Core.Path.{refl}
 use mathlib.Core.Logic.{inl, inr, ⊎-elim}
 use native.Mathlib.Omega.{arith}
 use Rattle.model.specs.declared.Code.the-variants.{Word, Phrase}
-use Rattle.model.specs.Limits.{maxWaiting}
+use Rattle.model.specs.Limits.{maxWords}
 use Rattle.flat_rules.proofs.AnswersLaws.{count-short, start-short}
 use Rattle.flat_rules.proofs.TokensLaws.{answers-code, answers-over, answers-refused, one-more}
 use Rattle.flat_rules.proofs.PhrasesLaws.{Phrasing, words-closed, words-full, words-none, words-on, words-over, words-start, words-step}
@@ -16,7 +16,7 @@ abbrev Inv-loop : tie.InvT-loop
 Inv-loop text size at codes₀ count p₀ n₀ k₀ codes p n k = Phrasing text size at codes₀ codes count p n k
 
 abbrev μ-loop : tie.MeasureT-loop
-μ-loop text size at codes₀ count p₀ n₀ k₀ codes p n k = maxWaiting - k
+μ-loop text size at codes₀ count p₀ n₀ k₀ codes p n k = maxWords - k
 
 loop-holds : tie.Need-loop-holds Inv-loop μ-loop
 loop-holds c = words-start (c .pre)

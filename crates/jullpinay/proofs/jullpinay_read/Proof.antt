@@ -21,7 +21,11 @@ returns c =
     let typed = c .before .before .before .before .read .ensures in
     let put = c .put-reading .ensures in
     let answer = c .before .before .before .before .before .before .before .before .args .answer .now in
-    (λ a h. put .0 ∙ ap (λ x. getD (readingValues x) 0 0) (typed .0 a h), (λ a h. put .1 ∙ ap (λ x. sets answer 0 (readingValues x)) (typed .0 a h), typed .1 .1))
+    let first = typed .0 in
+    (
+      record { answer = first .answer; answers = first .answers; holds = put .0 ∙ ap (λ x. getD (readingValues x) 0 0) (first .holds) },
+      (record { answer = first .answer; answers = first .answers; holds = put .1 ∙ ap (λ x. sets answer 0 (readingValues x)) (first .holds) }, typed .1 .1),
+    )
 
 pub jullpinay-read-spec : {M : Type 1} → statement M
 jullpinay-read-spec = tie.close (tie.spec read-requires put-reading-requires same-length returns)

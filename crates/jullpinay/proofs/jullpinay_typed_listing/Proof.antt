@@ -24,7 +24,11 @@ returns c =
     let typed = c .before .before .before .before .before .before .typed-listing .ensures in
     let put = c .put-listing .ensures in
     let answer = c .before .before .before .before .before .before .before .before .before .before .before .before .before .args .answer .now in
-    (λ a h. put .0 ∙ ap (λ x. getD (listingValues x) 0 0) (typed .0 a h), (λ a h. put .1 ∙ ap (λ x. sets answer 0 (listingValues x)) (typed .0 a h), typed .1 .1))
+    let first = typed .0 in
+    (
+      record { answer = first .answer; answers = first .answers; holds = put .0 ∙ ap (λ x. getD (listingValues x) 0 0) (first .holds) },
+      (record { answer = first .answer; answers = first .answers; holds = put .1 ∙ ap (λ x. sets answer 0 (listingValues x)) (first .holds) }, typed .1 .1),
+    )
 
 pub jullpinay-typed-listing-spec : {M : Type 1} → statement M
 jullpinay-typed-listing-spec = tie.close (tie.spec typed-listing-requires put-listing-requires same-length same-length-2 returns)

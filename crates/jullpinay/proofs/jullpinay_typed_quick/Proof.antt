@@ -21,7 +21,11 @@ returns c =
     let typed = c .before .before .before .before .typed-quick .ensures in
     let put = c .put-quick .ensures in
     let answer = c .before .before .before .before .before .before .before .before .before .args .answer .now in
-    (λ a h. put .0 ∙ ap (λ x. getD (quickValues x) 0 0) (typed .0 a h), λ a h. put .1 ∙ ap (λ x. sets answer 0 (quickValues x)) (typed .0 a h))
+    let first = typed .0 in
+    (
+      record { answer = first .answer; answers = first .answers; holds = put .0 ∙ ap (λ x. getD (quickValues x) 0 0) (first .holds) },
+      record { answer = first .answer; answers = first .answers; holds = put .1 ∙ ap (λ x. sets answer 0 (quickValues x)) (first .holds) },
+    )
 
 pub jullpinay-typed-quick-spec : {M : Type 1} → statement M
 jullpinay-typed-quick-spec = tie.close (tie.spec typed-quick-requires put-quick-requires same-length returns)
