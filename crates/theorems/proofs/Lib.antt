@@ -5,5 +5,6 @@ pub mod Demand3
 pub mod TypedSearches
 -- .. and the laws of their words.
 pub mod WordsLaws
+pub mod SpelledLaws
 pub mod TableLaws
 pub mod NumbersLaws

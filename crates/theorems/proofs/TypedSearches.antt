@@ -21,7 +21,7 @@ use Rattle.model.specs.declared.Refusal.{Refusal}
 use Rattle.model.specs.Answers.{bufferUnless, listingAnswer, quickAnswer}
 use Rattle.model.specs.Checks.{refusal, wrongSelection}
 use Rattle.model.specs.Limits.{maxCodes, selectionLength}
-use Rattle.model.specs.Section.{wellSized}
+use Rattle.model.specs.Section.{size, wellSized}
 use Rattle.model.specs.Selection.{kindOf, operandOf}
 use Rattle.model.specs.TextAnswer.{TextAnswer, codes, error, AnswerOf, too-long, by-tokens, selects, not-allowed, too-large}
 use Rattle.model.specs.Typed.{selectionOf, typedListing, typedQuick, codesRefusal, readUnless, readAnswer, readSelection}
@@ -31,6 +31,7 @@ use Rattle.grammar.proofs.ExamplesLaws.{examples-hold}
 use Rattle.grammar.proofs.PartingLaws.{tokens-exactly}
 use Rattle.theorems.specs.Demands.{ListingGiven, ListingRefuses, QuickGiven, QuickRefuses, Derives, HasCodes, HasError, OfText, TextOf, TypedOf, TypedSearches}
 use Rattle.theorems.proofs.Demand1.{demand-1}
+use Rattle.theorems.proofs.SpelledLaws.{derived-spelled}
 
 -- ---- texts
 
@@ -64,6 +65,10 @@ same-codes {text} cs ds (ts, t, d) (us, u, e) =
     let same : us ≡ ts = sym (tokens-exactly text us .1 u) ∙ tokens-exactly text ts .1 t in
     grammar.codes-unique d (rw same at e)
 
+size-codes : (cs : List Code) → size (selectionOf cs) ≡ length cs
+unfolding selectionOf
+size-codes cs = refl
+
 texts : (text : List ℕ) → TextOf text
 texts text = record {
   some-answer = (readText text, grammar.some-answer text);
@@ -71,6 +76,7 @@ texts text = record {
   codes-exactly = λ cs. (derives, derived);
   codes-unique = same-codes;
   error-exactly = λ r. (fails, failing r);
+  codes-kept = λ cs d. (size-codes cs, derived-spelled (d .2));
 }
 
 -- ---- what document 01's calls refuse

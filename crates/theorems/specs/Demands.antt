@@ -29,6 +29,7 @@ use Rattle.model.specs.Lists.{Every}
 use Rattle.model.specs.Matches.{Match, strings}
 use Rattle.model.specs.Productions.{FTSelection}
 use Rattle.model.specs.Section.{size, sentenceAt, paragraphAt, sectionOf}
+use Rattle.model.specs.Selection.{codeAt, upTo}
 use Rattle.model.specs.TextAnswer.{TextAnswer, codes, error, AnswerOf, NotAllowed, TooLarge}
 use Rattle.model.specs.Tokens.{Token, Tokens}
 use Rattle.model.specs.Trees.{Tree, placeOf, treeOf, parts}
@@ -246,6 +247,8 @@ pub record TextOf (text : List ℕ) : Type 0 where
   pub codes-exactly : (cs : List Code) → AnswerOf text (codes cs) ↔ HasCodes text cs
   pub codes-unique : (cs ds : List Code) → Derives text cs → Derives text ds → cs ≡ ds
   pub error-exactly : (r : Refusal) → AnswerOf text (error r) ↔ HasError text r
+  -- What document 01's checks and calls see in a selection of the codes are those codes.
+  pub codes-kept : (cs : List Code) → Derives text cs → (size (selectionOf cs) ≡ length cs) × (upTo (codeAt (selectionOf cs)) (length cs) ≡ cs)
 
 -- a text's error by its number
 abbrev pub OfText : Refusal → Type 0
