@@ -37,7 +37,7 @@ fn print_listing(
     ensures { λ r. ⌜ take r (now (text .exit)) ≡ listingOf (now (section .entry)) (now (selection .entry)) ⌝ }
     ensures { λ r. ⌜ r ≤ length (now (text .exit)) ⌝ }
 {
-    let answer = engine::listing(section, selection, work, buffer);
+    let answer = calls::listing(section, selection, work, buffer);
     text::put_listing_text(answer, buffer, text)
 }
 

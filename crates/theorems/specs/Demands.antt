@@ -1,7 +1,7 @@
--- The three demands, sentence by sentence, and document 02's F-1, over the definitions that the calls' contracts name (engine/src/lib.rt): the listing
--- answers `listingAnswer ..` and leaves `listingBuffer ..` in the buffer, the quick answer answers `quickAnswer ..`, the snippet is `snippetOf ..`; for
--- the answer of its text a typed call answers `typedListing ..`, `typedQuick ..`, `readAnswer ..`. So what is proved of these holds of the calls.
--- proofs/ has a proof of each.
+-- The three demands, sentence by sentence, and document 02's F-1, over the definitions that the calls' contracts name (calls/src/lib.rt and
+-- engine/src/lib.rt): the listing answers `listingAnswer ..` and leaves `listingBuffer ..` in the buffer, the quick answer answers `quickAnswer ..`, the
+-- snippet is `snippetOf ..`; for the answer of its text a typed call answers `typedListing ..`, `typedQuick ..`, `readAnswer ..`. So what is proved of
+-- these holds of the calls. proofs/ has a proof of each.
 -- Quotation marks enclose the demands' own words, or document 01's where it is named. `A ↔ B` is 'A exactly when B', `(x : A) × B` 'there is an x with
 -- B', `⊎` 'or', `¬` 'not'.
 use Prim.Native.Nat.{ℕ, suc, _≤_, _<_}

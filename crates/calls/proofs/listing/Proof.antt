@@ -2,10 +2,10 @@
 use mathlib.Core.Path.{refl, ap}
 use lib.ListN.{length}
 use Rattle.model.specs.Answers.{listingValues}
-use Rattle.engine.proofs.ListingLaws.{checks-refuse, ready, building-refuses, slot, built-lists, buffer-enough}
+use Rattle.calls.proofs.ListingLaws.{checks-refuse, ready, building-refuses, slot, built-lists, buffer-enough}
 use borrow.Author.Needs.{needs}
-use Rattle.engine.proofs.listing.Statement.{statement}
-use Rattle.engine.proofs.listing.Tie as tie
+use Rattle.calls.proofs.listing.Statement.{statement}
+use Rattle.calls.proofs.listing.Tie as tie
 
 check-listing-requires : tie.Need-check-listing-requires
 check-listing-requires c κs = search needs

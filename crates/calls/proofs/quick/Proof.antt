@@ -2,10 +2,10 @@
 use mathlib.Core.Path.{refl, ap}
 use lib.ListN.{length}
 use Rattle.model.specs.Answers.{quickValues}
-use Rattle.engine.proofs.QuickLaws.{checks-refuse, ready, walk-answers}
+use Rattle.calls.proofs.QuickLaws.{checks-refuse, ready, walk-answers}
 use borrow.Author.Needs.{needs}
-use Rattle.engine.proofs.quick.Statement.{statement}
-use Rattle.engine.proofs.quick.Tie as tie
+use Rattle.calls.proofs.quick.Statement.{statement}
+use Rattle.calls.proofs.quick.Tie as tie
 
 check-quick-requires : tie.Need-check-quick-requires
 check-quick-requires c κs = search needs

@@ -34,7 +34,7 @@ use Rattle.build.specs.State.{Buildable}
 use Rattle.build.specs.PartList.{PartList}
 use Rattle.build.specs.declared.Part.{Part}
 use Rattle.build.specs.declared.Part.the-variants.{Built, Refused as PartRefused}
-use Rattle.engine.proofs.WholeLaws.{whole-built, whole-tree}
+use Rattle.calls.proofs.WholeLaws.{whole-built, whole-tree}
 
 -- the numbers of a list in the first slot, and its answer
 pub listed-held : {mem : List ℕ} {ms : List Match} {m k : ℕ} {answer : Bool} → SlotHolds mem 0 ms → m ≡ matchesAt mem 0 → k ≡ stringsAt mem 0 → answer ≡ isYes ms

@@ -22,7 +22,7 @@ use Rattle.model.proofs.AnswersLaws.{checked-accepted, checked-refused}
 use Rattle.model.proofs.ChecksLaws.{otherwise-none}
 use Rattle.model.proofs.TestsLaws.{cond-none}
 use Rattle.walk.specs.Walkable.{Walkable}
-use Rattle.engine.proofs.WholeLaws.{whole-walked, whole-tree}
+use Rattle.calls.proofs.WholeLaws.{whole-walked, whole-tree}
 
 module _ (section selection : List ℕ) (work : ℕ) where
   -- a refusal of the checks is the call's

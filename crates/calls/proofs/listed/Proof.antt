@@ -1,8 +1,8 @@
 -- The slot's header has its counts.
-use Rattle.engine.proofs.ListingLaws.{listed-held}
+use Rattle.calls.proofs.ListingLaws.{listed-held}
 use borrow.Author.Needs.{needs}
-use Rattle.engine.proofs.listed.Statement.{statement}
-use Rattle.engine.proofs.listed.Tie as tie
+use Rattle.calls.proofs.listed.Statement.{statement}
+use Rattle.calls.proofs.listed.Tie as tie
 
 put-listing-requires : tie.Need-put-listing-requires
 put-listing-requires c κs = search needs
