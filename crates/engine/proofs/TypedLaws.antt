@@ -1,14 +1,13 @@
 -- A typed call: what the reader puts down of a text's codes is their selection to the checks, and so to the calls.
 use Prim.Native.Nat.{ℕ, _+_, _*_, _≤_, _<_}
 use native.Mathlib.Omega.{arith}
-use mathlib.Core.Bool.{Bool, true, false, _&&_, cond}
-use mathlib.Core.List.{List, [], _∷_, _++_, map}
-use mathlib.Core.Logic.{_⊎_, inl, inr}
+use mathlib.Core.Bool.{Bool, true, false, cond}
+use mathlib.Core.List.{List, [], _∷_, _++_}
 use mathlib.Core.Option.{Option, some, none}
 use mathlib.Core.Path.{_≡_, refl, sym, ap, _∙_}
 use borrow.Author.Tests.{le-leb, lt-leb, leb-true, leb-false}
-use lib.Dec.{leb, eqb}
-use lib.ListN.{length, take, drop, length-append, length-map}
+use lib.Dec.{leb}
+use lib.ListN.{length, take, drop}
 use lib.Seq.{sets, sets-eq, length-sets}
 use Rattle.model.specs.declared.Code.{Code}
 use Rattle.model.specs.declared.Listing.{Listing}
@@ -21,11 +20,11 @@ use Rattle.model.specs.declared.Refusal.{Refusal}
 use Rattle.model.specs.Answers.{listingRefusal, listingAnswer, listingBuffer, listingValues, quickAnswer, quickValues}
 use Rattle.model.specs.Checks.{refusal, otherwise, tried, wrongSelection, sectionRefusal, selectionRefusal, inputRefusal, listingChecks, quickChecks}
 use Rattle.model.specs.Limits.{maxCodes, selectionLength}
-use Rattle.model.specs.Section.{size, wellSized}
-use Rattle.model.specs.Selection.{kindOf, operandOf}
+use Rattle.model.specs.Section.{size}
 use Rattle.model.specs.TextAnswer.{TextAnswer, codes, error, ForAnswer}
 use Rattle.model.specs.Typed.{selectionOf, typedListing, typedBuffer, typedQuick, readAnswer, readSelection, readingValues}
 use Rattle.model.proofs.SetsLaws.{take-written}
+use Rattle.model.proofs.TypedLaws.{length-selection, selection-over, wrong-over}
 use Rattle.grammar.specs.Grammar.{readText}
 use Rattle.grammar.proofs.AnswerLaws.{some-answer}
 use Rattle.reader.specs.Selections.{typedNumbers, typedSize}
@@ -89,18 +88,10 @@ typed-room m = at (leb m maxCodes) refl where
   at true h = omega (arith, leb-true m maxCodes h)
   at false h = omega arith
 
-length-selection : (cs : List Code) → length (selectionOf cs) ≡ 1 + 2 * length cs
-unfolding selectionOf
-length-selection cs = omega (arith, length-append (map kindOf cs) (map operandOf cs), length-map cs kindOf, length-map cs operandOf)
-
--- "3, place 0": over 64 codes, whatever follows
-over-refused : (m : ℕ) (rest : List ℕ) → maxCodes < m → selectionRefusal (m ∷ rest) ≡ some (refusal 3 0)
-unfolding selectionRefusal tried wrongSelection wellSized
-over-refused m rest h = rw (le-leb 1 m (omega arith), lt-leb m maxCodes h)
-
-over-selection : (cs : List Code) → maxCodes < length cs → selectionRefusal (selectionOf cs) ≡ some (refusal 3 0)
-unfolding selectionOf
-over-selection cs h = over-refused (length cs) (map kindOf cs ++ map operandOf cs) h
+-- "3, place 0" is the first of a selection's refusals
+three-refused : (s : List ℕ) → wrongSelection s ≡ some 0 → selectionRefusal s ≡ some (refusal 3 0)
+unfolding selectionRefusal tried
+three-refused s e = rw e
 
 -- up to 64 codes are put down as their selection
 put-few : (cs : List Code) (entry exit : List ℕ) (m : ℕ) → length entry ≡ 129 → exit ≡ sets entry 0 (typedNumbers (codes cs)) → m ≡ length cs → length cs ≤ maxCodes
@@ -120,7 +111,7 @@ put-many cs entry exit m l e f many =
     let one : typedSize m ≡ 1 = rw (f, h) in
     let put : exit ≡ sets entry 0 (length cs ∷ []) = rw h at e in
     let room : length exit ≡ 129 = ap length put ∙ length-sets entry 0 (length cs ∷ []) ∙ l in
-    ap selectionRefusal (take-written entry (length cs ∷ []) (typedSize m) put one (omega (arith, one, room))) ∙ over-refused (length cs) [] many
+    ap selectionRefusal (take-written entry (length cs ∷ []) (typedSize m) put one (omega (arith, one, room))) ∙ three-refused (length cs ∷ []) (wrong-over (length cs) [] many)
 
 put-down : (cs : List Code) (entry exit : List ℕ) (m : ℕ) → length entry ≡ 129 → exit ≡ sets entry 0 (typedNumbers (codes cs)) → m ≡ length cs
     → SameToCalls (take (typedSize m) exit) (selectionOf cs)
@@ -129,7 +120,7 @@ put-down cs entry exit m l e f = at (leb (length cs) maxCodes) refl where
   at true h = same (put-few cs entry exit m l e f (leb-true (length cs) maxCodes h))
   at false h =
       let many = leb-false (length cs) maxCodes h in
-      both-refused (refusal 3 0) (put-many cs entry exit m l e f many) (over-selection cs many)
+      both-refused (refusal 3 0) (put-many cs entry exit m l e f many) (three-refused (selectionOf cs) (selection-over cs many))
 
 -- ---- the reader alone
 

@@ -1,12 +1,12 @@
 -- How answers go together: codes after codes, one rule after another, and what a token's symbol says of the rule that asks for it.
-use Prim.Native.Nat.{ℕ, suc, _+_, _*_, _-_, _≤_, _<_}
+use Prim.Native.Nat.{ℕ, _+_, _*_, _-_, _≤_, _<_}
 use native.Mathlib.Omega.{arith}
 use mathlib.Core.Path.{_≡_, refl, sym, ap, _∙_}
 use mathlib.Core.Bool.{Bool, true, false}
 use mathlib.Core.List.{List, [], _∷_, _++_, append-nil, flatMap}
 use borrow.Author.Tests.{ne-eqb, eq-eqb}
 use lib.Dec.{eqb}
-use lib.ListN.{length, set, take, length-append}
+use lib.ListN.{length, take, length-append}
 use lib.Seq.{sets}
 use Rattle.model.specs.declared.Code.{Code}
 use Rattle.model.specs.Limits.{maxText}

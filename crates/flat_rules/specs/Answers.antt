@@ -1,7 +1,7 @@
 -- What a rule's function says: it reads the text from a position on as the grammar's rule does, and writes the codes after the first `count`.
 use Prim.Native.Nat.{ℕ, _+_, _*_, _-_, _≤_, _<_}
 use mathlib.Core.Path.{_≡_}
-use mathlib.Core.List.{List, [], _∷_, _++_, flatMap}
+use mathlib.Core.List.{List, [], _∷_, flatMap}
 use lib.ListN.{length, take}
 use lib.Seq.{sets}
 use Rattle.model.specs.declared.Code.{Code}

@@ -90,7 +90,7 @@ fn coded(
     steps::read(scanner::end_of(t), count + 1)
 }
 
-// One of two words; the first has the code of a kind, the second that of the next.
+// One of two words whose symbols follow each other, and so do the kinds of their codes.
 fn either(
     text: &[u8; 2048],
     size: usize,
@@ -99,18 +99,17 @@ fn either(
     count: u32,
     first: u32,
     kind: u32,
-    second: u32,
 ) -> u64
     requires { ⌜ Ready (now text) size at count ⌝ }
-    requires { ⌜ (first < 24) × (second < 24) × (kind < 15) ⌝ }
-    ensures { λ r. ⌜ ((c d : Code) → CodeIs c kind 0 → CodeIs d (kind + 1) 0 → Answers (λ _. eitherRule first c second d) (now (text .entry)) size at (now (codes .entry)) (now (codes .exit)) count (stepOf r)) ⌝ }
+    requires { ⌜ (first < 23) × (kind < 15) ⌝ }
+    ensures { λ r. ⌜ ((c d : Code) → CodeIs c kind 0 → CodeIs d (kind + 1) 0 → Answers (λ _. eitherRule first c (first + 1) d) (now (text .entry)) size at (now (codes .entry)) (now (codes .exit)) count (stepOf r)) ⌝ }
 {
     let t = scanner::token_at(text, size, at);
     if scanner::symbol_of(t) == first {
         push(codes, count, kind, 0);
         return steps::read(scanner::end_of(t), count + 1);
     }
-    coded(text, size, at, codes, count, second, kind + 1, 0)
+    coded(text, size, at, codes, count, first + 1, kind + 1, 0)
 }
 
 // A number n and `words`; the operand is n × times + plus.
@@ -238,36 +237,9 @@ fn filter(text: &[u8; 2048], size: usize, at: u32, codes: &mut [u32; 128], count
         }
         symbols::WINDOW => measured(text, size, end, codes, count, 7, 1, 0),
         symbols::DISTANCE => distance(text, size, end, codes, count),
-        symbols::SAME => either(
-            text,
-            size,
-            end,
-            codes,
-            count,
-            symbols::SENTENCE,
-            9,
-            symbols::PARAGRAPH,
-        ),
-        symbols::DIFFERENT => either(
-            text,
-            size,
-            end,
-            codes,
-            count,
-            symbols::SENTENCE,
-            11,
-            symbols::PARAGRAPH,
-        ),
-        symbols::AT => either(
-            text,
-            size,
-            end,
-            codes,
-            count,
-            symbols::START,
-            13,
-            symbols::END,
-        ),
+        symbols::SAME => either(text, size, end, codes, count, symbols::SENTENCE, 9),
+        symbols::DIFFERENT => either(text, size, end, codes, count, symbols::SENTENCE, 11),
+        symbols::AT => either(text, size, end, codes, count, symbols::START, 13),
         symbols::ENTIRE => coded(text, size, end, codes, count, symbols::CONTENT, 15, 0),
         _ => steps::error_at(10, t),
     }

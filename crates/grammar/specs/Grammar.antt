@@ -10,7 +10,7 @@
 -- A rule reads the front of the stream and gives the codes in postfix order with the stream left, or the first error. That a text's answer by these
 -- functions is its answer by the productions, and no other, is proved in proofs/.
 use Prim.Native.Nat.{ℕ, zero, suc, _+_}
-use mathlib.Core.Bool.{Bool, true, false, _&&_, not, cond}
+use mathlib.Core.Bool.{Bool, _&&_, not, cond}
 use mathlib.Core.List.{List, [], _∷_, _++_}
 use lib.Dec.{eqb, leb}
 use lib.ListN.{length}

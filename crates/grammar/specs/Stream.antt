@@ -1,7 +1,7 @@
 -- The tokens of a text as a stream, by functions: what the rules of the reader compute with. That a text has these tokens and no others by F-1's own
 -- sentence (model/specs/Tokens.antt) is proved in proofs/.
-use Prim.Native.Nat.{ℕ, zero, suc}
-use mathlib.Core.Bool.{Bool, true, false, _&&_, _||_, cond}
+use Prim.Native.Nat.{ℕ, suc}
+use mathlib.Core.Bool.{Bool, _&&_, _||_, cond}
 use mathlib.Core.List.{List, [], _∷_}
 use lib.Dec.{eqb, leb}
 use lib.ListN.{drop}

@@ -3,8 +3,7 @@ use Prim.Native.Nat.{ℕ, zero, suc, _+_, _*_, _≤_}
 use native.Mathlib.Omega.{arith}
 use mathlib.Core.Path.{_≡_, refl, sym, ap, ap₂, _∙_}
 use mathlib.Core.List.{List, [], _∷_, _++_, map, flatMap, append-nil}
-use lib.ListN.{length, getD, set, length-append}
-use lib.Seq.{sets}
+use lib.ListN.{length, getD, length-append}
 use Rattle.model.specs.Answers.{spanOf, tagOf, spansIn, tagsIn}
 use Rattle.model.specs.Matches.{Str, Match, stringsIn, strings}
 use Rattle.strings.specs.Strings.{strsOf}

@@ -16,3 +16,4 @@ pub mod YesLaws
 pub mod ChecksLaws
 pub mod WalkLaws
 pub mod AnswersLaws
+pub mod TypedLaws

@@ -1,7 +1,7 @@
 -- 'Every string has P' of a list of strings, of a match and of a list of matches, and what every string of a complete AllMatches has: a span within
 -- the section, and the rank of a phrase as its query position.
 use Prim.Native.Nat.{ℕ, _≤_}
-use mathlib.Core.List.{List, [], _∷_}
+use mathlib.Core.List.{List}
 use lib.ListN.{length}
 use Rattle.model.specs.Lists.{Every}
 use Rattle.model.specs.Matches.{Str, Match}

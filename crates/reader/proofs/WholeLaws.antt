@@ -1,22 +1,21 @@
 -- The whole text: a selection and the end, as the grammar's functions say it, and so the text's answer.
 use Prim.Native.Nat.{ℕ, suc, _+_, _-_, _≤_, _<_}
 use native.Mathlib.Omega.{arith}
-use mathlib.Core.Bool.{Bool, true, false, cond}
-use mathlib.Core.List.{List, [], _∷_, _++_, append-nil}
+use mathlib.Core.Bool.{false}
+use mathlib.Core.List.{List, []}
 use mathlib.Core.Path.{_≡_, refl, sym, ap, _∙_}
 use borrow.Author.Tests.{eq-eqb, ne-eqb, le-leb, lt-leb}
-use lib.Dec.{eqb, leb}
+use lib.Dec.{eqb}
 use lib.ListN.{length, take}
 use lib.Seq.{sets, length-take-le}
 use Rattle.model.specs.declared.Code.{Code}
-use Rattle.model.specs.declared.Reading.{Reading}
 use Rattle.model.specs.declared.Reading.the-variants.{Read, Refused}
 use Rattle.model.specs.Checks.{refusal}
 use Rattle.model.specs.Limits.{maxCodes, maxText}
 use Rattle.model.specs.TextAnswer.{TextAnswer, codes, error}
 use Rattle.grammar.specs.Stream.{Stream, ends, token, restOf, streamAt}
 use Rattle.grammar.specs.Symbols.{symbolIn, noMore}
-use Rattle.grammar.specs.Grammar.{Outcome, failed, read, prefixed, _then_, expect, ftSelection, answerIn, outcomeOf, readText}
+use Rattle.grammar.specs.Grammar.{failed, read, prefixed, _then_, expect, ftSelection, answerIn, outcomeOf, readText}
 use Rattle.grammar.proofs.SymbolsLaws.{symbol-more}
 use Rattle.scanner.specs.Scanned.{Scanned, startOf, symbolAt}
 use Rattle.flat_rules.specs.Answers.{Answers, ReadsTo, Says, pairs}

@@ -2,7 +2,6 @@
 // and takes and answers numbers and references to arrays: so the compiler makes one function of the six, and its frame is what a parenthesis costs.
 use flat_rules::steps;
 use scanner::symbols;
-ghost use mathlib.Core.Path.{_≡_};
 ghost use Prim.Native.Nat.{suc};
 ghost use Rattle.grammar.specs.Grammar.{ftAnd, ftMildNot, ftOr, ftPrimary, ftSelection, ftUnaryNot};
 ghost use Rattle.flat_rules.specs.Answers.{Answers, Ready};

@@ -6,10 +6,9 @@ use mathlib.Core.Path.{_≡_, refl, sym, ap, ap₂, _∙_}
 use lib.ListN.{length, getD, take, length-map, List·getD-append, List·getD-map}
 use lib.Seq.{take-suc, take-all, getD-append-add}
 use Rattle.model.specs.declared.Code.{Code}
-use Rattle.model.specs.declared.Code.the-variants.{Word, Phrase, Combine, Not, Filter as Filtered}
+use Rattle.model.specs.declared.Code.the-variants.{Word, Filter as Filtered}
 use Rattle.model.specs.declared.Filter.{Filter}
-use Rattle.model.specs.declared.Pair.the-variants.{Or, And, MildNot}
-use Rattle.model.specs.Limits.{maxNumber, radix}
+use Rattle.model.specs.Limits.{radix}
 use Rattle.model.specs.Lists.{Every}
 use Rattle.model.specs.Parts.{mostOf}
 use Rattle.model.specs.Productions.{Words, no-word, word-more, FTPosFilter, ordered, window, distance-exactly, distance-least, distance-most, distance-from, same-sentence, same-paragraph, different-sentence, different-paragraph, at-start, at-end, entire-content, FTSelection, selection-or, selection-filter, or-and, or-more, and-mild, and-more, mild-unary, mild-more, unary-primary, unary-not, phrase, nested}

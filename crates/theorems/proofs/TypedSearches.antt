@@ -1,30 +1,25 @@
 -- The reader: a text's answer by the productions is what the grammar's functions compute, so there is one and no other. The typed calls: by that answer,
 -- codes or an error, each definition says itself what it answers; a refusal of document 01 has a number up to 9.
-use Prim.Native.Nat.{ℕ, _+_, _*_, _≤_, _<_}
+use Prim.Native.Nat.{ℕ, _≤_, _<_}
 use native.Mathlib.Omega.{arith}
 use mathlib.Core.Bool.{Bool, true, false}
-use mathlib.Core.List.{List, [], _++_, map}
+use mathlib.Core.List.{List, [], _++_}
 use mathlib.Core.Logic.{_⊎_, inl, inr}
 use mathlib.Core.Option.{Option, some, none}
 use mathlib.Core.Path.{_≡_, refl, sym, ap, _∙_}
 use lib.Dec.{leb}
-use lib.ListN.{length, drop, length-append, length-map}
+use lib.ListN.{length, drop}
 use borrow.Author.Tests.{le-leb, lt-leb, leb-true, leb-false}
 use Rattle.model.specs.declared.Code.{Code}
-use Rattle.model.specs.declared.Listing.{Listing}
-use Rattle.model.specs.declared.Listing.the-variants.{Listed, Refused as ListingRefused}
-use Rattle.model.specs.declared.Quick.{Quick}
-use Rattle.model.specs.declared.Quick.the-variants.{Answered, Refused as QuickRefused}
-use Rattle.model.specs.declared.Reading.{Reading}
 use Rattle.model.specs.declared.Reading.the-variants.{Read, Refused as ReadingRefused}
 use Rattle.model.specs.declared.Refusal.{Refusal}
 use Rattle.model.specs.Answers.{bufferUnless, listingAnswer, quickAnswer}
-use Rattle.model.specs.Checks.{refusal, wrongSelection}
+use Rattle.model.specs.Checks.{refusal}
 use Rattle.model.specs.Limits.{maxCodes, selectionLength}
-use Rattle.model.specs.Section.{size, wellSized}
-use Rattle.model.specs.Selection.{kindOf, operandOf}
+use Rattle.model.specs.Section.{size}
 use Rattle.model.specs.TextAnswer.{TextAnswer, codes, error, AnswerOf, too-long, by-tokens, selects, not-allowed, too-large}
 use Rattle.model.specs.Typed.{selectionOf, typedListing, typedQuick, codesRefusal, readUnless, readAnswer, readSelection}
+use Rattle.model.proofs.TypedLaws.{length-selection, selection-over}
 use Rattle.grammar.specs.Grammar.{readText}
 use Rattle.grammar.proofs.AnswerLaws as grammar
 use Rattle.grammar.proofs.ExamplesLaws.{examples-hold}
@@ -102,14 +97,6 @@ not-text : {A : Type 0} (r : Refusal) → r .number ≤ 9 → OfText r → A
 not-text r h (inl e) = absurd (omega arith)
 not-text r h (inr e) = absurd (omega arith)
 
-length-selection : (cs : List Code) → length (selectionOf cs) ≡ 1 + 2 * length cs
-unfolding selectionOf
-length-selection cs = omega (arith, length-append (map kindOf cs) (map operandOf cs), length-map cs kindOf, length-map cs operandOf)
-
-over-limit : (cs : List Code) → maxCodes < length cs → wrongSelection (selectionOf cs) ≡ some 0
-unfolding selectionOf wrongSelection wellSized
-over-limit cs h = rw (le-leb 1 (length cs) (omega arith), lt-leb (length cs) maxCodes h)
-
 module _ (section text : List ℕ) (work : ℕ) (buffer selection : List ℕ) where
   listing-error : (a : TextAnswer) → AnswerOf text a → (r : Refusal) → ListingRefuses (typedListing section a work (length buffer)) r → OfText r → HasError text r
   listing-error (codes cs) h r e n = not-text r (listing-number section (selectionOf cs) work buffer r e) n
@@ -175,7 +162,7 @@ module _ (section text : List ℕ) (work : ℕ) (buffer selection : List ℕ) wh
   calls a h = record {
     listing-of-codes = λ cs k. rw (are cs k) (refl, refl);
     quick-of-codes = λ cs k. rw (are cs k);
-    over-64 = over-limit;
+    over-64 = selection-over;
     error-first = λ r k. rw (is r k) (refl, refl, refl, refl, refl);
     listing-error-exactly = λ r. (λ f. listing-error a h r (f .0) (f .1), λ k. (rw (is r k), of-text r k));
     quick-error-exactly = λ r. (λ f. quick-error a h r (f .0) (f .1), λ k. (rw (is r k), of-text r k));

@@ -1,8 +1,8 @@
 -- The text's error is given as it is; then come the limit of 64 codes and the lent length; then the selection is copied to the front.
 use native.Mathlib.Omega.{arith}
-use mathlib.Core.Path.{refl, sym, ap, _∙_}
+use mathlib.Core.Path.{refl, sym, _∙_}
 use borrow.Author.Needs.{needs}
-use lib.ListN.{length, length-take}
+use lib.ListN.{length-take}
 use lib.Seq.{length-take-le}
 use Rattle.grammar.specs.Grammar.{readText}
 use Rattle.reader.proofs.SelectionsLaws.{reading-refused, reading-read}

@@ -37,6 +37,9 @@ returns c d e is also =
 add-coded : tie.Need-add-coded
 add-coded c = search needs
 
+add-coded-2 : tie.Need-add-coded-2
+add-coded-2 c = search needs
+
 coded-requires : tie.Need-coded-requires
 coded-requires c κs = search needs
 
@@ -57,5 +60,6 @@ either-spec =
     read-requires
     returns
     add-coded
+    add-coded-2
     coded-requires
     returns-2)

@@ -1,5 +1,5 @@
 -- The loop stores the next byte at the next index: the array is one of zeros in which the bytes passed so far are stored.
-use mathlib.Core.Path.{_≡_, refl, sym}
+use mathlib.Core.Path.{refl}
 use native.Mathlib.Omega.{arith}
 use Prim.Native.Nat.{_-_}
 use lib.ListN.{length}

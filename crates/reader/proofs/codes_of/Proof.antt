@@ -1,6 +1,5 @@
 -- A text that is too long has its error at once. Any other is in the array as it was lent, and the whole of it is its answer.
-use native.Mathlib.Omega.{arith}
-use mathlib.Core.Path.{refl, sym, ap, _∙_}
+use mathlib.Core.Path.{refl}
 use borrow.Author.Needs.{needs}
 use Rattle.lent_text.proofs.CopyLaws.{copied-text}
 use Rattle.flat_rules.proofs.AnswersLaws.{step-failed, step-read}

@@ -1,6 +1,5 @@
 -- Invariant: the first i numbers are copied, and the slice has kept its length. Measure: the numbers left.
 use Prim.Native.Nat.{_≤_, _-_}
-use native.Mathlib.Omega.{arith}
 use borrow.Author.Needs.{needs}
 use mathlib.Core.Path.{_≡_, _∙_}
 use lib.ListN.{length, take, length-set}
