@@ -7,7 +7,7 @@
 mod proved;
 mod words;
 
-use proved::{exported, typed};
+use proved::exported;
 use second_engine::typed::{FILTERS, MOST_BYTES, SELECTION};
 use second_engine::{cases, BUFFER, WORK};
 use std::arch::asm;
@@ -186,9 +186,9 @@ impl Typed {
         // SAFETY: the declarations in `proved::typed`, and slices that do not overlap.
         unsafe {
             Typed {
-                read: stack.taken_by(typed::exported::jullpinay_read as *const (), &read),
-                listing: stack.taken_by(typed::exported::jullpinay_typed_listing as *const (), &listing),
-                quick: stack.taken_by(typed::exported::jullpinay_typed_quick as *const (), &quick),
+                read: stack.taken_by(exported::jullpinay_read as *const (), &read),
+                listing: stack.taken_by(exported::jullpinay_typed_listing as *const (), &listing),
+                quick: stack.taken_by(exported::jullpinay_typed_quick as *const (), &quick),
             }
         }
     }

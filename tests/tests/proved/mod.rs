@@ -9,35 +9,8 @@ compile_error!("target/staticlib/libjullpinay.a is not there: build it by `rt st
 
 pub mod typed;
 
-pub mod exported {
-    // Nothing holds these declarations to crates/jullpinay/src/lib.rt: keep them alike. A slice is a pointer and a length.
-    #[link(name = "jullpinay", kind = "static")]
-    extern "C" {
-        pub fn jullpinay_listing(
-            section: *const u32,
-            section_len: usize,
-            selection: *const u32,
-            selection_len: usize,
-            work: *mut u32,
-            work_len: usize,
-            buffer: *mut u32,
-            buffer_len: usize,
-            answer: *mut [u32; 4],
-        ) -> u32;
-
-        pub fn jullpinay_quick(
-            section: *const u32,
-            section_len: usize,
-            selection: *const u32,
-            selection_len: usize,
-            work: *mut u32,
-            work_len: usize,
-            answer: *mut [u32; 3],
-        ) -> u32;
-
-        pub fn jullpinay_snippet(section: *const u32, section_len: usize, from: u32, to: u32) -> usize;
-    }
-}
+#[path = "../../../include/jullpinay.rs"]
+pub mod exported;
 
 /// What an answer holds before a call: no number of it may be left where an answer writes.
 const UNWRITTEN: u32 = 0xDEAD_BEEF;

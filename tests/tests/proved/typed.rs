@@ -1,43 +1,7 @@
 //! The proved engine's calls for typed searches.
 
-use super::UNWRITTEN;
+use super::{exported, UNWRITTEN};
 use second_engine::Refusal;
-
-pub mod exported {
-    // Nothing holds these declarations to crates/jullpinay/src/lib.rt: keep them alike. A slice is a pointer and a length.
-    #[link(name = "jullpinay", kind = "static")]
-    extern "C" {
-        pub fn jullpinay_read(
-            text: *const u8,
-            text_len: usize,
-            selection: *mut u32,
-            selection_len: usize,
-            answer: *mut [u32; 2],
-        ) -> u32;
-
-        pub fn jullpinay_typed_listing(
-            section: *const u32,
-            section_len: usize,
-            text: *const u8,
-            text_len: usize,
-            work: *mut u32,
-            work_len: usize,
-            buffer: *mut u32,
-            buffer_len: usize,
-            answer: *mut [u32; 4],
-        ) -> u32;
-
-        pub fn jullpinay_typed_quick(
-            section: *const u32,
-            section_len: usize,
-            text: *const u8,
-            text_len: usize,
-            work: *mut u32,
-            work_len: usize,
-            answer: *mut [u32; 3],
-        ) -> u32;
-    }
-}
 
 /// The reader alone: what is returned, and the answer's two numbers.
 pub fn read(text: &[u8], selection: &mut [u32]) -> (u32, [u32; 2]) {

@@ -1,0 +1,90 @@
+//! What a manual's sections answer to a search.
+
+use crate::codes::{codes, phrases, Code, Phrase};
+use crate::engine::{Engine, Match, Refusal, Str};
+use crate::refusal::{of_code, of_text, Explained};
+use crate::search::Search;
+
+/// A search that is in order, and the engine to ask.
+pub struct Question<'a> {
+    search: &'a Search<'a>,
+    pub selection: Vec<u32>,
+    codes: Vec<Code>,
+    phrases: Vec<Phrase>,
+    engine: Engine,
+}
+
+/// What a section answers.
+pub enum Answer {
+    No,
+    Yes(Finds),
+    /// Yes, but the listing is refused.
+    Unlisted(Explained),
+    /// Whether yes or no isn't known.
+    Refused(Explained),
+}
+
+/// The listing of a section that says yes.
+pub struct Finds {
+    pub matches: Vec<Match>,
+    /// The index of the first match without excludes.
+    pub deciding: usize,
+    /// The phrases that the search excludes, none of whose finds the deciding match has.
+    pub passed: Vec<Passed>,
+}
+
+/// A phrase that the search excludes, as it is typed, and where the section has it, unless that is refused for size.
+pub struct Passed {
+    pub phrase: String,
+    pub finds: Result<Vec<Str>, Refusal>,
+}
+
+impl Finds {
+    /// The matches that have no exclude.
+    pub fn free(&self) -> impl Iterator<Item = &Match> {
+        self.matches.iter().filter(|found| found.excludes.is_empty())
+    }
+}
+
+impl<'a> Question<'a> {
+    pub fn new(search: &'a Search<'a>) -> Result<Question<'a>, Explained> {
+        let mut engine = Engine::new();
+        let selection = engine.read(&search.typed).map_err(|refusal| of_text(refusal, search))?;
+        let codes = codes(search, &selection);
+        // what is wrong with a search is wrong in every section, the empty one too
+        match engine.quick(&[0], &selection) {
+            Err(refusal) if refusal.is_of_search() => return Err(of_code(refusal, &codes)),
+            _ => {}
+        }
+        let phrases = phrases(&codes);
+        Ok(Question { search, selection, codes, phrases, engine })
+    }
+
+    /// What a section answers, given by its numbers.
+    pub fn ask(&mut self, section: &[u32]) -> Answer {
+        match self.engine.quick(section, &self.selection) {
+            Err(refusal) => Answer::Refused(of_code(refusal, &self.codes)),
+            Ok(false) => Answer::No,
+            Ok(true) => match self.engine.listing(section, &self.selection) {
+                Err(refusal) => Answer::Unlisted(of_code(refusal, &self.codes)),
+                Ok(matches) => Answer::Yes(self.finds(section, matches)),
+            },
+        }
+    }
+
+    fn finds(&mut self, section: &[u32], matches: Vec<Match>) -> Finds {
+        let deciding = matches.iter().position(|found| found.excludes.is_empty());
+        let phrases = (1..).zip(&self.phrases).filter(|(_, phrase)| phrase.is_excluded);
+        let passed = phrases.map(|(query, phrase)| {
+            let listing = self.engine.listing(section, &phrase.selection);
+            let includes = |matches: Vec<Match>| matches.into_iter().flat_map(|found| found.includes);
+            let finds = listing.map(|matches| includes(matches).map(|find| Str { query, ..find }).collect());
+            Passed { phrase: self.search.text[phrase.place.clone()].to_string(), finds }
+        });
+        Finds {
+            matches,
+            deciding: deciding.expect("where the quick answer says yes, a listing has a match without excludes"),
+            passed: passed.collect(),
+        }
+    }
+}

@@ -1,0 +1,161 @@
+//! The command line.
+
+use crate::show::View;
+use std::ffi::OsString;
+use std::path::PathBuf;
+
+pub const HELP: &str = r#"manual: searches a manual in plain text with a proved engine, and shows the finds in its text
+
+usage:
+  manual search FILE SEARCH    which sections answer the search with yes, and why
+      --all                    every match, with what it includes and what excludes it
+      --json                   the answers for programs
+      --quiet                  nothing but the exit status
+      --color WHEN             colour instead of [..]: auto (on a terminal; the default), always or never
+  manual words FILE            each word of the manual with its number
+  manual encode FILE N         section N in the engine's numbers, 32 bits each, the lowest byte first
+  manual encode FILE N SEARCH  the same, and after it the search, as the program ftlist reads them
+  manual --help
+
+FILE. Markdown headings begin sections, and a heading's words belong to its section; blank lines part paragraphs; a
+sentence ends at . ! or ? before a blank or a line's end. A word is a run of letters and digits; case doesn't matter.
+
+SEARCH. One to eight words in double quotes are a phrase. In rising order of what binds more:
+  ftor   ftand   not in   ftnot   parentheses
+and after a whole search, or one in parentheses, any number of filters:
+  same sentence   same paragraph   different sentence   different paragraph   ordered   window N words
+  distance exactly N words   distance at least N words   distance at most N words   distance from N to N words
+  at start   at end   entire content
+'ftnot' gives excludes: what must not be there. A filter takes away the excludes that it doesn't keep, so it may turn a
+no into a yes. A section says yes if one of its matches has no excludes.
+
+examples:
+  manual search manual.md '"needle bed" ftand "oil"'
+  manual search manual.md '"cam" ftand ftnot "cover" same sentence ordered window 6 words'
+  manual search --all manual.md '("yarn" ftand "break" distance at most 3 words) ftor "E12"'
+  manual search --quiet manual.md '"bolt" not in "bolt head"' && echo found
+  manual encode manual.md 12 '"cam"' | target/bin/ftlist
+
+exit status: 0 if a section says yes, 1 if none does, 2 if something is refused or can't be read.
+"#;
+
+#[derive(Debug, PartialEq, Eq)]
+pub enum Command {
+    Help,
+    Search { file: PathBuf, search: String, output: Output, color: Color },
+    Words { file: PathBuf },
+    Encode { file: PathBuf, section: usize, search: Option<String> },
+}
+
+/// What a search prints.
+#[derive(Clone, Copy, Debug, PartialEq, Eq)]
+pub enum Output {
+    Shown(View),
+    Json,
+    Quiet,
+}
+
+#[derive(Clone, Copy, Debug, PartialEq, Eq)]
+pub enum Color {
+    Auto,
+    Always,
+    Never,
+}
+
+/// The options that are given; the last one by name.
+struct Options {
+    help: bool,
+    output: Option<Output>,
+    color: Color,
+    last: Option<String>,
+}
+
+impl Command {
+    /// The command that some arguments give, or what is wrong with them.
+    pub fn parse(arguments: impl IntoIterator<Item = OsString>) -> Result<Command, String> {
+        let mut options = Options { help: false, output: None, color: Color::Auto, last: None };
+        let mut operands = Vec::new();
+        let mut arguments = arguments.into_iter();
+        while let Some(argument) = arguments.next() {
+            match argument.to_str() {
+                Some("--") => operands.extend(arguments.by_ref()),
+                Some(option) if option.starts_with('-') && option != "-" => options.read(option, arguments.by_ref())?,
+                _ => operands.push(argument),
+            }
+        }
+        if options.help {
+            return Ok(Command::Help);
+        }
+        let Some((name, operands)) = operands.split_first() else {
+            return Err("which command? search, words or encode".to_string());
+        };
+        let command = Command::named(&name.to_string_lossy(), operands, &options)?;
+        match (options.last, &command) {
+            (None, _) | (_, Command::Search { .. }) => Ok(command),
+            (Some(option), _) => Err(format!("only 'search' has an option '{option}'")),
+        }
+    }
+
+    fn named(name: &str, operands: &[OsString], options: &Options) -> Result<Command, String> {
+        match (name, operands) {
+            ("search", [file, search]) => Ok(Command::Search {
+                file: file.into(),
+                search: utf8(search)?,
+                output: options.output.unwrap_or(Output::Shown(View::Finds)),
+                color: options.color,
+            }),
+            ("search", _) => Err("'search' takes a file and a search".to_string()),
+            ("words", [file]) => Ok(Command::Words { file: file.into() }),
+            ("words", _) => Err("'words' takes a file".to_string()),
+            ("encode", [file, number]) => {
+                Ok(Command::Encode { file: file.into(), section: section(number)?, search: None })
+            }
+            ("encode", [file, number, search]) => {
+                Ok(Command::Encode { file: file.into(), section: section(number)?, search: Some(utf8(search)?) })
+            }
+            ("encode", _) => Err("'encode' takes a file, the number of a section, and a search or none".to_string()),
+            _ => Err(format!("unknown command '{name}'")),
+        }
+    }
+}
+
+impl Options {
+    fn read(&mut self, option: &str, mut arguments: impl Iterator<Item = OsString>) -> Result<(), String> {
+        let (name, value) = option.split_once('=').map_or((option, None), |(name, value)| (name, Some(value.into())));
+        match (name, &value) {
+            ("--help" | "-h", None) => self.help = true,
+            ("--all", None) => self.print(Output::Shown(View::AllMatches))?,
+            ("--json", None) => self.print(Output::Json)?,
+            ("--quiet" | "-q", None) => self.print(Output::Quiet)?,
+            ("--color", _) => self.color = color(value.or_else(|| arguments.next()))?,
+            _ => return Err(format!("unknown option '{option}'")),
+        }
+        self.last = Some(name.to_string());
+        Ok(())
+    }
+
+    fn print(&mut self, output: Output) -> Result<(), String> {
+        match self.output.replace(output) {
+            Some(other) if other != output => Err("of --all, --json and --quiet only one can be given".to_string()),
+            _ => Ok(()),
+        }
+    }
+}
+
+fn color(when: Option<OsString>) -> Result<Color, String> {
+    match when.as_ref().and_then(|when| when.to_str()) {
+        Some("auto") => Ok(Color::Auto),
+        Some("always") => Ok(Color::Always),
+        Some("never") => Ok(Color::Never),
+        _ => Err("--color is auto, always or never".to_string()),
+    }
+}
+
+fn section(number: &OsString) -> Result<usize, String> {
+    let number = number.to_string_lossy();
+    number.parse().map_err(|_| format!("'{number}' is not the number of a section"))
+}
+
+fn utf8(search: &OsString) -> Result<String, String> {
+    search.to_str().map(str::to_string).ok_or("the search is not UTF-8".to_string())
+}

@@ -1,0 +1,124 @@
+//! Answers for programs.
+
+use crate::answer::{Answer, Finds};
+use crate::document::{one_line, Manual, Section};
+use crate::engine::{Match, Str};
+use crate::refusal::Explained;
+use std::fmt;
+
+pub enum Json {
+    Bool(bool),
+    Number(usize),
+    Text(String),
+    List(Vec<Json>),
+    Object(Vec<(&'static str, Json)>),
+}
+
+use Json::{Bool, List, Number, Object, Text};
+
+impl fmt::Display for Json {
+    fn fmt(&self, f: &mut fmt::Formatter) -> fmt::Result {
+        match self {
+            Bool(value) => write!(f, "{value}"),
+            Number(value) => write!(f, "{value}"),
+            Text(text) => quoted(f, text),
+            List(values) => {
+                f.write_str("[")?;
+                for (index, value) in values.iter().enumerate() {
+                    write!(f, "{}{value}", if index > 0 { "," } else { "" })?;
+                }
+                f.write_str("]")
+            }
+            Object(fields) => {
+                f.write_str("{")?;
+                for (index, (name, value)) in fields.iter().enumerate() {
+                    write!(f, "{}\"{name}\":{value}", if index > 0 { "," } else { "" })?;
+                }
+                f.write_str("}")
+            }
+        }
+    }
+}
+
+fn quoted(f: &mut fmt::Formatter, text: &str) -> fmt::Result {
+    f.write_str("\"")?;
+    for c in text.chars() {
+        match c {
+            '"' | '\\' => write!(f, "\\{c}")?,
+            '\u{0}'..='\u{1F}' => write!(f, "\\u{:04x}", u32::from(c))?,
+            _ => write!(f, "{c}")?,
+        }
+    }
+    f.write_str("\"")
+}
+
+pub fn text(text: &str) -> Json {
+    Text(text.to_string())
+}
+
+/// A refusal: the engine's number and place, what it says, and where in the search, in bytes from 0.
+pub fn refusal(why: &Explained) -> Json {
+    let mut fields = vec![
+        ("number", Number(why.refusal.number as usize)),
+        ("place", Number(why.refusal.place)),
+        ("says", text(&why.what)),
+    ];
+    if let Some(place) = &why.place {
+        fields.push(("from", Number(place.start)));
+        fields.push(("to", Number(place.end)));
+    }
+    Object(fields)
+}
+
+/// A section's answer; nothing for a no.
+pub fn section(manual: &Manual, number: usize, section: &Section, answer: &Answer) -> Option<Json> {
+    let mut fields = vec![
+        ("section", Number(number)),
+        ("heading", text(section.heading())),
+        ("part", Number(section.part.number)),
+        ("parts", Number(section.part.count)),
+        ("line", Number(section.line)),
+    ];
+    match answer {
+        Answer::No => return None,
+        Answer::Yes(found) => {
+            fields.push(("answer", text("yes")));
+            fields.extend(finds(manual, section, found));
+        }
+        Answer::Unlisted(why) => fields.extend([("answer", text("yes")), ("listing_refused", refusal(why))]),
+        Answer::Refused(why) => fields.extend([("answer", text("refused")), ("refused", refusal(why))]),
+    }
+    Some(Object(fields))
+}
+
+fn finds(manual: &Manual, section: &Section, finds: &Finds) -> Vec<(&'static str, Json)> {
+    let strings = |strings: &[Str]| List(strings.iter().map(|found| string(manual, section, found)).collect());
+    let listed =
+        |found: &Match| Object(vec![("includes", strings(&found.includes)), ("excludes", strings(&found.excludes))]);
+    let passed = finds.passed.iter().map(|passed| {
+        let mut fields = vec![("phrase", text(&passed.phrase))];
+        match &passed.finds {
+            Ok(finds) => fields.push(("finds", strings(finds))),
+            Err(_) => fields.push(("over_256_finds", Bool(true))),
+        }
+        Object(fields)
+    });
+    vec![
+        ("matches", List(finds.matches.iter().map(listed).collect())),
+        ("deciding", Number(finds.deciding + 1)),
+        ("not_excluded", List(passed.collect())),
+    ]
+}
+
+fn string(manual: &Manual, section: &Section, string: &Str) -> Json {
+    let words = &section.tokens[string.start - 1..string.end];
+    let bytes = words[0].bytes.start..words[words.len() - 1].bytes.end;
+    Object(vec![
+        ("phrase", Number(string.query)),
+        ("from", Number(string.start)),
+        ("to", Number(string.end)),
+        ("contiguous", Bool(string.contiguous)),
+        ("line", Number(manual.line(bytes.start))),
+        ("text", Text(one_line(&manual.text()[bytes]))),
+    ])
+}

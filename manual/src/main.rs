@@ -1,0 +1,26 @@
+use manual::command::Command;
+use manual::run::{self, Printed};
+use std::io::{self, IsTerminal, Write};
+use std::process::ExitCode;
+
+fn main() -> ExitCode {
+    let Printed { output, errors, status } = match Command::parse(std::env::args_os().skip(1)) {
+        Ok(command) => run::run(&command, has_colors()),
+        Err(wrong) => run::misused(&wrong),
+    };
+    let _ = io::stderr().write_all(errors.as_bytes());
+    match io::stdout().write_all(&output) {
+        // whoever reads has seen enough
+        Err(error) if error.kind() != io::ErrorKind::BrokenPipe => {
+            let _ = writeln!(io::stderr(), "manual: {error}");
+            ExitCode::from(run::TROUBLE)
+        }
+        _ => ExitCode::from(status),
+    }
+}
+
+/// Does standard output show colours, and may it?
+fn has_colors() -> bool {
+    let set = |name| std::env::var_os(name).is_some_and(|value| !value.is_empty());
+    io::stdout().is_terminal() && !set("NO_COLOR")
+}

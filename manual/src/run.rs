@@ -1,0 +1,170 @@
+//! A command carried out: what it prints, and its exit status.
+
+use crate::answer::{Answer, Question};
+use crate::command::{Color, Command, Output, HELP};
+use crate::document::{Manual, Part};
+use crate::engine::MOST_WORDS;
+use crate::json::{self, Json};
+use crate::refusal::Explained;
+use crate::search::Search;
+use crate::show::{explained, Page, BRACKETS, COLORS};
+use crate::words::Words;
+use std::fmt::Write;
+use std::path::Path;
+
+/// Exit statuses, as grep's.
+pub const YES: u8 = 0;
+pub const NO: u8 = 1;
+pub const TROUBLE: u8 = 2;
+
+/// What goes to standard output and to standard error, and the exit status.
+#[derive(Debug, Default, PartialEq, Eq)]
+pub struct Printed {
+    pub output: Vec<u8>,
+    pub errors: String,
+    pub status: u8,
+}
+
+impl Printed {
+    fn output(output: impl Into<Vec<u8>>) -> Printed {
+        Printed { output: output.into(), ..Printed::default() }
+    }
+
+    fn trouble(wrong: &str) -> Printed {
+        Printed { errors: format!("manual: {wrong}\n"), status: TROUBLE, ..Printed::default() }
+    }
+}
+
+pub fn misused(wrong: &str) -> Printed {
+    Printed::trouble(&format!("{wrong}; 'manual --help' says more"))
+}
+
+/// Carries out a command; `has_colors` says whether the output shows colours.
+pub fn run(command: &Command, has_colors: bool) -> Printed {
+    let done = match command {
+        Command::Help => Ok(Printed::output(HELP)),
+        Command::Words { file } => read(file).map(|manual| words(&manual)),
+        Command::Encode { file, section, search } => {
+            read(file).and_then(|manual| encode(&manual, *section, search.as_deref()))
+        }
+        Command::Search { file, search: text, output, color } => {
+            let in_color = *color == Color::Always || *color == Color::Auto && has_colors;
+            read(file).map(|manual| search(&manual, text, *output, in_color))
+        }
+    };
+    let printed = done.unwrap_or_else(|wrong| Printed::trouble(&wrong));
+    match command {
+        Command::Search { output: Output::Quiet, .. } => Printed { status: printed.status, ..Printed::default() },
+        _ => printed,
+    }
+}
+
+/// The manual in a file.
+fn read(file: &Path) -> Result<Manual, String> {
+    let name = file.display();
+    let bytes = std::fs::read(file).map_err(|error| format!("can't read {name}: {error}"))?;
+    let text = String::from_utf8(bytes).map_err(|error| {
+        let at = error.utf8_error().valid_up_to();
+        let line = 1 + error.as_bytes()[..at].iter().filter(|&&byte| byte == b'\n').count();
+        format!("{name} is not UTF-8 text: the first byte that isn't stands in line {line}")
+    })?;
+    let manual = Manual::new(text.strip_prefix('\u{FEFF}').unwrap_or(&text).to_string());
+    match (manual.text(), manual.has_words()) {
+        ("", _) => Err(format!("{name} is empty")),
+        (_, false) => Err(format!("{name} has no words")),
+        _ => Ok(manual),
+    }
+}
+
+fn words(manual: &Manual) -> Printed {
+    let words = Words::of(manual);
+    Printed::output(words.numbered().map(|(number, word)| format!("{number}\t{word}\n")).collect::<String>())
+}
+
+fn encode(manual: &Manual, number: usize, text: Option<&str>) -> Result<Printed, String> {
+    let words = Words::of(manual);
+    let section = number.checked_sub(1).and_then(|index| manual.sections.get(index));
+    let Some(section) = section else {
+        return Err(format!("there is no section {number}; they are 1 to {}", manual.sections.len()));
+    };
+    let mut numbers = manual.numbers(section, &words);
+    if let Some(text) = text {
+        let search = Search::new(text, &words);
+        let question = Question::new(&search).map_err(|why| refused(&why, text))?;
+        numbers.extend(question.selection);
+    }
+    Ok(Printed::output(numbers.into_iter().flat_map(u32::to_le_bytes).collect::<Vec<u8>>()))
+}
+
+fn refused(why: &Explained, search: &str) -> String {
+    format!("the search is refused: {}", explained(why, search))
+}
+
+fn search(manual: &Manual, text: &str, output: Output, in_color: bool) -> Printed {
+    let words = Words::of(manual);
+    let search = Search::new(text, &words);
+    let mut question = match (Question::new(&search), output) {
+        (Ok(question), _) => question,
+        (Err(why), Output::Json) => {
+            let output =
+                format!("{}\n", Json::Object(vec![("search", json::text(text)), ("refused", json::refusal(&why))]));
+            return Printed { status: TROUBLE, ..Printed::output(output) };
+        }
+        (Err(why), _) => return Printed::trouble(&refused(&why, text)),
+    };
+    let answers: Vec<Answer> =
+        manual.sections.iter().map(|section| question.ask(&manual.numbers(section, &words))).collect();
+    let printed = match output {
+        Output::Quiet => Printed::default(),
+        Output::Json => Printed::output(in_json(manual, &search, &answers)),
+        Output::Shown(view) => {
+            let marks = if in_color { COLORS } else { BRACKETS };
+            let page = Page { manual, search: text, marks, view };
+            Printed { errors: notes(manual, &search), ..Printed::output(page.answers(&answers)) }
+        }
+    };
+    Printed { status: status(&answers), ..printed }
+}
+
+fn status(answers: &[Answer]) -> u8 {
+    let has = |is: fn(&Answer) -> bool| answers.iter().any(is);
+    if has(|answer| matches!(answer, Answer::Refused(_))) {
+        TROUBLE
+    } else if has(|answer| matches!(answer, Answer::Yes(_) | Answer::Unlisted(_))) {
+        YES
+    } else {
+        NO
+    }
+}
+
+/// What a reader of the answers should know of the words and the sections.
+fn notes(manual: &Manual, search: &Search) -> String {
+    let mut notes = String::new();
+    for word in &search.unknown {
+        let _ = writeln!(notes, "manual: the manual does not have the word '{word}'");
+    }
+    for section in manual.sections.iter().filter(|section| section.part.number > 1) {
+        let Part { number, count, is_inside } = section.part;
+        let line = manual.line(section.tokens[0].bytes.start);
+        let inside = if is_inside { " inside a paragraph" } else { "" };
+        let _ = writeln!(
+            notes,
+            "manual: '{}' has over {MOST_WORDS} words; its part {number} of {count} begins in line {line}{inside} and is \
+             asked by itself",
+            section.heading(),
+        );
+    }
+    notes
+}
+
+fn in_json(manual: &Manual, search: &Search, answers: &[Answer]) -> String {
+    let sections = (1..).zip(manual.sections.iter().zip(answers));
+    let sections = sections.filter_map(|(number, (section, answer))| json::section(manual, number, section, answer));
+    let object = Json::Object(vec![
+        ("search", json::text(search.text)),
+        ("unknown_words", Json::List(search.unknown.iter().map(|word| json::text(word)).collect())),
+        ("sections_asked", Json::Number(answers.len())),
+        ("sections", Json::List(sections.collect())),
+    ]);
+    format!("{object}\n")
+}

@@ -1,0 +1,217 @@
+//! Answers for people.
+
+use crate::answer::{Answer, Finds, Passed};
+use crate::document::{one_line, Manual, Part, Section, Token};
+use crate::engine::{Match, Str};
+use crate::refusal::Explained;
+use std::fmt::Write;
+use std::ops::{Range, RangeInclusive};
+
+/// What stands before and after something marked.
+type Sign = (&'static str, &'static str);
+
+/// How includes, excludes and headings are marked.
+pub struct Marks {
+    include: Sign,
+    exclude: Sign,
+    heading: Sign,
+}
+
+pub const BRACKETS: Marks = Marks { include: ("[", "]"), exclude: ("{", "}"), heading: ("", "") };
+pub const COLORS: Marks =
+    Marks { include: ("\x1b[1;32m", "\x1b[0m"), exclude: ("\x1b[1;31m", "\x1b[0m"), heading: ("\x1b[1m", "\x1b[0m") };
+
+/// What is shown of a section: the matches without excludes together, or every match by itself.
+#[derive(Clone, Copy, Debug, PartialEq, Eq)]
+pub enum View {
+    Finds,
+    AllMatches,
+}
+
+pub struct Page<'a> {
+    pub manual: &'a Manual,
+    pub search: &'a str,
+    pub marks: Marks,
+    pub view: View,
+}
+
+impl Page<'_> {
+    /// The sections that say yes or are refused, and how many they are.
+    pub fn answers(&self, answers: &[Answer]) -> String {
+        let sections = (1..).zip(self.manual.sections.iter().zip(answers));
+        let text: String = sections.map(|(number, (section, answer))| self.section(number, section, answer)).collect();
+        let count = |is: fn(&Answer) -> bool| answers.iter().filter(|answer| is(answer)).count();
+        let yes = count(|answer| matches!(answer, Answer::Yes(_) | Answer::Unlisted(_)));
+        let refused = match count(|answer| matches!(answer, Answer::Refused(_))) {
+            0 => String::new(),
+            refused => format!(", {refused} can't be answered"),
+        };
+        let say = if yes == 1 { "says" } else { "say" };
+        format!("{text}{yes} of {} sections {say} yes{refused}.\n", answers.len())
+    }
+
+    /// A section's answer; nothing for a no.
+    fn section(&self, number: usize, section: &Section, answer: &Answer) -> String {
+        let said = match answer {
+            Answer::No => return String::new(),
+            Answer::Yes(finds) => self.finds(section, finds),
+            Answer::Unlisted(why) => {
+                indented(&format!("Yes, but its matches can't be listed: {}", explained(why, self.search)))
+            }
+            Answer::Refused(why) => indented(&format!("Neither yes nor no is known: {}", explained(why, self.search))),
+        };
+        let (on, off) = self.marks.heading;
+        format!("{on}Section {number}, line {}: {}{off}\n{said}\n", section.line, title(section))
+    }
+
+    fn finds(&self, section: &Section, finds: &Finds) -> String {
+        let shown = match self.view {
+            View::Finds => {
+                let includes: Vec<Str> = finds.free().flat_map(|found| found.includes.clone()).collect();
+                self.sentences(section, &includes, &[])
+            }
+            View::AllMatches => self.all_matches(section, &finds.matches),
+        };
+        let (number, count) = (finds.deciding + 1, finds.matches.len());
+        let includes = self.included(section, &finds.matches[finds.deciding]);
+        let passed: String =
+            finds.passed.iter().map(|passed| format!(", without {}", self.passed(section, passed))).collect();
+        format!("{shown}  Match {number} of {count} decides: {includes}{passed}.\n")
+    }
+
+    /// Every match; equal ones that follow each other are shown once.
+    fn all_matches(&self, section: &Section, matches: &[Match]) -> String {
+        let mut text = String::new();
+        let mut number = 1;
+        for equal in matches.chunk_by(|one, next| one == next) {
+            let last = number + equal.len() - 1;
+            let name = if number == last { format!("Match {number}") } else { format!("Matches {number} to {last}") };
+            let (included, excluded) = (self.included(section, &equal[0]), self.excluded(section, &equal[0]));
+            let _ = writeln!(text, "  {name}: {included}, {excluded}.");
+            text += &self.sentences(section, &equal[0].includes, &equal[0].excludes);
+            number = last + 1;
+        }
+        text
+    }
+
+    fn included(&self, section: &Section, found: &Match) -> String {
+        if found.includes.is_empty() {
+            return "no word has to be found".to_string();
+        }
+        self.strings(section, &found.includes)
+    }
+
+    fn excluded(&self, section: &Section, found: &Match) -> String {
+        if found.excludes.is_empty() {
+            return "not excluded".to_string();
+        }
+        format!("excluded by {}", self.strings(section, &found.excludes))
+    }
+
+    fn strings(&self, section: &Section, strings: &[Str]) -> String {
+        let strings: Vec<String> = strings.iter().map(|string| self.string(section, string)).collect();
+        strings.join(" and ")
+    }
+
+    /// The words of a string, or its first and its last ones, and its line.
+    fn string(&self, section: &Section, string: &Str) -> String {
+        let words = &section.tokens[string.start - 1..string.end];
+        let bytes = words[0].bytes.start..words[words.len() - 1].bytes.end;
+        let line = self.manual.line(bytes.start);
+        let words: Vec<&str> = self.manual.text()[bytes].split_whitespace().collect();
+        match words[..] {
+            [first, second, .., last] if words.len() > 8 => format!("\"{first} {second} .. {last}\" in line {line}"),
+            _ => format!("\"{}\" in line {line}", words.join(" ")),
+        }
+    }
+
+    /// A phrase that the search excludes, and where it is nevertheless.
+    fn passed(&self, section: &Section, Passed { phrase, finds }: &Passed) -> String {
+        let Ok(finds) = finds else { return format!("{phrase} (over 256 times in this section)") };
+        let line = |find: &Str| self.manual.line(section.tokens[find.start - 1].bytes.start);
+        let mut lines: Vec<usize> = finds.iter().map(line).collect();
+        lines.dedup();
+        match lines[..] {
+            [] => format!("{phrase} (not in this section)"),
+            [line] => format!("{phrase} (line {line})"),
+            _ => {
+                let lines: Vec<String> = lines.iter().map(usize::to_string).collect();
+                format!("{phrase} (lines {})", lines.join(", "))
+            }
+        }
+    }
+
+    /// The sentences in which some of the strings lie, a line each, with their words marked.
+    fn sentences(&self, section: &Section, includes: &[Str], excludes: &[Str]) -> String {
+        let (includes, excludes) = (spans(includes), spans(excludes));
+        let mark_at = |position: usize| {
+            let covers = |span: &Span| span.contains(&position);
+            let include = includes.iter().find(|span| covers(span)).map(|span| (span, self.marks.include));
+            include.or_else(|| excludes.iter().find(|span| covers(span)).map(|span| (span, self.marks.exclude)))
+        };
+        let marked: Vec<_> = (1..).zip(&section.tokens).map(|(position, token)| (token, mark_at(position))).collect();
+        let mut text = String::new();
+        for sentence in marked.chunk_by(|(one, _), (next, _)| one.sentence == next.sentence) {
+            if sentence.iter().any(|(_, mark)| mark.is_some()) {
+                let bytes = section.sentence(sentence[0].0.sentence);
+                let line = self.manual.line(bytes.start);
+                let _ = writeln!(text, "  {line:>5}: {}", self.sentence(bytes, sentence));
+            }
+        }
+        text
+    }
+
+    /// A sentence, with what is marked of its words between its signs.
+    fn sentence(&self, bytes: Range<usize>, words: &[(&Token, Option<(&Span, Sign)>)]) -> String {
+        let manual = self.manual.text();
+        let mut text = String::new();
+        let mut at = bytes.start;
+        for run in words.chunk_by(|(_, one), (_, next)| one.is_some() && one == next) {
+            let (on, off) = run[0].1.map_or(("", ""), |(_, sign)| sign);
+            let words = run[0].0.bytes.start..run[run.len() - 1].0.bytes.end;
+            let _ = write!(text, "{}{on}{}{off}", &manual[at..words.start], &manual[words.clone()]);
+            at = words.end;
+        }
+        one_line(&(text + &manual[at..bytes.end]))
+    }
+}
+
+type Span = RangeInclusive<usize>;
+
+/// The positions of some strings; those that overlap are one span.
+fn spans(strings: &[Str]) -> Vec<Span> {
+    let mut strings: Vec<(usize, usize)> = strings.iter().map(|string| (string.start, string.end)).collect();
+    strings.sort_unstable();
+    let mut spans: Vec<(usize, usize)> = Vec::new();
+    for (start, end) in strings {
+        match spans.last_mut() {
+            Some(last) if start <= last.1 => last.1 = last.1.max(end),
+            _ => spans.push((start, end)),
+        }
+    }
+    spans.into_iter().map(|(start, end)| start..=end).collect()
+}
+
+/// A section's heading, and which part of it this is.
+fn title(section: &Section) -> String {
+    let Part { number, count, .. } = section.part;
+    match count {
+        1 => section.heading().to_string(),
+        _ => format!("{} (part {number} of {count})", section.heading()),
+    }
+}
+
+/// What is wrong, with the refusal's number; then the search, with a caret under the place.
+pub fn explained(Explained { refusal, what, place }: &Explained, search: &str) -> String {
+    let what = format!("{what} (refusal {})", refusal.number);
+    let Some(place) = place else { return what };
+    let begin = search[..place.start].rfind('\n').map_or(0, |at| at + 1);
+    let line = search[begin..].lines().next().unwrap_or("");
+    let before: String = search[begin..place.start].chars().map(|c| if c == '\t' { c } else { ' ' }).collect();
+    let under = "~".repeat(search[place.clone()].chars().count().saturating_sub(1));
+    format!("{what}\n  {line}\n  {before}^{under}")
+}
+
+fn indented(text: &str) -> String {
+    text.lines().map(|line| format!("  {line}\n")).collect()
+}

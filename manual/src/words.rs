@@ -1,0 +1,33 @@
+//! The words of a manual by number.
+
+use crate::document::Manual;
+use crate::tokens::{folded, tokens};
+use std::collections::BTreeSet;
+
+/// Every word of a manual, case folded, in the order of its letters. Its number is its place here, from 1.
+pub struct Words {
+    words: Vec<String>,
+}
+
+/// The number of a word that the manual does not have; no section has it, so it is never found.
+pub const UNKNOWN: u32 = 0;
+
+impl Words {
+    pub fn of(manual: &Manual) -> Words {
+        let words: BTreeSet<String> =
+            tokens(manual.text()).into_iter().map(|word| folded(&manual.text()[word])).collect();
+        Words { words: words.into_iter().collect() }
+    }
+
+    pub fn number(&self, word: &str) -> u32 {
+        match self.words.binary_search(&folded(word)) {
+            Ok(index) => index as u32 + 1,
+            Err(_) => UNKNOWN,
+        }
+    }
+
+    /// Each word with its number.
+    pub fn numbered(&self) -> impl Iterator<Item = (u32, &str)> {
+        (1..).zip(self.words.iter().map(String::as_str))
+    }
+}
