@@ -8,40 +8,7 @@ sentences=(1 1 1 2 2 2)
 kinds=(0 1 0 1 3 7)
 operands=(10 1 20 1 0 3)
 
-# how many crates ftlist is made of, itself among them
-crates=$(awk '
-  function visit(name,    i, n, list) {
-    if (!(name in needs) || seen[name]++) return
-    count++
-    n = split(needs[name], list, " ")
-    for (i = 1; i <= n; i++) visit(list[i])
-  }
-  { sub(/#.*/, "") }
-  /:/ { needs[substr($0, 1, index($0, ":") - 1)] = substr($0, index($0, ":") + 1) }
-  END { visit("ftlist"); print count }' crates.txt)
-
-echo "Building ftlist. Each of its $crates crates is proved first: three to five minutes the first time, a second later on." >&2
-said=$(mktemp)
-trap 'rm -f "$said"' EXIT
-
-# says which crates are proved, as they come
-progress() {
-  local line proved=0
-  while IFS= read -r line; do
-    case $line in
-      'rt: '*' proved ('*)
-        line=${line#rt: }
-        proved=$((proved + 1))
-        echo "  $proved of $crates proved: ${line%% *}"
-        ;;
-    esac
-  done
-}
-
-if ! rt check ftlist 2>&1 | tee "$said" | progress >&2; then
-  cat "$said" >&2
-  exit 1
-fi
+bash examples/prove.sh ftlist >&2
 
 # a row of a table: a name, then numbers
 row() {

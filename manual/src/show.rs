@@ -208,7 +208,8 @@ pub fn explained(Explained { refusal, what, place }: &Explained, search: &str) -
     let begin = search[..place.start].rfind('\n').map_or(0, |at| at + 1);
     let line = search[begin..].lines().next().unwrap_or("");
     let before: String = search[begin..place.start].chars().map(|c| if c == '\t' { c } else { ' ' }).collect();
-    let under = "~".repeat(search[place.clone()].chars().count().saturating_sub(1));
+    let end = place.end.min(begin + line.len());
+    let under = "~".repeat(search[place.start..end].chars().count().saturating_sub(1));
     format!("{what}\n  {line}\n  {before}^{under}")
 }
 
