@@ -24,6 +24,16 @@ pub enum Answer {
     Refused(Explained),
 }
 
+impl Answer {
+    pub fn is_yes(&self) -> bool {
+        matches!(self, Answer::Yes(_) | Answer::Unlisted(_))
+    }
+
+    pub fn is_refused(&self) -> bool {
+        matches!(self, Answer::Refused(_))
+    }
+}
+
 /// The listing of a section that says yes.
 pub struct Finds {
     pub matches: Vec<Match>,

@@ -17,7 +17,7 @@ pub struct Manual {
 #[derive(Clone, Debug, PartialEq, Eq)]
 pub struct Section {
     /// None for what stands before the first heading.
-    heading: Option<String>,
+    pub heading: Option<String>,
     /// Where its heading stands, or where it begins if it has none.
     pub line: usize,
     pub part: Part,
@@ -94,8 +94,14 @@ impl Section {
         Section { heading, line, part, tokens: Vec::new(), sentences: Vec::new() }
     }
 
-    pub fn heading(&self) -> &str {
+    /// What it is called for people.
+    pub fn name(&self) -> &str {
         self.heading.as_deref().unwrap_or("(before the first heading)")
+    }
+
+    /// The bytes from one position to another, both counted from 1.
+    pub fn bytes(&self, start: usize, end: usize) -> Range<usize> {
+        self.tokens[start - 1].bytes.start..self.tokens[end - 1].bytes.end
     }
 
     /// The bytes of a sentence, by its number.

@@ -4,9 +4,11 @@ use crate::answer::{Answer, Finds};
 use crate::document::{one_line, Manual, Section};
 use crate::engine::{Match, Str};
 use crate::refusal::Explained;
+use crate::search::Search;
 use std::fmt;
 
-pub enum Json {
+enum Json {
+    Null,
     Bool(bool),
     Number(usize),
     Text(String),
@@ -14,11 +16,12 @@ pub enum Json {
     Object(Vec<(&'static str, Json)>),
 }
 
-use Json::{Bool, List, Number, Object, Text};
+use Json::{Bool, List, Null, Number, Object, Text};
 
 impl fmt::Display for Json {
     fn fmt(&self, f: &mut fmt::Formatter) -> fmt::Result {
         match self {
+            Null => f.write_str("null"),
             Bool(value) => write!(f, "{value}"),
             Number(value) => write!(f, "{value}"),
             Text(text) => quoted(f, text),
@@ -52,12 +55,30 @@ fn quoted(f: &mut fmt::Formatter, text: &str) -> fmt::Result {
     f.write_str("\"")
 }
 
-pub fn text(text: &str) -> Json {
+fn text(text: &str) -> Json {
     Text(text.to_string())
 }
 
+/// The answers of all sections; of a no nothing is said.
+pub fn answers(manual: &Manual, search: &Search, answers: &[Answer]) -> String {
+    let sections = (1..).zip(manual.sections.iter().zip(answers));
+    let sections = sections.filter_map(|(number, (asked, answer))| section(manual, number, asked, answer));
+    let object = Object(vec![
+        ("search", text(search.text)),
+        ("unknown_words", List(search.unknown.iter().map(|word| text(word)).collect())),
+        ("sections_asked", Number(answers.len())),
+        ("sections", List(sections.collect())),
+    ]);
+    format!("{object}\n")
+}
+
+/// A search that is refused.
+pub fn refused(search: &str, why: &Explained) -> String {
+    format!("{}\n", Object(vec![("search", text(search)), ("refused", refusal(why))]))
+}
+
 /// A refusal: the engine's number and place, what it says, and where in the search, in bytes from 0.
-pub fn refusal(why: &Explained) -> Json {
+fn refusal(why: &Explained) -> Json {
     let mut fields = vec![
         ("number", Number(why.refusal.number as usize)),
         ("place", Number(why.refusal.place)),
@@ -70,11 +91,10 @@ pub fn refusal(why: &Explained) -> Json {
     Object(fields)
 }
 
-/// A section's answer; nothing for a no.
-pub fn section(manual: &Manual, number: usize, section: &Section, answer: &Answer) -> Option<Json> {
+fn section(manual: &Manual, number: usize, section: &Section, answer: &Answer) -> Option<Json> {
     let mut fields = vec![
         ("section", Number(number)),
-        ("heading", text(section.heading())),
+        ("heading", section.heading.as_deref().map_or(Null, text)),
         ("part", Number(section.part.number)),
         ("parts", Number(section.part.count)),
         ("line", Number(section.line)),
@@ -111,8 +131,7 @@ fn finds(manual: &Manual, section: &Section, finds: &Finds) -> Vec<(&'static str
 }
 
 fn string(manual: &Manual, section: &Section, string: &Str) -> Json {
-    let words = &section.tokens[string.start - 1..string.end];
-    let bytes = words[0].bytes.start..words[words.len() - 1].bytes.end;
+    let bytes = section.bytes(string.start, string.end);
     Object(vec![
         ("phrase", Number(string.query)),
         ("from", Number(string.start)),

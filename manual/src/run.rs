@@ -4,7 +4,7 @@ use crate::answer::{Answer, Question};
 use crate::command::{Color, Command, Output, HELP};
 use crate::document::{Manual, Part};
 use crate::engine::MOST_WORDS;
-use crate::json::{self, Json};
+use crate::json;
 use crate::refusal::Explained;
 use crate::search::Search;
 use crate::show::{explained, Page, BRACKETS, COLORS};
@@ -105,18 +105,14 @@ fn search(manual: &Manual, text: &str, output: Output, in_color: bool) -> Printe
     let search = Search::new(text, &words);
     let mut question = match (Question::new(&search), output) {
         (Ok(question), _) => question,
-        (Err(why), Output::Json) => {
-            let output =
-                format!("{}\n", Json::Object(vec![("search", json::text(text)), ("refused", json::refusal(&why))]));
-            return Printed { status: TROUBLE, ..Printed::output(output) };
-        }
+        (Err(why), Output::Json) => return Printed { status: TROUBLE, ..Printed::output(json::refused(text, &why)) },
         (Err(why), _) => return Printed::trouble(&refused(&why, text)),
     };
     let answers: Vec<Answer> =
         manual.sections.iter().map(|section| question.ask(&manual.numbers(section, &words))).collect();
     let printed = match output {
         Output::Quiet => Printed::default(),
-        Output::Json => Printed::output(in_json(manual, &search, &answers)),
+        Output::Json => Printed::output(json::answers(manual, &search, &answers)),
         Output::Shown(view) => {
             let marks = if in_color { COLORS } else { BRACKETS };
             let page = Page { manual, search: text, marks, view };
@@ -127,10 +123,9 @@ fn search(manual: &Manual, text: &str, output: Output, in_color: bool) -> Printe
 }
 
 fn status(answers: &[Answer]) -> u8 {
-    let has = |is: fn(&Answer) -> bool| answers.iter().any(is);
-    if has(|answer| matches!(answer, Answer::Refused(_))) {
+    if answers.iter().any(Answer::is_refused) {
         TROUBLE
-    } else if has(|answer| matches!(answer, Answer::Yes(_) | Answer::Unlisted(_))) {
+    } else if answers.iter().any(Answer::is_yes) {
         YES
     } else {
         NO
@@ -151,20 +146,8 @@ fn notes(manual: &Manual, search: &Search) -> String {
             notes,
             "manual: '{}' has over {MOST_WORDS} words; its part {number} of {count} begins in line {line}{inside} and is \
              asked by itself",
-            section.heading(),
+            section.name(),
         );
     }
     notes
-}
-
-fn in_json(manual: &Manual, search: &Search, answers: &[Answer]) -> String {
-    let sections = (1..).zip(manual.sections.iter().zip(answers));
-    let sections = sections.filter_map(|(number, (section, answer))| json::section(manual, number, section, answer));
-    let object = Json::Object(vec![
-        ("search", json::text(search.text)),
-        ("unknown_words", Json::List(search.unknown.iter().map(|word| json::text(word)).collect())),
-        ("sections_asked", Json::Number(answers.len())),
-        ("sections", Json::List(sections.collect())),
-    ]);
-    format!("{object}\n")
 }

@@ -40,9 +40,8 @@ impl Page<'_> {
     pub fn answers(&self, answers: &[Answer]) -> String {
         let sections = (1..).zip(self.manual.sections.iter().zip(answers));
         let text: String = sections.map(|(number, (section, answer))| self.section(number, section, answer)).collect();
-        let count = |is: fn(&Answer) -> bool| answers.iter().filter(|answer| is(answer)).count();
-        let yes = count(|answer| matches!(answer, Answer::Yes(_) | Answer::Unlisted(_)));
-        let refused = match count(|answer| matches!(answer, Answer::Refused(_))) {
+        let yes = answers.iter().filter(|answer| answer.is_yes()).count();
+        let refused = match answers.iter().filter(|answer| answer.is_refused()).count() {
             0 => String::new(),
             refused => format!(", {refused} can't be answered"),
         };
@@ -115,8 +114,7 @@ impl Page<'_> {
 
     /// The words of a string, or its first and its last ones, and its line.
     fn string(&self, section: &Section, string: &Str) -> String {
-        let words = &section.tokens[string.start - 1..string.end];
-        let bytes = words[0].bytes.start..words[words.len() - 1].bytes.end;
+        let bytes = section.bytes(string.start, string.end);
         let line = self.manual.line(bytes.start);
         let words: Vec<&str> = self.manual.text()[bytes].split_whitespace().collect();
         match words[..] {
@@ -128,7 +126,7 @@ impl Page<'_> {
     /// A phrase that the search excludes, and where it is nevertheless.
     fn passed(&self, section: &Section, Passed { phrase, finds }: &Passed) -> String {
         let Ok(finds) = finds else { return format!("{phrase} (over 256 times in this section)") };
-        let line = |find: &Str| self.manual.line(section.tokens[find.start - 1].bytes.start);
+        let line = |find: &Str| self.manual.line(section.bytes(find.start, find.end).start);
         let mut lines: Vec<usize> = finds.iter().map(line).collect();
         lines.dedup();
         match lines[..] {
@@ -196,8 +194,8 @@ fn spans(strings: &[Str]) -> Vec<Span> {
 fn title(section: &Section) -> String {
     let Part { number, count, .. } = section.part;
     match count {
-        1 => section.heading().to_string(),
-        _ => format!("{} (part {number} of {count})", section.heading()),
+        1 => section.name().to_string(),
+        _ => format!("{} (part {number} of {count})", section.name()),
     }
 }
 
