@@ -20,14 +20,23 @@ usage:
 FILE. Markdown headings begin sections, and a heading's words belong to its section; blank lines part paragraphs; a
 sentence ends at . ! or ? before a blank or a line's end. A word is a run of letters and digits; case doesn't matter.
 
-SEARCH. One to eight words in double quotes are a phrase. In rising order of what binds more:
-  ftor   ftand   not in   ftnot   parentheses
-and after a whole search, or one in parentheses, any number of filters:
-  same sentence   same paragraph   different sentence   different paragraph   ordered   window N words
-  distance exactly N words   distance at least N words   distance at most N words   distance from N to N words
-  at start   at end   entire content
-'ftnot' gives excludes: what must not be there. A filter takes away the excludes that it doesn't keep, so it may turn a
-no into a yes. A section says yes if one of its matches has no excludes.
+SEARCH. A and B are searches; what binds most stands first.
+  "needle bed"                              one to eight words in double quotes, found side by side
+  ( A )                                     as if it were a phrase
+  ftnot A                                   without A
+  A not in B                                A where it isn't part of B
+  A ftand B                                 both
+  A ftor B                                  either
+After a whole search, or one in parentheses, any number of filters:
+  same sentence, same paragraph             all in one
+  different sentence, different paragraph   each in another
+  ordered                                   in the order of the search
+  window N words                            within N words
+  distance exactly N words                  so many words between neighbours; instead of 'exactly' also 'at least' or
+                                            'at most', or 'from N to N words'
+  at start, at end, entire content          at the section's start, at its end, all of it
+What 'ftnot' finds excludes a match. A filter takes away what lies outside it, so it may turn a no into a yes. A section
+says yes if one of its matches is not excluded.
 
 examples:
   manual search manual.md '"needle bed" ftand "oil"'
