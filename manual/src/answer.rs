@@ -43,8 +43,10 @@ pub struct Finds {
     pub passed: Vec<Passed>,
 }
 
-/// A phrase that the search excludes, as it is typed, and where the section has it, unless that is refused for size.
+/// A phrase that the search excludes: its number, how it is typed, and where the section has it, unless that is refused
+/// for size.
 pub struct Passed {
+    pub query: usize,
     pub phrase: String,
     pub finds: Result<Vec<Str>, Refusal>,
 }
@@ -89,7 +91,7 @@ impl<'a> Question<'a> {
             let listing = self.engine.listing(section, &phrase.selection);
             let includes = |matches: Vec<Match>| matches.into_iter().flat_map(|found| found.includes);
             let finds = listing.map(|matches| includes(matches).map(|find| Str { query, ..find }).collect());
-            Passed { phrase: self.search.text[phrase.place.clone()].to_string(), finds }
+            Passed { query, phrase: self.search.text[phrase.place.clone()].to_string(), finds }
         });
         Finds {
             matches,

@@ -11,6 +11,10 @@ pub struct Code {
     pub place: Range<usize>,
 }
 
+impl Code {
+    pub const WINDOW: u32 = 7;
+}
+
 /// A phrase of a search; the first is the engine's query position 1.
 #[derive(Clone, Debug, PartialEq, Eq)]
 pub struct Phrase {

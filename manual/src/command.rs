@@ -11,7 +11,8 @@ usage:
       --all                    every match, with what it includes and what excludes it
       --json                   the answers for programs
       --quiet                  nothing but the exit status
-      --color WHEN             colour instead of [..]: auto (on a terminal; the default), always or never
+      --color WHEN             colour instead of [..]: always, never or auto, the default: on a terminal,
+                               unless NO_COLOR is set
   manual words FILE            each word of the manual with its number
   manual encode FILE N         section N in the engine's numbers, 32 bits each, the lowest byte first
   manual encode FILE N SEARCH  the same, and after it the search, as the program ftlist reads them
@@ -43,7 +44,7 @@ examples:
   manual search manual.md '"cam" ftand ftnot "cover" same sentence ordered window 6 words'
   manual search --all manual.md '("yarn" ftand "break" distance at most 3 words) ftor "E12"'
   manual search --quiet manual.md '"bolt" not in "bolt head"' && echo found
-  manual encode manual.md 12 '"cam"' | target/bin/ftlist
+  manual encode manual.md 41 '"cam"' | target/bin/ftlist
 
 exit status: 0 if a section says yes, 1 if none does, 2 if something is refused or can't be read.
 "#;
@@ -113,7 +114,7 @@ impl Command {
                 output: options.output.unwrap_or(Output::Shown(View::Finds)),
                 color: options.color,
             }),
-            ("search", _) => Err("'search' takes a file and a search".to_string()),
+            ("search", _) => Err("'search' takes a file and a search, the whole of it in single quotes".to_string()),
             ("words", [file]) => Ok(Command::Words { file: file.into() }),
             ("words", _) => Err("'words' takes a file".to_string()),
             ("encode", [file, number]) => {

@@ -16,9 +16,9 @@ pub struct Manual {
 /// A section, or a part of one that has too many words for the engine.
 #[derive(Clone, Debug, PartialEq, Eq)]
 pub struct Section {
-    /// None for what stands before the first heading.
+    /// None for what stands before the first heading, and under a heading of no words.
     pub heading: Option<String>,
-    /// Where its heading stands, or where it begins if it has none.
+    /// Where it begins.
     pub line: usize,
     pub part: Part,
     pub tokens: Vec<Token>,
@@ -79,12 +79,17 @@ impl Manual {
             let (Block::Heading(bytes) | Block::Paragraph(bytes)) = &block;
             let is_heading = matches!(block, Block::Heading(_));
             if is_heading || sections.is_empty() {
-                let heading = is_heading.then(|| one_line(&self.text[bytes.clone()]));
+                let heading = Some(one_line(&self.text[bytes.clone()])).filter(|text| is_heading && !text.is_empty());
                 sections.push(Section::new(heading, self.line(bytes.start)));
             }
             sections.last_mut().expect("one was begun").add_paragraph(&self.text, bytes.clone());
         }
-        sections.into_iter().flat_map(Section::parts).collect()
+        sections.retain(|section| section.heading.is_some() || !section.tokens.is_empty());
+        let mut sections: Vec<Section> = sections.into_iter().flat_map(Section::parts).collect();
+        for section in sections.iter_mut().filter(|section| section.part.number > 1) {
+            section.line = self.line(section.tokens[0].bytes.start);
+        }
+        sections
     }
 }
 
@@ -96,7 +101,7 @@ impl Section {
 
     /// What it is called for people.
     pub fn name(&self) -> &str {
-        self.heading.as_deref().unwrap_or("(before the first heading)")
+        self.heading.as_deref().unwrap_or("(no heading)")
     }
 
     /// The bytes from one position to another, both counted from 1.
@@ -164,54 +169,102 @@ impl Section {
     }
 }
 
-/// Where the tokens from `start` on must be cut, if they are too many: at the last paragraph that ends in time, else at
-/// the last sentence, else after the last word.
+/// Where the tokens from `start` on must be cut, if they are too many: where the last paragraph ends in time, unless the
+/// next one is too long itself; else where the last sentence does, else after the last word.
 fn next_cut(tokens: &[Token], start: usize) -> Option<usize> {
     let most = start + MOST_WORDS;
     if tokens.len() <= most {
         return None;
     }
     let parts = |unit: fn(&Token) -> usize| move |&cut: &usize| unit(&tokens[cut - 1]) != unit(&tokens[cut]);
-    let by_paragraph = (start + 1..=most).rfind(parts(|token| token.paragraph));
+    let next_fits = |&cut: &usize| {
+        let next = |token: &&Token| token.paragraph == tokens[cut].paragraph;
+        tokens[cut..].iter().take_while(next).count() <= MOST_WORDS
+    };
+    let by_paragraph = (start + 1..=most).rfind(parts(|token| token.paragraph)).filter(next_fits);
     let by_sentence = || (start + 1..=most).rfind(parts(|token| token.sentence));
     by_paragraph.or_else(by_sentence).or(Some(most))
 }
 
-/// What blank lines and headings part: the bytes of a heading's text, or of a paragraph.
+/// What blank lines, headings and fences part: the bytes of a heading's text, or of a paragraph.
 #[derive(Debug, PartialEq, Eq)]
 enum Block {
     Heading(Range<usize>),
     Paragraph(Range<usize>),
 }
 
+/// Blocks, and the paragraph to which the next line may belong.
+#[derive(Default)]
+struct Blocks {
+    blocks: Vec<Block>,
+    open: Option<Range<usize>>,
+    /// Is it code: between fences, or indented?
+    is_code: bool,
+}
+
+impl Blocks {
+    fn close(&mut self, block: fn(Range<usize>) -> Block) {
+        self.blocks.extend(self.open.take().map(block));
+    }
+
+    fn heading(&mut self, bytes: Range<usize>) {
+        self.close(Block::Paragraph);
+        self.blocks.push(Block::Heading(bytes));
+    }
+
+    fn line(&mut self, bytes: Range<usize>, is_code: bool) {
+        if self.is_code != is_code {
+            self.close(Block::Paragraph);
+        }
+        let start = self.open.take().map_or(bytes.start, |lines| lines.start);
+        self.open = Some(start..bytes.end);
+        self.is_code = is_code;
+    }
+}
+
 /// Headings are Markdown's: a line that begins with one to six `#` and a blank, or a paragraph underlined by `=` or `-`.
-/// There are none between fences of ``` or ~~~, or indented by four blanks or a tab.
+/// There are none in code. A line indented by four blanks or a tab is code, unless it goes on with a paragraph.
 fn blocks(text: &str) -> Vec<Block> {
-    let mut blocks = Vec::new();
-    let mut paragraph: Option<Range<usize>> = None;
-    let mut fenced = false;
+    let mut blocks = Blocks::default();
+    let mut fence = None;
     let mut begin = 0;
     for line in text.split_inclusive('\n') {
         let bytes = begin..begin + line.trim_end().len();
         begin += line.len();
         let words = line.trim();
-        fenced ^= words.starts_with("```") || words.starts_with("~~~");
-        let is_code = fenced || line.starts_with("    ") || line.starts_with('\t');
+        let indent = &line[..line.len() - line.trim_start().len()];
+        let is_indented = indent.len() >= 4 || indent.contains('\t');
+        let fence_before = fence;
+        if !is_indented {
+            fence = fence_after(fence_before, words);
+        }
+        let is_fenced = fence_before.or(fence).is_some();
         if words.is_empty() {
-            blocks.extend(paragraph.take().map(Block::Paragraph));
-        } else if let Some(title) = title(words).filter(|_| !is_code) {
-            blocks.extend(paragraph.take().map(Block::Paragraph));
+            blocks.close(Block::Paragraph);
+        } else if is_fenced || is_indented {
+            blocks.line(bytes, is_fenced || blocks.open.is_none() || blocks.is_code);
+        } else if let Some(title) = title(words) {
             let start = title.as_ptr() as usize - text.as_ptr() as usize;
-            blocks.push(Block::Heading(start..start + title.len()));
-        } else if paragraph.is_some() && !is_code && is_underline(words) {
-            blocks.extend(paragraph.take().map(Block::Heading));
+            blocks.heading(start..start + title.len());
+        } else if is_underline(words) {
+            blocks.close(if blocks.is_code { Block::Paragraph } else { Block::Heading });
         } else {
-            let start = paragraph.map_or(bytes.start, |lines| lines.start);
-            paragraph = Some(start..bytes.end);
+            blocks.line(bytes, false);
         }
     }
-    blocks.extend(paragraph.map(Block::Paragraph));
-    blocks
+    blocks.close(Block::Paragraph);
+    blocks.blocks
+}
+
+/// The fence of code that is open after a line: three or more of ` or ~, with no ` after them; as many close it.
+fn fence_after<'a>(open: Option<&'a str>, line: &'a str) -> Option<&'a str> {
+    let run = |sign: char| &line[..line.len() - line.trim_start_matches(sign).len()];
+    let fence = ['`', '~'].map(run).into_iter().find(|run| run.len() >= 3);
+    match (open, fence) {
+        (None, Some(run)) => (run.starts_with('~') || !line[run.len()..].contains('`')).then_some(run),
+        (Some(open), Some(run)) if run.starts_with(open) && run == line => None,
+        _ => open,
+    }
 }
 
 /// The text of a heading that begins with `#`, without the `#` that may close it.

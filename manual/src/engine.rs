@@ -14,7 +14,6 @@ const WORK: usize = 12_800;
 const BUFFER: usize = 1_282;
 const SELECTION: usize = 129;
 pub const MOST_WORDS: usize = 4_096;
-pub const MOST_BYTES: usize = 2_048;
 
 /// A refusal by number and place, as `docs/REFERENCE.md` lists them.
 #[derive(Clone, Copy, Debug, PartialEq, Eq)]

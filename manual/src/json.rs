@@ -61,12 +61,15 @@ fn text(text: &str) -> Json {
 
 /// The answers of all sections; of a no nothing is said.
 pub fn answers(manual: &Manual, search: &Search, answers: &[Answer]) -> String {
-    let sections = (1..).zip(manual.sections.iter().zip(answers));
-    let sections = sections.filter_map(|(number, (asked, answer))| section(manual, number, asked, answer));
+    let numbered = || (1..).zip(&manual.sections);
+    let split = numbered().filter(|(_, section)| section.part.count > 1);
+    let sections =
+        numbered().zip(answers).filter_map(|((number, asked), answer)| section(manual, number, asked, answer));
     let object = Object(vec![
         ("search", text(search.text)),
         ("unknown_words", List(search.unknown.iter().map(|word| text(word)).collect())),
         ("sections_asked", Number(answers.len())),
+        ("split", List(split.map(|(number, section)| Object(about(number, section))).collect())),
         ("sections", List(sections.collect())),
     ]);
     format!("{object}\n")
@@ -85,20 +88,25 @@ fn refusal(why: &Explained) -> Json {
         ("says", text(&why.what)),
     ];
     if let Some(place) = &why.place {
-        fields.push(("from", Number(place.start)));
-        fields.push(("to", Number(place.end)));
+        fields.push(("from_byte", Number(place.start)));
+        fields.push(("to_byte", Number(place.end)));
     }
     Object(fields)
 }
 
-fn section(manual: &Manual, number: usize, section: &Section, answer: &Answer) -> Option<Json> {
-    let mut fields = vec![
+fn about(number: usize, section: &Section) -> Vec<(&'static str, Json)> {
+    vec![
         ("section", Number(number)),
         ("heading", section.heading.as_deref().map_or(Null, text)),
         ("part", Number(section.part.number)),
         ("parts", Number(section.part.count)),
         ("line", Number(section.line)),
-    ];
+    ]
+}
+
+/// A section's answer; nothing for a no.
+fn section(manual: &Manual, number: usize, section: &Section, answer: &Answer) -> Option<Json> {
+    let mut fields = about(number, section);
     match answer {
         Answer::No => return None,
         Answer::Yes(found) => {
@@ -116,7 +124,7 @@ fn finds(manual: &Manual, section: &Section, finds: &Finds) -> Vec<(&'static str
     let listed =
         |found: &Match| Object(vec![("includes", strings(&found.includes)), ("excludes", strings(&found.excludes))]);
     let passed = finds.passed.iter().map(|passed| {
-        let mut fields = vec![("phrase", text(&passed.phrase))];
+        let mut fields = vec![("phrase", Number(passed.query)), ("typed", text(&passed.phrase))];
         match &passed.finds {
             Ok(finds) => fields.push(("finds", strings(finds))),
             Err(_) => fields.push(("over_256_finds", Bool(true))),
@@ -134,8 +142,8 @@ fn string(manual: &Manual, section: &Section, string: &Str) -> Json {
     let bytes = section.bytes(string.start, string.end);
     Object(vec![
         ("phrase", Number(string.query)),
-        ("from", Number(string.start)),
-        ("to", Number(string.end)),
+        ("start", Number(string.start)),
+        ("end", Number(string.end)),
         ("contiguous", Bool(string.contiguous)),
         ("line", Number(manual.line(bytes.start))),
         ("text", Text(one_line(&manual.text()[bytes]))),

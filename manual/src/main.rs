@@ -9,7 +9,8 @@ fn main() -> ExitCode {
         Err(wrong) => run::misused(&wrong),
     };
     let _ = io::stderr().write_all(errors.as_bytes());
-    match io::stdout().write_all(&output) {
+    let mut stdout = io::stdout();
+    match stdout.write_all(&output).and_then(|()| stdout.flush()) {
         // whoever reads has seen enough
         Err(error) if error.kind() != io::ErrorKind::BrokenPipe => {
             let _ = writeln!(io::stderr(), "manual: {error}");

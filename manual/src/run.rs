@@ -3,7 +3,6 @@
 use crate::answer::{Answer, Question};
 use crate::command::{Color, Command, Output, HELP};
 use crate::document::{Manual, Part};
-use crate::engine::MOST_WORDS;
 use crate::json;
 use crate::refusal::Explained;
 use crate::search::Search;
@@ -68,7 +67,9 @@ fn read(file: &Path) -> Result<Manual, String> {
         let line = 1 + error.as_bytes()[..at].iter().filter(|&&byte| byte == b'\n').count();
         format!("{name} is not UTF-8 text: the first byte that isn't stands in line {line}")
     })?;
-    let manual = Manual::new(text.strip_prefix('\u{FEFF}').unwrap_or(&text).to_string());
+    // a byte order mark, and signs that would steer the terminal
+    let text = text.strip_prefix('\u{FEFF}').unwrap_or(&text);
+    let manual = Manual::new(text.replace(|c: char| c.is_control() && !c.is_whitespace(), "\u{FFFD}"));
     match (manual.text(), manual.has_words()) {
         ("", _) => Err(format!("{name} is empty")),
         (_, false) => Err(format!("{name} has no words")),
@@ -88,12 +89,13 @@ fn encode(manual: &Manual, number: usize, text: Option<&str>) -> Result<Printed,
         return Err(format!("there is no section {number}; they are 1 to {}", manual.sections.len()));
     };
     let mut numbers = manual.numbers(section, &words);
+    let search = Search::new(text.unwrap_or(""), &words);
     if let Some(text) = text {
-        let search = Search::new(text, &words);
         let question = Question::new(&search).map_err(|why| refused(&why, text))?;
         numbers.extend(question.selection);
     }
-    Ok(Printed::output(numbers.into_iter().flat_map(u32::to_le_bytes).collect::<Vec<u8>>()))
+    let bytes: Vec<u8> = numbers.into_iter().flat_map(u32::to_le_bytes).collect();
+    Ok(Printed { errors: notes(manual, &search), ..Printed::output(bytes) })
 }
 
 fn refused(why: &Explained, search: &str) -> String {
@@ -140,13 +142,13 @@ fn notes(manual: &Manual, search: &Search) -> String {
     }
     for section in manual.sections.iter().filter(|section| section.part.number > 1) {
         let Part { number, count, is_inside } = section.part;
-        let line = manual.line(section.tokens[0].bytes.start);
         let inside = if is_inside { " inside a paragraph" } else { "" };
         let _ = writeln!(
             notes,
-            "manual: '{}' has over {MOST_WORDS} words; its part {number} of {count} begins in line {line}{inside} and is \
-             asked by itself",
+            "manual: '{}' has over 4,096 words; its part {number} of {count} begins in line {}{inside} and is asked by \
+             itself",
             section.name(),
+            section.line,
         );
     }
     notes

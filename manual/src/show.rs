@@ -45,8 +45,9 @@ impl Page<'_> {
             0 => String::new(),
             refused => format!(", {refused} can't be answered"),
         };
-        let say = if yes == 1 { "says" } else { "say" };
-        format!("{text}{yes} of {} sections {say} yes{refused}.\n", answers.len())
+        let sections = if answers.len() == 1 { "section" } else { "sections" };
+        let say = if yes == 1 || answers.len() == 1 { "says" } else { "say" };
+        format!("{text}{yes} of {} {sections} {say} yes{refused}.\n", answers.len())
     }
 
     /// A section's answer; nothing for a no.
@@ -74,7 +75,7 @@ impl Page<'_> {
         let (number, count) = (finds.deciding + 1, finds.matches.len());
         let includes = self.included(section, &finds.matches[finds.deciding]);
         let passed: String =
-            finds.passed.iter().map(|passed| format!(", without {}", self.passed(section, passed))).collect();
+            finds.passed.iter().map(|passed| format!(", not excluded by {}", self.passed(section, passed))).collect();
         format!("{shown}  Match {number} of {count} decides: {includes}{passed}.\n")
     }
 
@@ -123,8 +124,8 @@ impl Page<'_> {
         }
     }
 
-    /// A phrase that the search excludes, and where it is nevertheless.
-    fn passed(&self, section: &Section, Passed { phrase, finds }: &Passed) -> String {
+    /// A phrase that the search excludes, and where the section has it all the same.
+    fn passed(&self, section: &Section, Passed { phrase, finds, .. }: &Passed) -> String {
         let Ok(finds) = finds else { return format!("{phrase} (over 256 times in this section)") };
         let line = |find: &Str| self.manual.line(section.bytes(find.start, find.end).start);
         let mut lines: Vec<usize> = finds.iter().map(line).collect();

@@ -15,7 +15,9 @@ pub fn tokens(text: &str) -> Vec<Range<usize>> {
     tokens
 }
 
-/// A word without regard to case. By way of large letters, so that also 'ß' is 'ss' and every sigma the same.
+/// A word without regard to case. By way of large letters, so that 'ß' is 'ss' and every sigma the same; and first of
+/// small ones, for the large 'ẞ'.
 pub fn folded(word: &str) -> String {
-    word.chars().flat_map(char::to_uppercase).flat_map(char::to_lowercase).collect()
+    let small = word.chars().flat_map(char::to_lowercase);
+    small.flat_map(char::to_uppercase).flat_map(char::to_lowercase).collect()
 }
