@@ -16,7 +16,11 @@ crates=$(awk -v crate="$crate" '
   /:/ { needs[substr($0, 1, index($0, ":") - 1)] = substr($0, index($0, ":") + 1) }
   END { visit(crate); print count }' crates.txt)
 
-echo "Proving $crate and what it is made of, $crates crates: three to five minutes the first time, a second later on."
+if ! command -v rt >/dev/null; then
+  echo "There is no command rt: Rattle's kit is not installed, or not in PATH." >&2
+  exit 1
+fi
+echo "Proving $crate and what it is made of, $crates crates: minutes the first time, seconds later on."
 said=$(mktemp)
 trap 'rm -f "$said"' EXIT
 

@@ -4,7 +4,7 @@ set -euo pipefail
 cd "$(dirname "${BASH_SOURCE[0]}")/.."
 
 bash examples/prove.sh jullpinay >&2
-echo "Building the library and the tool." >&2
+echo "Building the library and the tool: some twenty seconds." >&2
 if ! said=$(rt staticlib jullpinay 2>&1); then
   echo "$said" >&2
   exit 1

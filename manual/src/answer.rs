@@ -16,7 +16,8 @@ pub struct Question<'a> {
 
 /// What a section answers.
 pub enum Answer {
-    No,
+    /// No; the matches, which are all excluded, where they are asked for and can be listed.
+    No(Vec<Match>),
     Yes(Finds),
     /// Yes, but the listing is refused.
     Unlisted(Explained),
@@ -72,11 +73,12 @@ impl<'a> Question<'a> {
         Ok(Question { search, selection, codes, phrases, engine })
     }
 
-    /// What a section answers, given by its numbers.
-    pub fn ask(&mut self, section: &[u32]) -> Answer {
+    /// What a section answers, given by its numbers; `all` asks for the matches of a no.
+    pub fn ask(&mut self, section: &[u32], all: bool) -> Answer {
         match self.engine.quick(section, &self.selection) {
             Err(refusal) => Answer::Refused(of_code(refusal, &self.codes)),
-            Ok(false) => Answer::No,
+            Ok(false) if all => Answer::No(self.engine.listing(section, &self.selection).unwrap_or_default()),
+            Ok(false) => Answer::No(Vec::new()),
             Ok(true) => match self.engine.listing(section, &self.selection) {
                 Err(refusal) => Answer::Unlisted(of_code(refusal, &self.codes)),
                 Ok(matches) => Answer::Yes(self.finds(section, matches)),

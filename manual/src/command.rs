@@ -8,7 +8,7 @@ pub const HELP: &str = r#"manual: searches a manual in plain text with a proved 
 
 usage:
   manual search FILE SEARCH    which sections answer the search with yes, and why
-      --all                    every match, with what it includes and what excludes it
+      --all                    every match, also of sections that say no, with what excludes it
       --json                   the answers for programs
       --quiet                  nothing but the exit status
       --color WHEN             colour instead of [..]: always, never or auto, the default: on a terminal,
@@ -19,32 +19,37 @@ usage:
   manual --help
 
 FILE. Markdown headings begin sections, and a heading's words belong to its section; blank lines part paragraphs; a
-sentence ends at . ! or ? before a blank or a line's end. A word is a run of letters and digits; case doesn't matter.
+sentence ends at . ! or ? before a blank or a line's end. A word is a run of letters and digits; large and small letters
+are alike, and no other forms of a word are found.
 
-SEARCH. A and B are searches; what binds most stands first.
-  "needle bed"                              one to eight words in double quotes, found side by side
-  ( A )                                     as if it were a phrase
-  ftnot A                                   without A
-  A not in B                                A where it isn't part of B
-  A ftand B                                 both
-  A ftor B                                  either
-After a whole search, or one in parentheses, any number of filters:
-  same sentence, same paragraph             all in one
-  different sentence, different paragraph   each in another
-  ordered                                   in the order of the search
-  window N words                            within N words
-  distance exactly N words                  so many words between neighbours; instead of 'exactly' also 'at least' or
-                                            'at most', or 'from N to N words'
-  at start, at end, entire content          at the section's start, at its end, all of it
-What 'ftnot' finds excludes a match. A filter takes away what lies outside it, so it may turn a no into a yes. A section
-says yes if one of its matches is not excluded.
+SEARCH. It stands in single quotes, so that the shell leaves the double ones. A and B are searches:
+  "needle bed"                 one to eight words in double quotes, found side by side
+  ftnot A                      without A
+  A not in B                   A where it isn't part of B
+  A ftand B                    both
+  A ftor B                     either
+  ( A )                        'ftnot' binds most, then 'not in', 'ftand' and 'ftor'; parentheses say otherwise
+After a search, or inside parentheses with it, any number of filters:
+  same sentence                all finds in one sentence; also: same paragraph
+  different sentence           each find in another sentence; also: different paragraph
+  ordered                      finds in the order of the search
+  window N words               all finds within N words
+  distance at most N words     so many words between finds; also: at least N, exactly N, from N to N
+  at start                     a find at the section's start; also: at end
+  entire content               the finds are the whole section
+Filters work from left to right. After a window or a distance the finds are one, so 'ordered', 'same ..' and
+'different ..' stand before it.
+
+A section says yes if it has a match that nothing excludes. What 'ftnot' finds excludes every match at first; a filter
+leaves only what lies in the same sentence, in order, within its words, and so on. So a filter may turn a no into a yes.
+Shown are finds in [..], excludes in {..}, and the first match that isn't excluded: it decides.
 
 examples:
   manual search manual.md '"needle bed" ftand "oil"'
   manual search manual.md '"cam" ftand ftnot "cover" same sentence ordered window 6 words'
   manual search --all manual.md '("yarn" ftand "break" distance at most 3 words) ftor "E12"'
   manual search --quiet manual.md '"bolt" not in "bolt head"' && echo found
-  manual encode manual.md 41 '"cam"' | target/bin/ftlist
+  manual encode manual.md 41 '"cam"' | od -t u4
 
 exit status: 0 if a section says yes, 1 if none does, 2 if something is refused or can't be read.
 "#;

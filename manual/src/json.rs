@@ -108,7 +108,7 @@ fn about(number: usize, section: &Section) -> Vec<(&'static str, Json)> {
 fn section(manual: &Manual, number: usize, section: &Section, answer: &Answer) -> Option<Json> {
     let mut fields = about(number, section);
     match answer {
-        Answer::No => return None,
+        Answer::No(_) => return None,
         Answer::Yes(found) => {
             fields.push(("answer", text("yes")));
             fields.extend(finds(manual, section, found));

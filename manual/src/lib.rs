@@ -10,6 +10,7 @@ pub mod command;
 pub mod document;
 pub mod engine;
 pub mod json;
+pub mod near;
 pub mod refusal;
 pub mod run;
 pub mod search;

@@ -8,9 +8,11 @@ fn main() -> ExitCode {
         Ok(command) => run::run(&command, has_colors()),
         Err(wrong) => run::misused(&wrong),
     };
-    let _ = io::stderr().write_all(errors.as_bytes());
     let mut stdout = io::stdout();
-    match stdout.write_all(&output).and_then(|()| stdout.flush()) {
+    let written = stdout.write_all(&output).and_then(|()| stdout.flush());
+    // last, where they are seen
+    let _ = io::stderr().write_all(errors.as_bytes());
+    match written {
         // whoever reads has seen enough
         Err(error) if error.kind() != io::ErrorKind::BrokenPipe => {
             let _ = writeln!(io::stderr(), "manual: {error}");

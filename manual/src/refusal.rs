@@ -2,6 +2,7 @@
 
 use crate::codes::Code;
 use crate::engine::Refusal;
+use crate::near::nearest;
 use crate::search::Search;
 use std::ops::Range;
 
@@ -48,45 +49,93 @@ fn unexpected(refusal: Refusal) -> String {
     format!("the engine answers {refusal}, which this program should never meet")
 }
 
-/// Why a token can't stand where it does, by itself and by the token before it.
+/// Why a token can't stand where it does, by itself and by what stands before it.
 fn not_allowed(search: &Search, place: &Range<usize>) -> String {
     let token = &search.text[place.clone()];
-    let is_in_phrase = search.text[..place.start].matches('"').count() % 2 == 1;
-    let tokens = search.tokens();
-    let before = tokens
-        .iter()
-        .rfind(|(_, origin)| origin.end <= place.start)
-        .map_or("", |(_, origin)| &search.text[origin.clone()]);
-    let what = match token.chars().next() {
-        None if is_in_phrase => "a phrase isn't closed by a quote",
-        Some('"') if is_in_phrase => "a phrase has at least one word",
-        Some(_) if is_in_phrase => "a phrase has at most eight words",
-        _ if BEFORE_NUMBERS.contains(&before) => "a number has to stand here",
-        None if tokens.is_empty() => "the search is empty",
-        None if before == "\"" || before == ")" || ENDS_OF_FILTERS.contains(&before) => "a parenthesis isn't closed",
-        None => "the search can't end here",
-        Some('"' | '(') if ENDS_OF_FILTERS.contains(&before) => AFTER_FILTER,
-        Some(_) if OPERATORS.contains(&token) && ENDS_OF_FILTERS.contains(&before) => AFTER_FILTER,
-        Some('"') => "a phrase can't stand here; 'ftand', 'ftor' or 'not in' joins two",
-        Some('a'..='z') if !KEYWORDS.contains(&token) => return no_keyword(search, token),
-        Some('A'..='Z') => "outside quotes all letters are small",
-        Some('\u{201C}' | '\u{201D}' | '\u{201E}' | '\'') => "the quotes around a phrase are \"",
-        Some(c) if c.is_whitespace() => "outside quotes only blanks part words",
-        Some(_) => return format!("'{token}' can't stand here"),
+    let before = before(search, place);
+    if count(&before, "\"") % 2 == 1 {
+        return in_phrase(token).to_string();
+    }
+    match awaited(&before) {
+        Some(awaited) => format!("{awaited} has to stand here"),
+        None => misplaced(search, token, &before),
+    }
+}
+
+fn in_phrase(token: &str) -> &'static str {
+    match token {
+        "" => "a phrase isn't closed by a quote",
+        "\"" => "a phrase has at least one word",
+        _ => "a phrase has at most eight words",
+    }
+}
+
+fn misplaced(search: &Search, token: &str, before: &[&str]) -> String {
+    let last = before.last().copied().unwrap_or("");
+    let after_operand = last == "\"" || last == ")";
+    let after_filter = ENDS_OF_FILTERS.contains(&last);
+    let what = match (token.chars().next(), token) {
+        (None, _) if before.is_empty() => "the search is empty",
+        (None, _) if after_operand || after_filter => "a parenthesis isn't closed",
+        (None, _) => "the search can't end here",
+        (_, ")") if count(before, "(") == count(before, ")") => "no parenthesis is open here",
+        (_, "\"" | "(" | "ftor" | "ftand" | "not" | "ftnot") if after_filter => {
+            "after a filter only another one can stand, unless parentheses enclose the search with its filter"
+        }
+        (_, "\"" | "(") => "'ftand', 'ftor' or 'not in' has to join two searches",
+        (_, "ftnot") if after_operand => "'ftand ftnot' has to join two searches",
+        (_, "not") => "'not' can't stand here; is it 'ftnot'?",
+        (Some('a'..='z'), _) if !KEYWORDS.contains(&token) => return no_keyword(search, token),
+        (Some('A'..='Z'), _) => "outside quotes all letters are small",
+        (Some('\u{201C}' | '\u{201D}' | '\u{201E}' | '\''), _) => "the quotes around a phrase are \"",
+        (Some(c), _) if c.is_whitespace() => "outside quotes only blanks part words",
+        _ => return format!("'{token}' can't stand here"),
     };
     what.to_string()
 }
 
+/// The tokens before a place, as the mechanic has typed them.
+fn before<'a>(search: &'a Search, place: &Range<usize>) -> Vec<&'a str> {
+    let tokens = search.tokens().into_iter().take_while(|(_, origin)| origin.end <= place.start);
+    tokens.map(|(_, origin)| &search.text[origin]).collect()
+}
+
+fn count(tokens: &[&str], token: &str) -> usize {
+    tokens.iter().filter(|other| **other == token).count()
+}
+
+/// What alone can follow some tokens, if that is a word or a number.
+fn awaited(before: &[&str]) -> Option<&'static str> {
+    let is_number = |token: &str| token.starts_with(|c: char| c.is_ascii_digit());
+    match before {
+        [.., "window" | "exactly" | "least" | "most" | "from" | "to"] => Some("a number"),
+        [.., "from", number] if is_number(number) => Some("'to'"),
+        [.., number] if is_number(number) => Some("'words'"),
+        [.., "distance"] => Some("'exactly', 'at least', 'at most' or 'from'"),
+        [.., "distance", "at"] => Some("'least' or 'most'"),
+        [.., "at"] => Some("'start' or 'end'"),
+        [.., "same" | "different"] => Some("'sentence' or 'paragraph'"),
+        [.., "entire"] => Some("'content'"),
+        [.., "not"] => Some("'in', or 'ftand ftnot' instead of 'not',"),
+        _ => None,
+    }
+}
+
 fn no_keyword(search: &Search, token: &str) -> String {
+    let meant = match token {
+        "and" => Some("ftand"),
+        "or" => Some("ftor"),
+        _ => nearest(token, KEYWORDS, if token.len() < 5 { 1 } else { 2 }),
+    };
+    if let Some(keyword) = meant {
+        return format!("'{token}' is no word of the search language; is it '{keyword}'?");
+    }
     let shell = match search.text.contains('"') {
         true => "",
         false => "; the whole search stands in single quotes, or the shell takes the double ones away",
     };
     format!("'{token}' is no word of the search language; words to look for stand in double quotes{shell}")
 }
-
-const AFTER_FILTER: &str =
-    "after a filter only another one can stand, unless parentheses enclose the search with its filter";
 
 /// The words of the language, as `docs/REFERENCE.md` has them.
 const KEYWORDS: [&str; 23] = [
@@ -115,6 +164,4 @@ const KEYWORDS: [&str; 23] = [
     "content",
 ];
 
-const OPERATORS: [&str; 3] = ["ftor", "ftand", "not"];
-const BEFORE_NUMBERS: [&str; 6] = ["window", "exactly", "least", "most", "from", "to"];
 const ENDS_OF_FILTERS: [&str; 7] = ["ordered", "words", "sentence", "paragraph", "start", "end", "content"];

@@ -6,7 +6,7 @@ use crate::document::{Manual, Part};
 use crate::json;
 use crate::refusal::Explained;
 use crate::search::Search;
-use crate::show::{explained, Page, BRACKETS, COLORS};
+use crate::show::{explained, Page, View, BRACKETS, COLORS};
 use crate::words::Words;
 use std::fmt::Write;
 use std::path::Path;
@@ -95,7 +95,7 @@ fn encode(manual: &Manual, number: usize, text: Option<&str>) -> Result<Printed,
         numbers.extend(question.selection);
     }
     let bytes: Vec<u8> = numbers.into_iter().flat_map(u32::to_le_bytes).collect();
-    Ok(Printed { errors: notes(manual, &search), ..Printed::output(bytes) })
+    Ok(Printed { errors: notes(manual, &words, &search), ..Printed::output(bytes) })
 }
 
 fn refused(why: &Explained, search: &str) -> String {
@@ -110,15 +110,16 @@ fn search(manual: &Manual, text: &str, output: Output, in_color: bool) -> Printe
         (Err(why), Output::Json) => return Printed { status: TROUBLE, ..Printed::output(json::refused(text, &why)) },
         (Err(why), _) => return Printed::trouble(&refused(&why, text)),
     };
-    let answers: Vec<Answer> =
-        manual.sections.iter().map(|section| question.ask(&manual.numbers(section, &words))).collect();
+    let all = output == Output::Shown(View::AllMatches);
+    let ask = |section| question.ask(&manual.numbers(section, &words), all);
+    let answers: Vec<Answer> = manual.sections.iter().map(ask).collect();
     let printed = match output {
         Output::Quiet => Printed::default(),
         Output::Json => Printed::output(json::answers(manual, &search, &answers)),
         Output::Shown(view) => {
             let marks = if in_color { COLORS } else { BRACKETS };
             let page = Page { manual, search: text, marks, view };
-            Printed { errors: notes(manual, &search), ..Printed::output(page.answers(&answers)) }
+            Printed { errors: notes(manual, &words, &search), ..Printed::output(page.answers(&answers)) }
         }
     };
     Printed { status: status(&answers), ..printed }
@@ -135,10 +136,11 @@ fn status(answers: &[Answer]) -> u8 {
 }
 
 /// What a reader of the answers should know of the words and the sections.
-fn notes(manual: &Manual, search: &Search) -> String {
+fn notes(manual: &Manual, words: &Words, search: &Search) -> String {
     let mut notes = String::new();
     for word in &search.unknown {
-        let _ = writeln!(notes, "manual: the manual does not have the word '{word}'");
+        let near = words.near(word).map_or(String::new(), |near| format!("; is it '{near}'?"));
+        let _ = writeln!(notes, "manual: the manual does not have the word '{word}'{near}");
     }
     for section in manual.sections.iter().filter(|section| section.part.number > 1) {
         let Part { number, count, is_inside } = section.part;

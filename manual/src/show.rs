@@ -36,7 +36,7 @@ pub struct Page<'a> {
 }
 
 impl Page<'_> {
-    /// The sections that say yes or are refused, and how many they are.
+    /// The sections that say yes or are refused, or no with matches that are to be shown; and how many they are.
     pub fn answers(&self, answers: &[Answer]) -> String {
         let sections = (1..).zip(self.manual.sections.iter().zip(answers));
         let text: String = sections.map(|(number, (section, answer))| self.section(number, section, answer)).collect();
@@ -50,10 +50,11 @@ impl Page<'_> {
         format!("{text}{yes} of {} {sections} {say} yes{refused}.\n", answers.len())
     }
 
-    /// A section's answer; nothing for a no.
+    /// A section's answer; nothing for a no without matches.
     fn section(&self, number: usize, section: &Section, answer: &Answer) -> String {
         let said = match answer {
-            Answer::No => return String::new(),
+            Answer::No(matches) if matches.is_empty() => return String::new(),
+            Answer::No(matches) => format!("{}  No: every match is excluded.\n", self.all_matches(section, matches)),
             Answer::Yes(finds) => self.finds(section, finds),
             Answer::Unlisted(why) => {
                 indented(&format!("Yes, but its matches can't be listed: {}", explained(why, self.search)))

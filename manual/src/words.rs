@@ -1,6 +1,7 @@
 //! The words of a manual by number.
 
 use crate::document::Manual;
+use crate::near::nearest;
 use crate::tokens::{folded, tokens};
 use std::collections::BTreeSet;
 
@@ -24,6 +25,11 @@ impl Words {
             Ok(index) => index as u32 + 1,
             Err(_) => UNKNOWN,
         }
+    }
+
+    /// The word of the manual that differs from one in a letter, if there is such a one.
+    pub fn near(&self, word: &str) -> Option<&str> {
+        nearest(&folded(word), self.words.iter().map(String::as_str), 1)
     }
 
     /// Each word with its number.

@@ -36,10 +36,11 @@ fn answered(object: &Json, answer: &str) -> Vec<i64> {
     such.map(|section| section.get("section").number()).collect()
 }
 
-/// The numbers of the sections that a text shows.
+/// The numbers of the sections that a text shows, but those that say no.
 fn shown(text: &str) -> Vec<i64> {
-    let number = |line: &str| line.strip_prefix("Section ")?.split_once(',')?.0.parse().ok();
-    text.lines().filter_map(number).collect()
+    let sections = text.split("\n\n").filter(|section| !section.ends_with("\n  No: every match is excluded."));
+    let number = |section: &str| section.strip_prefix("Section ")?.split_once(',')?.0.parse().ok();
+    sections.filter_map(number).collect()
 }
 
 /// These sections of the example manual say yes, and no others: also with `--all`, `--json` and `--quiet`.
@@ -472,9 +473,25 @@ fn a_match_may_need_no_words() {
   Match 1: no word has to be found, not excluded.
   Match 1 of 1 decides: no word has to be found, not excluded by "bolt" (not in this section).
 
+Section 2, line 4: Cam and cover
+  Match 1: no word has to be found, excluded by "bolt" in line 7.
+      6: The raising cam has one {bolt}.
+  No: every match is excluded.
+
+Section 3, line 12: Bolts
+  Match 1: no word has to be found, excluded by "bolt" in line 14.
+     14: Turn the {bolt}.
+  No: every match is excluded.
+
 1 of 3 sections says yes.
 "#;
     gives(&["search", "--all", small(), r#"ftnot "bolt""#], all, 0);
+}
+
+/// Where the listing of a no is refused, the section is not shown: it may have no matches at all.
+#[test]
+fn all_does_not_show_a_no_whose_listing_is_refused() {
+    gives(&["search", "--all", many(), r#""few" ftand "many" ftand "w""#], "0 of 2 sections say yes.\n", 1);
 }
 
 #[test]

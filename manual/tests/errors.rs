@@ -210,15 +210,15 @@ fn words_without_quotes() {
   "cam" ftand cover
               ^~~~~
 
-'and' is no word of the search language; words to look for stand in double quotes (refusal 10)
+'and' is no word of the search language; is it 'ftand'? (refusal 10)
   "cam" and "cover"
         ^~~
 
-'ftan' is no word of the search language; words to look for stand in double quotes (refusal 10)
+'ftan' is no word of the search language; is it 'ftand'? (refusal 10)
   "cam" ftan "cover"
         ^~~~
 
-'word' is no word of the search language; words to look for stand in double quotes (refusal 10)
+'words' has to stand here (refusal 10)
   "cam" window 6 word
                  ^~~~
 "#,
@@ -237,7 +237,7 @@ fn words_of_the_language_at_a_wrong_place() {
   ftand "cam"
   ^~~~~
 
-'ftnot' can't stand here (refusal 10)
+'ftand ftnot' has to join two searches (refusal 10)
   "cam" ftnot "cover"
         ^~~~~
 
@@ -245,11 +245,11 @@ fn words_of_the_language_at_a_wrong_place() {
   ftnot ftnot "cam"
         ^~~~~
 
-'words' can't stand here (refusal 10)
+'sentence' or 'paragraph' has to stand here (refusal 10)
   "cam" same words
              ^~~~~
 
-'least' can't stand here (refusal 10)
+'start' or 'end' has to stand here (refusal 10)
   "cam" at least 3 words
            ^~~~~
 
@@ -268,7 +268,7 @@ fn numbers_and_signs_at_a_wrong_place() {
   12
   ^~
 
-'3' can't stand here (refusal 10)
+'exactly', 'at least', 'at most' or 'from' has to stand here (refusal 10)
   "cam" distance 3 words
                  ^
 
@@ -276,11 +276,11 @@ fn numbers_and_signs_at_a_wrong_place() {
   "cam", "cover"
        ^
 
-'.' can't stand here (refusal 10)
+'words' has to stand here (refusal 10)
   "cam" window 2.5 words
                 ^
 
-')' can't stand here (refusal 10)
+no parenthesis is open here (refusal 10)
   "cam")
        ^
 
@@ -326,7 +326,7 @@ the quotes around a phrase are " (refusal 10)
 fn phrases() {
     all_refused(
         r#"
-a phrase can't stand here; 'ftand', 'ftor' or 'not in' joins two (refusal 10)
+'ftand', 'ftor' or 'not in' has to join two searches (refusal 10)
   "cam" "cover"
         ^
 
@@ -375,11 +375,11 @@ the search can't end here (refusal 10)
   "cam" not in
               ^
 
-the search can't end here (refusal 10)
+'words' has to stand here (refusal 10)
   "cam" window 6
                 ^
 
-the search can't end here (refusal 10)
+'sentence' or 'paragraph' has to stand here (refusal 10)
   "cam" same
             ^
 "#,
@@ -404,7 +404,7 @@ fn tabs_and_line_ends_outside_quotes() {
     let says = "outside quotes only blanks part words";
     refused("\"cam\"\tftand \"cover\"", says, 10, "     ^");
     // inside quotes a tab parts words; it stands in the caret's line too, so that both lines have the same width
-    let unknown = "'or' is no word of the search language; words to look for stand in double quotes";
+    let unknown = "'or' is no word of the search language; is it 'ftor'?";
     refused("\"needle\tbed\" or", unknown, 10, "       \t     ^~");
     // of a search of several lines the one with the place is shown
     let shown = |line: &str, caret: &str, says: &str| {
@@ -499,19 +499,19 @@ fn nine_phrases_nested_to_the_right() {
 fn carets_stand_under_their_place_whatever_words_are_before_them() {
     all_refused(
         r#"
-'or' is no word of the search language; words to look for stand in double quotes (refusal 10)
+'or' is no word of the search language; is it 'ftor'? (refusal 10)
   "a" ftand "V" ftand "5" or "x"
                           ^~
 
-'or' is no word of the search language; words to look for stand in double quotes (refusal 10)
+'or' is no word of the search language; is it 'ftor'? (refusal 10)
   "technicians, centimetres" ftand "1001 1999 2100" or "x"
                                                     ^~
 
-'or' is no word of the search language; words to look for stand in double quotes (refusal 10)
+'or' is no word of the search language; is it 'ftor'? (refusal 10)
   "Hällmann in Oberlühn" ftand "Dubréau" or "é"
                                          ^~
 
-'or' is no word of the search language; words to look for stand in double quotes (refusal 10)
+'or' is no word of the search language; is it 'ftor'? (refusal 10)
   "unknownwords ééééé ü" or "x"
                          ^~
 
@@ -636,7 +636,7 @@ fn a_refusal_in_json_has_the_engines_place_and_the_bytes_of_the_search() {
     prints(
         r#""hällmann" or "cam""#,
         r#"{"number": 10, "place": 7,
-            "says": "'or' is no word of the search language; words to look for stand in double quotes",
+            "says": "'or' is no word of the search language; is it 'ftor'?",
             "from_byte": 12, "to_byte": 14}"#,
     );
     prints(
@@ -667,6 +667,9 @@ fn words_that_the_manual_does_not_have_are_said() {
     // each once, in the order of the search
     let three = [says("über"), says("camshaft"), says("piston")].concat();
     assert_eq!(search(r#""über camshaft" ftor "piston" ftor "camshaft""#), Ran::new(none, &three, 1));
+    // with a word of the manual that differs in one letter
+    let near = "manual: the manual does not have the word 'Bot'; is it 'bolt'?\n";
+    assert_eq!(search(r#""Bot" ftand "bolt""#), Ran::new(none, near, 1));
     // a yes may not need them
     let found = search(r#""gloves" ftand ftnot "camshaft""#);
     assert_eq!((found.err, found.status), (says("camshaft"), 0));
@@ -676,7 +679,7 @@ fn words_that_the_manual_does_not_have_are_said() {
 /// A refused search is refused alone.
 #[test]
 fn words_that_are_missing_are_not_said_of_a_refused_search() {
-    let says = "'or' is no word of the search language; words to look for stand in double quotes";
+    let says = "'or' is no word of the search language; is it 'ftor'?";
     refused(r#""camshaft" or "piston""#, says, 10, "           ^~");
 }
 
