@@ -152,7 +152,7 @@ impl Section {
         (1..=count).map(part).collect()
     }
 
-    /// Some tokens of a section, whose sentences and paragraphs are counted anew.
+    /// Some tokens of a section. Sentences and paragraphs are counted anew; what is cut of a sentence doesn't belong to it.
     fn part(&self, range: Range<usize>) -> Section {
         let (first, last) = (&self.tokens[range.start], &self.tokens[range.end - 1]);
         let counted_anew = |token: &Token| Token {
@@ -160,12 +160,16 @@ impl Section {
             sentence: token.sentence - (first.sentence - 1),
             paragraph: token.paragraph - (first.paragraph - 1),
         };
-        Section {
-            heading: self.heading.clone(),
-            tokens: self.tokens[range].iter().map(counted_anew).collect(),
-            sentences: self.sentences[first.sentence - 1..last.sentence].to_vec(),
-            ..*self
+        let mut sentences = self.sentences[first.sentence - 1..last.sentence].to_vec();
+        let is_cut = |at: usize| self.tokens[at - 1].sentence == self.tokens[at].sentence;
+        if range.start > 0 && is_cut(range.start) {
+            sentences[0].start = first.bytes.start;
         }
+        if range.end < self.tokens.len() && is_cut(range.end) {
+            sentences[last.sentence - first.sentence].end = last.bytes.end;
+        }
+        let tokens = self.tokens[range].iter().map(counted_anew).collect();
+        Section { heading: self.heading.clone(), tokens, sentences, ..*self }
     }
 }
 

@@ -2,7 +2,7 @@
 
 use crate::answer::{Answer, Question};
 use crate::command::{Color, Command, Output, HELP};
-use crate::document::{Manual, Part};
+use crate::document::Manual;
 use crate::json;
 use crate::refusal::Explained;
 use crate::search::Search;
@@ -142,15 +142,15 @@ fn notes(manual: &Manual, words: &Words, search: &Search) -> String {
         let near = words.near(word).map_or(String::new(), |near| format!("; is it '{near}'?"));
         let _ = writeln!(notes, "manual: the manual does not have the word '{word}'{near}");
     }
-    for section in manual.sections.iter().filter(|section| section.part.number > 1) {
-        let Part { number, count, is_inside } = section.part;
-        let inside = if is_inside { " inside a paragraph" } else { "" };
+    for parts in manual.sections.chunk_by(|_, next| next.part.number > 1).filter(|parts| parts.len() > 1) {
+        let inside =
+            if parts.iter().any(|part| part.part.is_inside) { ", some beginning inside a paragraph" } else { "" };
         let _ = writeln!(
             notes,
-            "manual: '{}' has over 4,096 words; its part {number} of {count} begins in line {}{inside} and is asked by \
-             itself",
-            section.name(),
-            section.line,
+            "manual: '{}' in line {} has over 4,096 words; it is split into {} sections{inside}, each asked by itself",
+            parts[0].name(),
+            parts[0].line,
+            parts.len(),
         );
     }
     notes

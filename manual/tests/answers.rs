@@ -782,7 +782,8 @@ fn long() -> &'static str {
     file("long.md", format!("# Long\n\n{}## Next\n\ndd\n", paragraphs.concat()))
 }
 
-const SPLIT: &str = "manual: 'Long' has over 4,096 words; its part 2 of 2 begins in line 7 and is asked by itself\n";
+const SPLIT: &str =
+    "manual: 'Long' in line 1 has over 4,096 words; it is split into 2 sections, each asked by itself\n";
 
 #[test]
 fn a_section_over_4096_words_is_split_at_a_paragraph_and_that_is_said() {
@@ -823,9 +824,8 @@ fn a_section_of_4096_words_is_not_split() {
          \"last\" in line 5.\n\n1 of 1 section says yes.\n",
         0,
     );
-    let said = SPLIT.replace("line 7", "line 5");
     let ran = search(file("over.md", text(4_095)), r#""long" ftand "last""#);
-    assert_eq!(ran, Ran::new("0 of 2 sections say yes.\n", &said, 1));
+    assert_eq!(ran, Ran::new("0 of 2 sections say yes.\n", SPLIT, 1));
 }
 
 /// Only a paragraph that is too long itself is split inside, and then at a sentence's end.
@@ -848,7 +848,7 @@ Section 2, line 414: Long (part 2 of 2)
 2 of 2 sections say yes.
 "#;
     assert_eq!((ran.out(), ran.status), (wanted, 0));
-    assert_eq!(ran.err, SPLIT.replace("line 7", "line 414 inside a paragraph"));
+    assert_eq!(ran.err, SPLIT.replace("sections,", "sections, some beginning inside a paragraph,"));
 }
 
 /// A search for 'dd' shows no part of the section that is split; that it is must be said all the same.

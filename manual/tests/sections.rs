@@ -471,6 +471,16 @@ fn a_longer_sentence_is_split_after_4096_words() {
 }
 
 #[test]
+fn a_sentence_that_is_cut_has_its_own_words_in_each_part() {
+    let text = format!("a. {} b", long(&[&[4100]]));
+    let manual = manual(&text);
+    let of = |index: usize, number: usize| &manual.text()[manual.sections[index].sentence(number)];
+    assert_eq!((of(0, 1), manual.sections.len()), ("a.", 3));
+    assert_eq!(of(1, 1), vec!["w"; 4096].join(" "));
+    assert_eq!((of(2, 1), of(2, 2)), ("w w w w.", "b"));
+}
+
+#[test]
 fn parts_have_their_sections_heading_and_their_own_line_and_sentences() {
     let manual = manual(&format!("a\n\n## H i\n\n{}\n\n# J", long(&[&[4096], &[2, 4]])));
     let of = |section: &Section| format!("{} {}", section.line, section.name());
