@@ -9,7 +9,7 @@ if ! said=$(rt staticlib jullpinay 2>&1); then
   echo "$said" >&2
   exit 1
 fi
-cargo build --offline --release --quiet --manifest-path manual/Cargo.toml
+cargo build --offline --release --quiet --manifest-path manual/Cargo.toml --target-dir manual/target
 mkdir -p target/bin
 cp manual/target/release/manual target/bin/
 

@@ -44,12 +44,11 @@ pub struct Finds {
     pub passed: Vec<Passed>,
 }
 
-/// A phrase that the search excludes: its number, how it is typed, and where the section has it, unless that is refused
-/// for size.
+/// A phrase that the search excludes: its number, how it is typed, and where the section has it.
 pub struct Passed {
-    pub query: usize,
-    pub phrase: String,
-    pub finds: Result<Vec<Str>, Refusal>,
+    pub phrase: usize,
+    pub typed: String,
+    pub finds: Vec<Str>,
 }
 
 impl Finds {
@@ -66,7 +65,7 @@ impl<'a> Question<'a> {
         let codes = codes(search, &selection);
         // what is wrong with a search is wrong in every section, the empty one too
         match engine.quick(&[0], &selection) {
-            Err(refusal) if refusal.is_of_search() => return Err(of_code(refusal, &codes)),
+            Err(refusal) if refusal.number != Refusal::TOO_LONG => return Err(of_code(refusal, &codes)),
             _ => {}
         }
         let phrases = phrases(&codes);
@@ -89,11 +88,15 @@ impl<'a> Question<'a> {
     fn finds(&mut self, section: &[u32], matches: Vec<Match>) -> Finds {
         let deciding = matches.iter().position(|found| found.excludes.is_empty());
         let phrases = (1..).zip(&self.phrases).filter(|(_, phrase)| phrase.is_excluded);
-        let passed = phrases.map(|(query, phrase)| {
-            let listing = self.engine.listing(section, &phrase.selection);
-            let includes = |matches: Vec<Match>| matches.into_iter().flat_map(|found| found.includes);
-            let finds = listing.map(|matches| includes(matches).map(|find| Str { query, ..find }).collect());
-            Passed { query, phrase: self.search.text[phrase.place.clone()].to_string(), finds }
+        let passed = phrases.map(|(number, phrase)| {
+            let matches = self.engine.listing(section, &phrase.selection);
+            let matches = matches.expect("the list of a phrase of a listing isn't too long");
+            let includes = matches.into_iter().flat_map(|found| found.includes);
+            Passed {
+                phrase: number,
+                typed: self.search.text[phrase.place.clone()].to_string(),
+                finds: includes.map(|find| Str { query: number, ..find }).collect(),
+            }
         });
         Finds {
             matches,

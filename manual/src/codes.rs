@@ -11,7 +11,13 @@ pub struct Code {
     pub place: Range<usize>,
 }
 
+/// Kinds, as `docs/REFERENCE.md` numbers them.
 impl Code {
+    const PHRASE: u32 = 1;
+    const OR: u32 = 2;
+    const AND: u32 = 3;
+    const NOT: u32 = 4;
+    const MILD_NOT: u32 = 5;
     pub const WINDOW: u32 = 7;
 }
 
@@ -41,12 +47,12 @@ pub fn phrases(codes: &[Code]) -> Vec<Phrase> {
     let mut lists: Vec<usize> = Vec::new();
     for (index, code) in codes.iter().enumerate() {
         match code.kind {
-            1 => {
+            Code::PHRASE => {
                 lists.push(phrases.len());
                 phrases.push(phrase(&codes[index - code.operand as usize..=index]));
             }
-            2 | 3 | 5 => _ = lists.pop(),
-            4 => {
+            Code::OR | Code::AND | Code::MILD_NOT => _ = lists.pop(),
+            Code::NOT => {
                 for phrase in &mut phrases[lists[lists.len() - 1]..] {
                     phrase.is_excluded = !phrase.is_excluded;
                 }
@@ -122,13 +128,13 @@ fn places(search: &Search) -> Vec<Range<usize>> {
             b"ordered" => places.filter(place),
             b"window" | b"distance" => places.filter(place.start..end(tokens.find(|(token, _)| *token == b"words"))),
             b"same" | b"different" | b"at" | b"entire" => places.filter(place.start..end(tokens.next())),
-            // a quote: the words up to the next one, and the phrase
-            _ => {
+            b"\"" => {
                 while let Some((_, word)) = tokens.next_if(|(token, _)| *token != b"\"") {
                     places.placed.push(word);
                 }
                 places.placed.push(place.start..end(tokens.next()));
             }
+            _ => unreachable!("an accepted search has no other token at the beginning of a part"),
         }
     }
     places.place_waiting(FTOR);

@@ -8,15 +8,15 @@ pub const HELP: &str = r#"manual: searches a manual in plain text with a proved 
 
 usage:
   manual search FILE SEARCH    which sections answer the search with yes, and why
-      --all                    every match, also of sections that say no, with what excludes it
+      --all                    every match, with what excludes it, also of sections that say no
       --json                   the answers for programs
-      --quiet                  nothing but the exit status
+      --quiet, -q              nothing but the exit status
       --color WHEN             colour instead of [..]: always, never or auto, the default: on a terminal,
                                unless NO_COLOR is set
   manual words FILE            each word of the manual with its number
   manual encode FILE N         section N in the engine's numbers, 32 bits each, the lowest byte first
   manual encode FILE N SEARCH  the same, and after it the search, as the program ftlist reads them
-  manual --help
+  manual --help, -h
 
 FILE. Markdown headings begin sections, and a heading's words belong to its section; blank lines part paragraphs; a
 sentence ends at . ! or ? before a blank or a line's end. A word is a run of letters and digits; large and small letters
@@ -40,9 +40,9 @@ After a search, or inside parentheses with it, any number of filters:
 Filters work from left to right. After a window or a distance the finds are one, so 'ordered', 'same ..' and
 'different ..' stand before it.
 
-A section says yes if it has a match that nothing excludes. What 'ftnot' finds excludes every match at first; a filter
-leaves only what lies in the same sentence, in order, within its words, and so on. So a filter may turn a no into a yes.
-Shown are finds in [..], excludes in {..}, and the first match that isn't excluded: it decides.
+A section says yes if it has a match that nothing excludes. In 'A ftand ftnot B' every B of the section excludes; after
+it a filter leaves only what lies in the same sentence, in order, within its words, and so on. So a filter may turn a
+no into a yes. Shown are finds in [..], excludes in {..}, and the first match that isn't excluded: it decides.
 
 examples:
   manual search manual.md '"needle bed" ftand "oil"'
@@ -139,9 +139,9 @@ impl Options {
         let (name, value) = option.split_once('=').map_or((option, None), |(name, value)| (name, Some(value.into())));
         match (name, &value) {
             ("--help" | "-h", None) => self.help = true,
-            ("--all", None) => self.print(Output::Shown(View::AllMatches))?,
-            ("--json", None) => self.print(Output::Json)?,
-            ("--quiet" | "-q", None) => self.print(Output::Quiet)?,
+            ("--all", None) => self.set_output(Output::Shown(View::AllMatches))?,
+            ("--json", None) => self.set_output(Output::Json)?,
+            ("--quiet" | "-q", None) => self.set_output(Output::Quiet)?,
             ("--color", _) => self.color = color(value.or_else(|| arguments.next()))?,
             _ => return Err(format!("unknown option '{option}'")),
         }
@@ -149,7 +149,7 @@ impl Options {
         Ok(())
     }
 
-    fn print(&mut self, output: Output) -> Result<(), String> {
+    fn set_output(&mut self, output: Output) -> Result<(), String> {
         match self.output.replace(output) {
             Some(other) if other != output => Err("of --all, --json and --quiet only one can be given".to_string()),
             _ => Ok(()),

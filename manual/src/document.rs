@@ -1,6 +1,6 @@
 //! A manual in plain text, as sections of words.
 
-use crate::engine::MOST_WORDS;
+use crate::engine::{Str, MOST_WORDS};
 use crate::tokens::tokens;
 use crate::words::Words;
 use std::ops::Range;
@@ -16,7 +16,7 @@ pub struct Manual {
 /// A section, or a part of one that has too many words for the engine.
 #[derive(Clone, Debug, PartialEq, Eq)]
 pub struct Section {
-    /// None for what stands before the first heading, and under a heading of no words.
+    /// None for what stands before the first heading, and under an empty one.
     pub heading: Option<String>,
     /// Where it begins.
     pub line: usize,
@@ -104,9 +104,9 @@ impl Section {
         self.heading.as_deref().unwrap_or("(no heading)")
     }
 
-    /// The bytes from one position to another, both counted from 1.
-    pub fn bytes(&self, start: usize, end: usize) -> Range<usize> {
-        self.tokens[start - 1].bytes.start..self.tokens[end - 1].bytes.end
+    /// The bytes of a string.
+    pub fn bytes(&self, string: &Str) -> Range<usize> {
+        self.tokens[string.start - 1].bytes.start..self.tokens[string.end - 1].bytes.end
     }
 
     /// The bytes of a sentence, by its number.
@@ -147,13 +147,13 @@ impl Section {
         let part = |number: usize| {
             let (from, to) = (cuts[number - 1], cuts[number]);
             let is_inside = number > 1 && paragraph(from - 1) == paragraph(from);
-            Section { part: Part { number, count, is_inside }, ..self.part(from..to) }
+            Section { part: Part { number, count, is_inside }, ..self.cut(from..to) }
         };
         (1..=count).map(part).collect()
     }
 
     /// Some tokens of a section. Sentences and paragraphs are counted anew; what is cut of a sentence doesn't belong to it.
-    fn part(&self, range: Range<usize>) -> Section {
+    fn cut(&self, range: Range<usize>) -> Section {
         let (first, last) = (&self.tokens[range.start], &self.tokens[range.end - 1]);
         let counted_anew = |token: &Token| Token {
             bytes: token.bytes.clone(),
@@ -180,14 +180,14 @@ fn next_cut(tokens: &[Token], start: usize) -> Option<usize> {
     if tokens.len() <= most {
         return None;
     }
-    let parts = |unit: fn(&Token) -> usize| move |&cut: &usize| unit(&tokens[cut - 1]) != unit(&tokens[cut]);
-    let next_fits = |&cut: &usize| {
-        let next = |token: &&Token| token.paragraph == tokens[cut].paragraph;
-        tokens[cut..].iter().take_while(next).count() <= MOST_WORDS
+    let last_end =
+        |unit: fn(&Token) -> usize| (start + 1..=most).rfind(|&at| unit(&tokens[at - 1]) != unit(&tokens[at]));
+    let next_fits = |&at: &usize| {
+        let next = |token: &&Token| token.paragraph == tokens[at].paragraph;
+        tokens[at..].iter().take_while(next).count() <= MOST_WORDS
     };
-    let by_paragraph = (start + 1..=most).rfind(parts(|token| token.paragraph)).filter(next_fits);
-    let by_sentence = || (start + 1..=most).rfind(parts(|token| token.sentence));
-    by_paragraph.or_else(by_sentence).or(Some(most))
+    let paragraph = last_end(|token| token.paragraph).filter(next_fits);
+    paragraph.or_else(|| last_end(|token| token.sentence)).or(Some(most))
 }
 
 /// What blank lines, headings and fences part: the bytes of a heading's text, or of a paragraph.
@@ -202,8 +202,9 @@ enum Block {
 struct Blocks {
     blocks: Vec<Block>,
     open: Option<Range<usize>>,
-    /// Is it code: between fences, or indented?
-    is_code: bool,
+    is_fenced: bool,
+    /// May it be underlined? Code, lists and quotations may not.
+    is_plain: bool,
 }
 
 impl Blocks {
@@ -216,18 +217,23 @@ impl Blocks {
         self.blocks.push(Block::Heading(bytes));
     }
 
-    fn line(&mut self, bytes: Range<usize>, is_code: bool) {
-        if self.is_code != is_code {
+    fn underline(&mut self) {
+        self.close(if self.is_plain { Block::Heading } else { Block::Paragraph });
+    }
+
+    fn line(&mut self, bytes: Range<usize>, is_fenced: bool, is_plain: bool) {
+        if self.is_fenced != is_fenced {
             self.close(Block::Paragraph);
         }
+        self.is_fenced = is_fenced;
+        self.is_plain = is_plain && (self.open.is_none() || self.is_plain);
         let start = self.open.take().map_or(bytes.start, |lines| lines.start);
         self.open = Some(start..bytes.end);
-        self.is_code = is_code;
     }
 }
 
 /// Headings are Markdown's: a line that begins with one to six `#` and a blank, or a paragraph underlined by `=` or `-`.
-/// There are none in code. A line indented by four blanks or a tab is code, unless it goes on with a paragraph.
+/// There are none between fences, and a line that is indented by four blanks or a tab is none.
 fn blocks(text: &str) -> Vec<Block> {
     let mut blocks = Blocks::default();
     let mut fence = None;
@@ -235,32 +241,33 @@ fn blocks(text: &str) -> Vec<Block> {
     for line in text.split_inclusive('\n') {
         let bytes = begin..begin + line.trim_end().len();
         begin += line.len();
-        let words = line.trim();
-        let indent = &line[..line.len() - line.trim_start().len()];
+        let (indent, words) = line.split_at(line.len() - line.trim_start_matches([' ', '\t']).len());
+        let words = words.trim_end();
         let is_indented = indent.len() >= 4 || indent.contains('\t');
         let fence_before = fence;
         if !is_indented {
             fence = fence_after(fence_before, words);
         }
-        let is_fenced = fence_before.or(fence).is_some();
         if words.is_empty() {
             blocks.close(Block::Paragraph);
-        } else if is_fenced || is_indented {
-            blocks.line(bytes, is_fenced || blocks.open.is_none() || blocks.is_code);
+        } else if fence_before.or(fence).is_some() {
+            blocks.line(bytes, true, false);
+        } else if is_indented {
+            blocks.line(bytes, false, blocks.open.is_some());
         } else if let Some(title) = title(words) {
-            let start = title.as_ptr() as usize - text.as_ptr() as usize;
+            let start = bytes.start + indent.len() + title.start;
             blocks.heading(start..start + title.len());
         } else if is_underline(words) {
-            blocks.close(if blocks.is_code { Block::Paragraph } else { Block::Heading });
+            blocks.underline();
         } else {
-            blocks.line(bytes, false);
+            blocks.line(bytes, false, !is_item(words));
         }
     }
     blocks.close(Block::Paragraph);
     blocks.blocks
 }
 
-/// The fence of code that is open after a line: three or more of ` or ~, with no ` after them; as many close it.
+/// The fence of code that is open after a line: three or more of ~, or of ` with none after them; as many close it.
 fn fence_after<'a>(open: Option<&'a str>, line: &'a str) -> Option<&'a str> {
     let run = |sign: char| &line[..line.len() - line.trim_start_matches(sign).len()];
     let fence = ['`', '~'].map(run).into_iter().find(|run| run.len() >= 3);
@@ -271,20 +278,26 @@ fn fence_after<'a>(open: Option<&'a str>, line: &'a str) -> Option<&'a str> {
     }
 }
 
-/// The text of a heading that begins with `#`, without the `#` that may close it.
-fn title(line: &str) -> Option<&str> {
-    let title = line.trim_start_matches('#');
-    let level = line.len() - title.len();
-    let begins = title.is_empty() || title.starts_with(char::is_whitespace);
-    if !(1..=6).contains(&level) || !begins {
+/// Where the text stands in a heading that begins with `#`, without the `#` that may close it.
+fn title(line: &str) -> Option<Range<usize>> {
+    let after = line.trim_start_matches('#');
+    let level = line.len() - after.len();
+    if !(1..=6).contains(&level) || !(after.is_empty() || after.starts_with(char::is_whitespace)) {
         return None;
     }
-    let unclosed = title.trim_end_matches('#');
-    Some(if unclosed.ends_with(char::is_whitespace) { unclosed.trim() } else { title.trim() })
+    let unclosed = line.trim_end_matches('#');
+    let title = if unclosed.ends_with(char::is_whitespace) { unclosed.trim_end() } else { line };
+    let start = line.len() - after.trim_start().len();
+    Some(start.min(title.len())..title.len())
 }
 
 fn is_underline(line: &str) -> bool {
-    ["=", "-"].iter().any(|sign| line.trim_matches(|c| sign.contains(c)).is_empty())
+    ['=', '-'].iter().any(|&sign| line.chars().all(|c| c == sign))
+}
+
+/// Does a line begin an item of a list, or belong to a quotation?
+fn is_item(line: &str) -> bool {
+    ["- ", "* ", "+ ", ">"].iter().any(|sign| line.starts_with(sign))
 }
 
 /// The sentences of some bytes: each ends at a `.`, `!` or `?` before a blank or a line's end.

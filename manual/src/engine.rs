@@ -30,11 +30,6 @@ impl Refusal {
     pub const TOO_LONG: u32 = 9;
     pub const GRAMMAR: u32 = 10;
     pub const TOO_LARGE: u32 = 11;
-
-    /// Is it the search that is refused, whatever the section?
-    pub fn is_of_search(self) -> bool {
-        matches!(self.number, 3..=7 | 10..=11)
-    }
 }
 
 impl fmt::Display for Refusal {
@@ -64,6 +59,7 @@ pub struct Engine {
     buffer: Vec<u32>,
 }
 
+#[allow(clippy::new_without_default)]
 impl Engine {
     pub fn new() -> Engine {
         Engine { work: vec![0; WORK], buffer: vec![0; BUFFER] }
@@ -123,21 +119,14 @@ impl Engine {
     }
 }
 
-impl Default for Engine {
-    fn default() -> Engine {
-        Engine::new()
-    }
-}
-
 fn refusal(answer: &[u32]) -> Refusal {
     Refusal { number: answer[0], place: answer[1] as usize }
 }
 
 /// A listing taken apart: M, S, the count of strings of each match, the spans, the tags.
 fn matches(buffer: &[u32]) -> Vec<Match> {
-    let (counts, strings) = (buffer[0] as usize, buffer[1] as usize);
-    let (counts, rest) = buffer[2..].split_at(counts);
-    let (spans, tags) = rest.split_at(strings);
+    let (counts, strings) = buffer[2..].split_at(buffer[0] as usize);
+    let (spans, tags) = strings.split_at(buffer[1] as usize);
     let mut strings = spans.iter().zip(tags);
     counts.iter().map(|&count| match_of(strings.by_ref().take(count as usize))).collect()
 }

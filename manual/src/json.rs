@@ -124,12 +124,11 @@ fn finds(manual: &Manual, section: &Section, finds: &Finds) -> Vec<(&'static str
     let listed =
         |found: &Match| Object(vec![("includes", strings(&found.includes)), ("excludes", strings(&found.excludes))]);
     let passed = finds.passed.iter().map(|passed| {
-        let mut fields = vec![("phrase", Number(passed.query)), ("typed", text(&passed.phrase))];
-        match &passed.finds {
-            Ok(finds) => fields.push(("finds", strings(finds))),
-            Err(_) => fields.push(("over_256_finds", Bool(true))),
-        }
-        Object(fields)
+        Object(vec![
+            ("phrase", Number(passed.phrase)),
+            ("typed", text(&passed.typed)),
+            ("finds", strings(&passed.finds)),
+        ])
     });
     vec![
         ("matches", List(finds.matches.iter().map(listed).collect())),
@@ -139,7 +138,7 @@ fn finds(manual: &Manual, section: &Section, finds: &Finds) -> Vec<(&'static str
 }
 
 fn string(manual: &Manual, section: &Section, string: &Str) -> Json {
-    let bytes = section.bytes(string.start, string.end);
+    let bytes = section.bytes(string);
     Object(vec![
         ("phrase", Number(string.query)),
         ("start", Number(string.start)),

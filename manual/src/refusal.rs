@@ -2,7 +2,7 @@
 
 use crate::codes::Code;
 use crate::engine::Refusal;
-use crate::near::nearest;
+use crate::near::near;
 use crate::search::Search;
 use std::ops::Range;
 
@@ -51,14 +51,25 @@ fn unexpected(refusal: Refusal) -> String {
 
 /// Why a token can't stand where it does, by itself and by what stands before it.
 fn not_allowed(search: &Search, place: &Range<usize>) -> String {
-    let token = &search.text[place.clone()];
+    let rest = &search.text[place.start..];
     let before = before(search, place);
+    if search.text.trim().is_empty() {
+        return "the search is empty".to_string();
+    }
+    if rest.starts_with(OTHER_QUOTES) {
+        return "the quotes around a phrase are \"".to_string();
+    }
+    if !search.text.contains('"') {
+        return "words to look for stand in double quotes, and the whole search in single quotes, or the shell takes the \
+                double ones away"
+            .to_string();
+    }
     if count(&before, "\"") % 2 == 1 {
-        return in_phrase(token).to_string();
+        return in_phrase(&search.text[place.clone()]).to_string();
     }
     match awaited(&before) {
         Some(awaited) => format!("{awaited} has to stand here"),
-        None => misplaced(search, token, &before),
+        None => misplaced(&search.text[place.clone()], rest, &before),
     }
 }
 
@@ -70,28 +81,43 @@ fn in_phrase(token: &str) -> &'static str {
     }
 }
 
-fn misplaced(search: &Search, token: &str, before: &[&str]) -> String {
+/// Why a token, or the word that the text goes on with, can't stand after these.
+fn misplaced(token: &str, rest: &str, before: &[&str]) -> String {
     let last = before.last().copied().unwrap_or("");
     let after_operand = last == "\"" || last == ")";
     let after_filter = ENDS_OF_FILTERS.contains(&last);
-    let what = match (token.chars().next(), token) {
-        (None, _) if before.is_empty() => "the search is empty",
-        (None, _) if after_operand || after_filter => "a parenthesis isn't closed",
-        (None, _) => "the search can't end here",
-        (_, ")") if count(before, "(") == count(before, ")") => "no parenthesis is open here",
-        (_, "\"" | "(" | "ftor" | "ftand" | "not" | "ftnot") if after_filter => {
+    let what = match token {
+        "" if after_operand || after_filter => "a parenthesis isn't closed",
+        "" => "the search can't end here",
+        ")" if count(before, "(") == count(before, ")") => "no parenthesis is open here",
+        "\"" | "(" | "ftor" | "ftand" | "not" | "ftnot" if after_filter => {
             "after a filter only another one can stand, unless parentheses enclose the search with its filter"
         }
-        (_, "\"" | "(") => "'ftand', 'ftor' or 'not in' has to join two searches",
-        (_, "ftnot") if after_operand => "'ftand ftnot' has to join two searches",
-        (_, "not") => "'not' can't stand here; is it 'ftnot'?",
-        (Some('a'..='z'), _) if !KEYWORDS.contains(&token) => return no_keyword(search, token),
-        (Some('A'..='Z'), _) => "outside quotes all letters are small",
-        (Some('\u{201C}' | '\u{201D}' | '\u{201E}' | '\''), _) => "the quotes around a phrase are \"",
-        (Some(c), _) if c.is_whitespace() => "outside quotes only blanks part words",
-        _ => return format!("'{token}' can't stand here"),
+        "\"" | "(" => "'ftand', 'ftor' or 'not in' has to join two searches",
+        "ftnot" if after_operand => "'ftand ftnot' has to join two searches",
+        "not" => "'not' can't stand here; is it 'ftnot'?",
+        _ if token.trim().is_empty() => "outside quotes only blanks part words",
+        _ if KEYWORDS.contains(&token) || !rest.starts_with(char::is_alphabetic) => {
+            return format!("'{token}' can't stand here")
+        }
+        _ => return no_keyword(&rest[..rest.find(|c: char| !c.is_alphanumeric()).unwrap_or(rest.len())]),
     };
     what.to_string()
+}
+
+fn no_keyword(word: &str) -> String {
+    let meant = match word {
+        "and" => Some("ftand"),
+        "or" => Some("ftor"),
+        _ if KEYWORDS.contains(&word.to_lowercase().as_str()) => {
+            return "outside quotes all letters are small".to_string()
+        }
+        _ => near(word, KEYWORDS),
+    };
+    match meant {
+        Some(keyword) => format!("'{word}' is no word of the search language; is it '{keyword}'?"),
+        None => format!("'{word}' is no word of the search language; words to look for stand in double quotes"),
+    }
 }
 
 /// The tokens before a place, as the mechanic has typed them.
@@ -121,22 +147,6 @@ fn awaited(before: &[&str]) -> Option<&'static str> {
     }
 }
 
-fn no_keyword(search: &Search, token: &str) -> String {
-    let meant = match token {
-        "and" => Some("ftand"),
-        "or" => Some("ftor"),
-        _ => nearest(token, KEYWORDS, if token.len() < 5 { 1 } else { 2 }),
-    };
-    if let Some(keyword) = meant {
-        return format!("'{token}' is no word of the search language; is it '{keyword}'?");
-    }
-    let shell = match search.text.contains('"') {
-        true => "",
-        false => "; the whole search stands in single quotes, or the shell takes the double ones away",
-    };
-    format!("'{token}' is no word of the search language; words to look for stand in double quotes{shell}")
-}
-
 /// The words of the language, as `docs/REFERENCE.md` has them.
 const KEYWORDS: [&str; 23] = [
     "ftor",
@@ -163,5 +173,8 @@ const KEYWORDS: [&str; 23] = [
     "entire",
     "content",
 ];
+
+const OTHER_QUOTES: [char; 10] =
+    ['\'', '`', '\u{2018}', '\u{2019}', '\u{201A}', '\u{201C}', '\u{201D}', '\u{201E}', '\u{AB}', '\u{BB}'];
 
 const ENDS_OF_FILTERS: [&str; 7] = ["ordered", "words", "sentence", "paragraph", "start", "end", "content"];

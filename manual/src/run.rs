@@ -2,13 +2,12 @@
 
 use crate::answer::{Answer, Question};
 use crate::command::{Color, Command, Output, HELP};
-use crate::document::Manual;
+use crate::document::{Manual, Section};
 use crate::json;
 use crate::refusal::Explained;
 use crate::search::Search;
 use crate::show::{explained, Page, View, BRACKETS, COLORS};
 use crate::words::Words;
-use std::fmt::Write;
 use std::path::Path;
 
 /// Exit statuses, as grep's.
@@ -89,13 +88,15 @@ fn encode(manual: &Manual, number: usize, text: Option<&str>) -> Result<Printed,
         return Err(format!("there is no section {number}; they are 1 to {}", manual.sections.len()));
     };
     let mut numbers = manual.numbers(section, &words);
-    let search = Search::new(text.unwrap_or(""), &words);
+    let mut errors = split(manual);
     if let Some(text) = text {
+        let search = Search::new(text, &words);
         let question = Question::new(&search).map_err(|why| refused(&why, text))?;
         numbers.extend(question.selection);
+        errors += &unknown(&search, &words);
     }
     let bytes: Vec<u8> = numbers.into_iter().flat_map(u32::to_le_bytes).collect();
-    Ok(Printed { errors: notes(manual, &words, &search), ..Printed::output(bytes) })
+    Ok(Printed { errors, ..Printed::output(bytes) })
 }
 
 fn refused(why: &Explained, search: &str) -> String {
@@ -119,7 +120,8 @@ fn search(manual: &Manual, text: &str, output: Output, in_color: bool) -> Printe
         Output::Shown(view) => {
             let marks = if in_color { COLORS } else { BRACKETS };
             let page = Page { manual, search: text, marks, view };
-            Printed { errors: notes(manual, &words, &search), ..Printed::output(page.answers(&answers)) }
+            let errors = split(manual) + &unknown(&search, &words);
+            Printed { errors, ..Printed::output(page.answers(&answers)) }
         }
     };
     Printed { status: status(&answers), ..printed }
@@ -135,23 +137,23 @@ fn status(answers: &[Answer]) -> u8 {
     }
 }
 
-/// What a reader of the answers should know of the words and the sections.
-fn notes(manual: &Manual, words: &Words, search: &Search) -> String {
-    let mut notes = String::new();
-    for word in &search.unknown {
+/// Which words of a search the manual does not have.
+fn unknown(search: &Search, words: &Words) -> String {
+    let note = |word: &&str| {
         let near = words.near(word).map_or(String::new(), |near| format!("; is it '{near}'?"));
-        let _ = writeln!(notes, "manual: the manual does not have the word '{word}'{near}");
-    }
-    for parts in manual.sections.chunk_by(|_, next| next.part.number > 1).filter(|parts| parts.len() > 1) {
-        let inside =
-            if parts.iter().any(|part| part.part.is_inside) { ", some beginning inside a paragraph" } else { "" };
-        let _ = writeln!(
-            notes,
-            "manual: '{}' in line {} has over 4,096 words; it is split into {} sections{inside}, each asked by itself",
-            parts[0].name(),
-            parts[0].line,
-            parts.len(),
-        );
-    }
-    notes
+        format!("manual: the manual does not have the word '{word}'{near}\n")
+    };
+    search.unknown.iter().map(note).collect()
+}
+
+/// Which sections are split.
+fn split(manual: &Manual) -> String {
+    let sections = manual.sections.chunk_by(|_, next| next.part.number > 1);
+    let note = |parts: &[Section]| {
+        let is_inside = parts.iter().any(|section| section.part.is_inside);
+        let inside = if is_inside { ", some beginning inside a paragraph" } else { "" };
+        let (name, line, count) = (parts[0].name(), parts[0].line, parts.len());
+        format!("manual: '{name}' in line {line} has over 4,096 words; it is in {count} parts{inside}, each asked by itself\n")
+    };
+    sections.filter(|parts| parts.len() > 1).map(note).collect()
 }

@@ -114,9 +114,9 @@ impl Page<'_> {
         strings.join(" and ")
     }
 
-    /// The words of a string, or its first and its last ones, and its line.
+    /// The words of a string, or its first two and its last one, and its line.
     fn string(&self, section: &Section, string: &Str) -> String {
-        let bytes = section.bytes(string.start, string.end);
+        let bytes = section.bytes(string);
         let line = self.manual.line(bytes.start);
         let words: Vec<&str> = self.manual.text()[bytes].split_whitespace().collect();
         match words[..] {
@@ -126,17 +126,16 @@ impl Page<'_> {
     }
 
     /// A phrase that the search excludes, and where the section has it all the same.
-    fn passed(&self, section: &Section, Passed { phrase, finds, .. }: &Passed) -> String {
-        let Ok(finds) = finds else { return format!("{phrase} (over 256 times in this section)") };
-        let line = |find: &Str| self.manual.line(section.bytes(find.start, find.end).start);
-        let mut lines: Vec<usize> = finds.iter().map(line).collect();
+    fn passed(&self, section: &Section, Passed { typed, finds, .. }: &Passed) -> String {
+        let mut lines: Vec<usize> = finds.iter().map(|find| self.manual.line(section.bytes(find).start)).collect();
         lines.dedup();
+        let typed = one_line(typed);
         match lines[..] {
-            [] => format!("{phrase} (not in this section)"),
-            [line] => format!("{phrase} (line {line})"),
+            [] => format!("{typed} (not in this section)"),
+            [line] => format!("{typed} (line {line})"),
             _ => {
                 let lines: Vec<String> = lines.iter().map(usize::to_string).collect();
-                format!("{phrase} (lines {})", lines.join(", "))
+                format!("{typed} (lines {})", lines.join(", "))
             }
         }
     }
@@ -144,16 +143,17 @@ impl Page<'_> {
     /// The sentences in which some of the strings lie, a line each, with their words marked.
     fn sentences(&self, section: &Section, includes: &[Str], excludes: &[Str]) -> String {
         let (includes, excludes) = (spans(includes), spans(excludes));
+        let marks = [(&includes, self.marks.include), (&excludes, self.marks.exclude)];
         let mark_at = |position: usize| {
-            let covers = |span: &Span| span.contains(&position);
-            let include = includes.iter().find(|span| covers(span)).map(|span| (span, self.marks.include));
-            include.or_else(|| excludes.iter().find(|span| covers(span)).map(|span| (span, self.marks.exclude)))
+            let mut marked = marks.iter().flat_map(|(spans, sign)| spans.iter().map(move |span| (span, *sign)));
+            marked.find(|(span, _)| span.contains(&position))
         };
-        let marked: Vec<_> = (1..).zip(&section.tokens).map(|(position, token)| (token, mark_at(position))).collect();
+        let words = (1..).zip(&section.tokens).map(|(position, token)| Word { token, mark: mark_at(position) });
+        let words: Vec<Word> = words.collect();
         let mut text = String::new();
-        for sentence in marked.chunk_by(|(one, _), (next, _)| one.sentence == next.sentence) {
-            if sentence.iter().any(|(_, mark)| mark.is_some()) {
-                let bytes = section.sentence(sentence[0].0.sentence);
+        for sentence in words.chunk_by(|one, next| one.token.sentence == next.token.sentence) {
+            if sentence.iter().any(|word| word.mark.is_some()) {
+                let bytes = section.sentence(sentence[0].token.sentence);
                 let line = self.manual.line(bytes.start);
                 let _ = writeln!(text, "  {line:>5}: {}", self.sentence(bytes, sentence));
             }
@@ -161,19 +161,43 @@ impl Page<'_> {
         text
     }
 
-    /// A sentence, with what is marked of its words between its signs.
-    fn sentence(&self, bytes: Range<usize>, words: &[(&Token, Option<(&Span, Sign)>)]) -> String {
-        let manual = self.manual.text();
+    /// A sentence, with what is marked of its words between its signs. Far from these its words are left out.
+    fn sentence(&self, bytes: Range<usize>, words: &[Word]) -> String {
+        let runs: Vec<&[Word]> = words.chunk_by(|one, next| one.mark == next.mark).collect();
         let mut text = String::new();
         let mut at = bytes.start;
-        for run in words.chunk_by(|(_, one), (_, next)| one.is_some() && one == next) {
-            let (on, off) = run[0].1.map_or(("", ""), |(_, sign)| sign);
-            let words = run[0].0.bytes.start..run[run.len() - 1].0.bytes.end;
-            let _ = write!(text, "{}{on}{}{off}", &manual[at..words.start], &manual[words.clone()]);
-            at = words.end;
+        for (index, run) in runs.iter().enumerate() {
+            let (on, off) = run[0].mark.map_or(("", ""), |(_, sign)| sign);
+            let is_marked = run[0].mark.is_some();
+            let first = if is_marked || index > 0 { NEAR } else { 0 };
+            let last = if is_marked || index + 1 < runs.len() { NEAR } else { 0 };
+            let between = &self.manual.text()[at..run[0].token.bytes.start];
+            text += &format!("{between}{on}{}{off}", self.shortened(run, first, last));
+            at = run[run.len() - 1].token.bytes.end;
         }
-        one_line(&(text + &manual[at..bytes.end]))
+        one_line(&(text + &self.manual.text()[at..bytes.end]))
     }
+
+    /// Some words, or of many the first and the last ones.
+    fn shortened(&self, words: &[Word], first: usize, last: usize) -> String {
+        let text = |words: &[Word]| match words {
+            [] => "",
+            [one, ..] => &self.manual.text()[one.token.bytes.start..words[words.len() - 1].token.bytes.end],
+        };
+        if words.len() <= first + last + NEAR {
+            return text(words).to_string();
+        }
+        format!("{} .. {}", text(&words[..first]), text(&words[words.len() - last..]))
+    }
+}
+
+/// How many words are shown on either side of those that are marked, if a sentence is long.
+const NEAR: usize = 20;
+
+/// A word of a section, and the span that it is marked for, with its sign.
+struct Word<'a> {
+    token: &'a Token,
+    mark: Option<(&'a Span, Sign)>,
 }
 
 type Span = RangeInclusive<usize>;

@@ -1,11 +1,11 @@
 //! The words of a manual by number.
 
 use crate::document::Manual;
-use crate::near::nearest;
-use crate::tokens::{folded, tokens};
-use std::collections::BTreeSet;
+use crate::near::near;
+use crate::tokens::folded;
+use std::collections::HashSet;
 
-/// Every word of a manual, case folded, in the order of its letters. Its number is its place here, from 1.
+/// Every word of a manual, case folded, in the order of their bytes. Its number is its place here, from 1.
 pub struct Words {
     words: Vec<String>,
 }
@@ -15,9 +15,11 @@ pub const UNKNOWN: u32 = 0;
 
 impl Words {
     pub fn of(manual: &Manual) -> Words {
-        let words: BTreeSet<String> =
-            tokens(manual.text()).into_iter().map(|word| folded(&manual.text()[word])).collect();
-        Words { words: words.into_iter().collect() }
+        let tokens = manual.sections.iter().flat_map(|section| &section.tokens);
+        let words: HashSet<String> = tokens.map(|token| folded(&manual.text()[token.bytes.clone()])).collect();
+        let mut words: Vec<String> = words.into_iter().collect();
+        words.sort_unstable();
+        Words { words }
     }
 
     pub fn number(&self, word: &str) -> u32 {
@@ -29,7 +31,7 @@ impl Words {
 
     /// The word of the manual that differs from one in a letter, if there is such a one.
     pub fn near(&self, word: &str) -> Option<&str> {
-        nearest(&folded(word), self.words.iter().map(String::as_str), 1)
+        near(&folded(word), self.words.iter().map(String::as_str))
     }
 
     /// Each word with its number.

@@ -309,20 +309,27 @@ fn colour_is_the_default_on_a_terminal() {
     if terminal().is_none() {
         return println!("no terminal here: the default colour is not tested");
     }
-    let shown = |arguments: &[&str]| {
+    let shown_with = |name: &str, value: &str, arguments: &[&str]| {
         let (mut looks, writes) = terminal().unwrap();
-        assert!(tool(arguments).stdout(writes).status().unwrap().success());
+        assert!(tool(arguments).env(name, value).stdout(writes).status().unwrap().success());
         // when nobody writes to it any more the terminal ends with an error
         let mut text = String::new();
         let _ = looks.read_to_string(&mut text);
         text.replace("\r\n", "\n")
     };
+    let shown = |arguments: &[&str]| shown_with("TERM", "xterm", arguments);
     let coloured = run(&["search", "--color", "always", small(), r#""hot""#]);
     let brackets = run(&["search", "--color", "never", small(), r#""hot""#]);
     assert_eq!(shown(&["search", small(), r#""hot""#]), coloured.out());
     assert_eq!(shown(&["search", "--color", "auto", small(), r#""hot""#]), coloured.out());
     assert_eq!(shown(&["search", "--color", "never", small(), r#""hot""#]), brackets.out());
     assert_ne!(coloured, brackets);
+    // unless colours are refused, or the terminal has none
+    for (name, value, wanted) in
+        [("NO_COLOR", "1", &brackets), ("NO_COLOR", "", &coloured), ("TERM", "dumb", &brackets)]
+    {
+        assert_eq!(shown_with(name, value, &["search", small(), r#""hot""#]), wanted.out(), "{name}={value}");
+    }
 }
 
 #[test]
@@ -426,6 +433,8 @@ fn finds_that_overlap_stand_in_one_pair_of_brackets() {
 1 of 3 sections says yes.
 "#;
     gives(&["search", small(), r#""raising cam" ftor "cam has""#], joined, 0);
+    let ran = search(small(), r#""raising cam has" ftor "cam""#);
+    assert!(ran.out().contains("      6: The [raising cam has] one bolt.\n"), "{ran:?}");
     // those side by side don't
     let ran = search(small(), r#""raising" ftor "has one""#);
     assert!(ran.out().contains("      6: The [raising] cam [has one] bolt.\n"), "{ran:?}");
@@ -515,9 +524,53 @@ Section 41, line 383: Bulletin 14: worn cam changed from below
     gives(&["search", EXAMPLE, r#""tighten the bolt" ftand ftnot "cover" same paragraph"#], wanted, 0);
 }
 
+/// A sentence of a hundred words, w1 to w100.
+fn hundred() -> &'static str {
+    let words: Vec<String> = (1..=100).map(|number| format!("w{number}")).collect();
+    file("hundred.md", format!("- {}.\n", words.join(" ")))
+}
+
+/// The words from one number to another.
+fn range(from: usize, to: usize) -> String {
+    (from..=to).map(|number| format!("w{number}")).collect::<Vec<_>>().join(" ")
+}
+
+#[test]
+fn of_a_long_sentence_the_words_near_a_find_are_shown() {
+    let line = |search: &str, wanted: &str| {
+        let ran = run(&["search", hundred(), search]);
+        assert_eq!(ran.out().lines().nth(1), Some(&*format!("      1: - {wanted}")), "{search}");
+    };
+    line(r#""w50""#, &format!(".. {} [w50] {} .. .", range(30, 49), range(51, 70)));
+    line(r#""w20""#, &format!("{} [w20] {} .. .", range(1, 19), range(21, 40)));
+    let ends = format!("[w1] {} .. {} [w100].", range(2, 21), range(80, 99));
+    line(r#""w1" ftor "w100""#, &ends);
+    let joined = format!("{} [{} .. {}] {}.", range(1, 9), range(10, 29), range(71, 90), range(91, 100));
+    line(r#""w10" ftand "w90" distance at most 79 words"#, &joined);
+}
+
+#[test]
+fn of_a_long_find_the_first_and_last_words_are_named() {
+    let decides = |search: &str, find: &str| {
+        let wanted = format!("\n  Match 1 of 1 decides: {find} in line 1.\n");
+        assert!(run(&["search", hundred(), search]).out().contains(&wanted), "{search}");
+    };
+    decides(r#""w10" ftand "w17" distance at most 6 words"#, &format!("\"{}\"", range(10, 17)));
+    decides(r#""w10" ftand "w18" distance at most 7 words"#, "\"w10 w11 .. w18\"");
+}
+
+/// The search stands on two lines; the caret stands under the first.
+#[test]
+fn a_caret_ends_with_its_line() {
+    let wanted = format!("  Neither yes nor no is known: {TOO_MANY}\n    \"w\n    ^~\n");
+    let ran = search(many(), "\"w\nw\" ordered");
+    assert!(ran.out().contains(&wanted), "{ran:?}");
+}
+
 #[test]
 fn quiet_gives_nothing_but_the_status() {
     gives(&["search", "--quiet", small(), r#""cam""#], "", 0);
+    gives(&["search", "-q", small(), r#""cam""#, "--quiet"], "", 0);
     gives(&["search", "--quiet", "--color", "always", small(), r#""cam""#], "", 0);
     gives(&["search", "--quiet", small(), r#""cam" ftand "bolts""#], "", 1);
     gives(&["search", "--quiet", small(), r#""nowhere""#], "", 1);
@@ -782,8 +835,7 @@ fn long() -> &'static str {
     file("long.md", format!("# Long\n\n{}## Next\n\ndd\n", paragraphs.concat()))
 }
 
-const SPLIT: &str =
-    "manual: 'Long' in line 1 has over 4,096 words; it is split into 2 sections, each asked by itself\n";
+const SPLIT: &str = "manual: 'Long' in line 1 has over 4,096 words; it is in 2 parts, each asked by itself\n";
 
 #[test]
 fn a_section_over_4096_words_is_split_at_a_paragraph_and_that_is_said() {
@@ -848,7 +900,7 @@ Section 2, line 414: Long (part 2 of 2)
 2 of 2 sections say yes.
 "#;
     assert_eq!((ran.out(), ran.status), (wanted, 0));
-    assert_eq!(ran.err, SPLIT.replace("sections,", "sections, some beginning inside a paragraph,"));
+    assert_eq!(ran.err, SPLIT.replace("parts,", "parts, some beginning inside a paragraph,"));
 }
 
 /// A search for 'dd' shows no part of the section that is split; that it is must be said all the same.
@@ -907,7 +959,9 @@ fn the_searches_of_the_help_text_are_read() {
         let ran = search(EXAMPLE, typed);
         assert!(ran.status < 2 && !ran.err.contains("refused"), "{example}\n{ran:?}");
         // the whole line, as a shell runs it
-        let command = example.replace("manual.md", EXAMPLE).replacen("manual", env!("CARGO_BIN_EXE_manual"), 1);
+        let quoted = |path: &str| format!("'{path}'");
+        let command = example.replace("manual.md", &quoted(EXAMPLE));
+        let command = command.replacen("manual", &quoted(env!("CARGO_BIN_EXE_manual")), 1);
         let root = concat!(env!("CARGO_MANIFEST_DIR"), "/..");
         let output = Command::new("bash").args(["-c", &command]).current_dir(root).output().unwrap();
         assert!(output.status.success(), "{command}\n{output:?}");

@@ -26,7 +26,7 @@ fn commands(document: &str) -> Vec<(String, String)> {
 /// What a command prints, standard error first, run in the repository's root.
 fn printed(command: &str) -> String {
     let root = Path::new(env!("CARGO_MANIFEST_DIR")).join("..");
-    let command = command.replace("target/bin/manual", env!("CARGO_BIN_EXE_manual"));
+    let command = command.replace("target/bin/manual", concat!("'", env!("CARGO_BIN_EXE_manual"), "'"));
     let ran = Command::new("bash").args(["-c", &command]).current_dir(root).output().expect("bash starts");
     String::from_utf8(ran.stderr).unwrap() + &String::from_utf8(ran.stdout).unwrap()
 }

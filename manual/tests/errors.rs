@@ -229,7 +229,7 @@ fn words_without_quotes() {
 fn words_of_the_language_at_a_wrong_place() {
     all_refused(
         r#"
-'ordered' can't stand here (refusal 10)
+words to look for stand in double quotes, and the whole search in single quotes, or the shell takes the double ones away (refusal 10)
   ordered
   ^~~~~~~
 
@@ -264,7 +264,7 @@ fn words_of_the_language_at_a_wrong_place() {
 fn numbers_and_signs_at_a_wrong_place() {
     all_refused(
         r#"
-'12' can't stand here (refusal 10)
+words to look for stand in double quotes, and the whole search in single quotes, or the shell takes the double ones away (refusal 10)
   12
   ^~
 
@@ -284,11 +284,11 @@ no parenthesis is open here (refusal 10)
   "cam")
        ^
 
-')' can't stand here (refusal 10)
+words to look for stand in double quotes, and the whole search in single quotes, or the shell takes the double ones away (refusal 10)
   ()
    ^
 
-'é' can't stand here (refusal 10)
+'é' is no word of the search language; words to look for stand in double quotes (refusal 10)
   "hällmann" é
              ^
 "#,
@@ -357,8 +357,6 @@ a phrase has at most eight words (refusal 10)
     );
 }
 
-const ENDS: &str = "the search can't end here";
-
 #[test]
 fn searches_that_end_too_soon() {
     all_refused(
@@ -367,7 +365,7 @@ the search can't end here (refusal 10)
   "cam" ftand
              ^
 
-the search can't end here (refusal 10)
+words to look for stand in double quotes, and the whole search in single quotes, or the shell takes the double ones away (refusal 10)
   ftnot
        ^
 
@@ -385,18 +383,8 @@ the search can't end here (refusal 10)
 "#,
     );
     // blanks at the end count, as in the engine
-    refused("\"cam\" ftand  ", ENDS, 10, "             ^");
+    refused("\"cam\" ftand  ", "the search can't end here", 10, "             ^");
     refused("\"cam ", "a phrase isn't closed by a quote", 10, "     ^");
-}
-
-#[test]
-fn the_empty_search_is_refused() {
-    for (search, caret) in [("", "^"), ("   ", "   ^")] {
-        let ran = run(&["search", EXAMPLE, search]);
-        assert_eq!((ran.out(), ran.status), ("", 2));
-        let wanted = format!(" (refusal 10)\n  {search}\n  {caret}\n");
-        assert!(ran.err.starts_with("manual: the search is refused: ") && ran.err.ends_with(&wanted), "{ran:?}");
-    }
 }
 
 #[test]
@@ -668,8 +656,14 @@ fn words_that_the_manual_does_not_have_are_said() {
     let three = [says("über"), says("camshaft"), says("piston")].concat();
     assert_eq!(search(r#""über camshaft" ftor "piston" ftor "camshaft""#), Ran::new(none, &three, 1));
     // with a word of the manual that differs in one letter
-    let near = "manual: the manual does not have the word 'Bot'; is it 'bolt'?\n";
-    assert_eq!(search(r#""Bot" ftand "bolt""#), Ran::new(none, near, 1));
+    let near = |word: &str, near: &str| says(word).replace("\n", &format!("; is it '{near}'?\n"));
+    for (word, meant) in [("Neddle", "needle"), ("carriag", "carriage"), ("coverr", "cover"), ("spxing", "spring")] {
+        assert_eq!(search(&format!("\"{word}\"")), Ran::new(none, &near(word, meant), 1));
+    }
+    // short words and numbers are near to too many
+    for word in ["oli", "60419", "E13"] {
+        assert_eq!(search(&format!("\"{word}\"")), Ran::new(none, &says(word), 1));
+    }
     // a yes may not need them
     let found = search(r#""gloves" ftand ftnot "camshaft""#);
     assert_eq!((found.err, found.status), (says("camshaft"), 0));
@@ -749,6 +743,76 @@ a number has to stand here (refusal 10)
 a number has to stand here (refusal 10)
   "cam" distance at most
                         ^
+"#,
+    );
+}
+
+#[test]
+fn a_word_is_named_where_one_is_missing() {
+    all_refused(
+        r#"
+'to' has to stand here (refusal 10)
+  "cam" distance from 3 words
+                        ^~~~~
+
+'least' or 'most' has to stand here (refusal 10)
+  "cam" distance at 3 words
+                    ^
+
+'start' or 'end' has to stand here (refusal 10)
+  "cam" at
+          ^
+
+'content' has to stand here (refusal 10)
+  "cam" entire section
+               ^~~~~~~
+
+'sentence' or 'paragraph' has to stand here (refusal 10)
+  "cam" different words
+                  ^~~~~
+
+'in', or 'ftand ftnot' instead of 'not', has to stand here (refusal 10)
+  "cam" not "cover"
+            ^
+
+a number has to stand here (refusal 10)
+  "cam" distance exactly words
+                         ^~~~~
+
+a number has to stand here (refusal 10)
+  "cam" distance at least "3" words
+                          ^
+"#,
+    );
+}
+
+#[test]
+fn what_may_be_meant_is_named() {
+    all_refused(
+        r#"
+'not' can't stand here; is it 'ftnot'? (refusal 10)
+  "cam" ftand not "cover"
+              ^~~
+
+'windwo' is no word of the search language; is it 'window'? (refusal 10)
+  "cam" windwo 6 words
+        ^~~~~~
+
+'Cover' is no word of the search language; words to look for stand in double quotes (refusal 10)
+  "cam" ftand Cover
+              ^
+
+outside quotes all letters are small (refusal 10)
+  "cam" ORDERED
+        ^
+
+'Öl' is no word of the search language; words to look for stand in double quotes (refusal 10)
+  "cam" ftand Öl
+              ^
+
+the quotes around a phrase are " (refusal 10)
+  "cam" ftand «cover»
+              ^
 "#,
     );
 }

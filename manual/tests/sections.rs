@@ -70,10 +70,11 @@ fn seven_signs_or_no_blank_or_code_begin_no_heading() {
         ("###A b\nc", "1 -: A b c/1.1"),
         ("a # B\nc", "1 -: a B c/1.1"),
         ("\\# A\nb", "1 -: A b/1.1"),
-        ("    # A\nb", "1 -: A/1.1 b/2.2"),
-        ("     # A\nb", "1 -: A/1.1 b/2.2"),
-        ("\t# A\nb", "1 -: A/1.1 b/2.2"),
-        (" \t# A\nb", "1 -: A/1.1 b/2.2"),
+        ("    # A\nb", "1 -: A b/1.1"),
+        ("     # A\nb", "1 -: A b/1.1"),
+        ("\t# A\nb", "1 -: A b/1.1"),
+        (" \t# A\nb", "1 -: A b/1.1"),
+        ("    # A\n    # B\nc", "1 -: A B c/1.1"),
         ("a\n    # B\nc", "1 -: a B c/1.1"),
     ]);
 }
@@ -165,18 +166,44 @@ fn code_is_not_underlined() {
 }
 
 #[test]
+fn lists_and_quotations_are_not_underlined() {
+    hold(&[
+        ("# A\n\n- b\n- c\n---\nd", "1 A: A/1.1 b c/2.2 d/3.3"),
+        ("* b\nc\n---", "1 -: b c/1.1"),
+        ("+ b\n===", "1 -: b/1.1"),
+        ("> b\n---\nc", "1 -: b/1.1 c/2.2"),
+        ("- a\n\nB\n---", "1 -: a/1.1 | 3 B: B/1.1"),
+        ("-a\n---", "1 -a: a/1.1"),
+    ]);
+}
+
+#[test]
+fn only_blanks_and_tabs_indent() {
+    hold(&[
+        ("\u{3000}\u{3000}a\nb", "1 -: a b/1.1"),
+        ("\u{3000}\u{3000}# A\nb", "1 -: A b/1.1"),
+        ("a\n\u{3000}\nb", "1 -: a/1.1 b/2.2"),
+        ("    Lift the cover before you\ntouch.", "1 -: Lift the cover before you touch/1.1"),
+    ]);
+}
+
+#[test]
 fn a_heading_after_code_has_none_of_it() {
     hold(&[
         ("```\na\n```\n\nB\n---\nc", "1 -: a/1.1 | 5 B: B/1.1 c/2.2"),
         ("```\na\n```\nB\n---\nc", "1 -: a/1.1 | 4 B: B/1.1 c/2.2"),
-        ("    a\nB\n===\nc", "1 -: a/1.1 | 2 B: B/1.1 c/2.2"),
+        ("    a\nB\n===\nc", "1 -: a B/1.1 c/2.2"),
         ("A\n    b\n---\nc", "1 A b: A b/1.1 c/2.2"),
     ]);
 }
 
 #[test]
 fn code_inside_a_line_opens_no_fence() {
-    hold(&[("```a``` b\n# C", "1 -: a b/1.1 | 2 C: C/1.1"), ("````a```` b\n\nC\n---", "1 -: a b/1.1 | 3 C: C/1.1")]);
+    hold(&[
+        ("```a``` b\n# C", "1 -: a b/1.1 | 2 C: C/1.1"),
+        ("~~~ a`b\n# C\n~~~", "1 -: a b C/1.1"),
+        ("````a```` b\n\nC\n---", "1 -: a b/1.1 | 3 C: C/1.1"),
+    ]);
 }
 
 #[test]

@@ -40,7 +40,7 @@ impl fmt::Debug for Ran {
 /// The tool with these arguments, to be run where the files are.
 pub fn tool(arguments: &[impl AsRef<OsStr>]) -> Command {
     let mut command = Command::new(env!("CARGO_BIN_EXE_manual"));
-    command.args(arguments).current_dir(env!("CARGO_TARGET_TMPDIR")).env_remove("NO_COLOR");
+    command.args(arguments).current_dir(env!("CARGO_TARGET_TMPDIR")).env_remove("NO_COLOR").env("TERM", "xterm");
     command
 }
 
