@@ -211,12 +211,12 @@ struct Listed {
     not_excluded: Vec<Excluded>,
 }
 
-/// A phrase that the search excludes, and its finds; none if they are too many.
+/// A phrase that the search excludes, and its finds.
 #[derive(Debug, PartialEq, Eq)]
 struct Excluded {
     query: u32,
     typed: String,
-    finds: Option<Vec<Str>>,
+    finds: Vec<Str>,
 }
 
 /// What the second engine answers for a section.
@@ -241,8 +241,7 @@ fn expected(search: &str, numbers: &[u32], selection: &[u32], tree: &Tree) -> An
 fn excluded(search: &str, section: &section::Section, tree: &Tree, odd: bool, list: &mut Vec<Excluded>) {
     if let (Rule::Phrase { words, query }, true) = (&tree.rule, odd) {
         let phrase = search.split('"').nth(2 * *query as usize - 1).unwrap();
-        let finds = rules::phrase(section, words, *query);
-        let finds = (finds.len() <= 256).then(|| finds.into_iter().map(|found| found.includes[0]).collect());
+        let finds = rules::phrase(section, words, *query).into_iter().map(|found| found.includes[0]).collect();
         list.push(Excluded { query: *query, typed: format!("\"{phrase}\""), finds });
     }
     for below in &tree.below {
@@ -359,10 +358,10 @@ fn listed(told: &Json, section: &Section) -> Listed {
     let strings = |list: &Json| list.list().iter().map(|told| string(told, section)).collect::<Vec<Str>>();
     let found =
         |told: &Json| Match { includes: strings(told.get("includes")), excludes: strings(told.get("excludes")) };
-    let excluded = |told: &Json| {
-        let finds = entry(told, "finds").map(strings);
-        assert!(finds.is_some() || *told.get("over_256_finds") == Json::Bool(true));
-        Excluded { query: number(told, "phrase") as u32, typed: told.get("typed").text().to_string(), finds }
+    let excluded = |told: &Json| Excluded {
+        query: number(told, "phrase") as u32,
+        typed: told.get("typed").text().to_string(),
+        finds: strings(told.get("finds")),
     };
     Listed {
         matches: told.get("matches").list().iter().map(found).collect(),
@@ -413,7 +412,7 @@ impl Seen {
                 self.yes += 1;
                 self.found += usize::from(listed.matches.iter().any(|found| !found.includes.is_empty()));
                 self.later += usize::from(listed.deciding > 1);
-                let has_finds = |phrase: &Excluded| phrase.finds.as_ref().is_none_or(|finds| !finds.is_empty());
+                let has_finds = |phrase: &Excluded| !phrase.finds.is_empty();
                 self.passed += usize::from(listed.not_excluded.iter().any(has_finds));
             }
         }
