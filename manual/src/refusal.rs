@@ -69,7 +69,7 @@ fn not_allowed(search: &Search, place: &Range<usize>) -> String {
     }
     match awaited(&before) {
         Some(awaited) => format!("{awaited} has to stand here"),
-        None => misplaced(&search.text[place.clone()], rest, &before),
+        None => misplaced(search, place, &before),
     }
 }
 
@@ -82,7 +82,9 @@ fn in_phrase(token: &str) -> &'static str {
 }
 
 /// Why a token, or the word that the text goes on with, can't stand after these.
-fn misplaced(token: &str, rest: &str, before: &[&str]) -> String {
+fn misplaced(search: &Search, place: &Range<usize>, before: &[&str]) -> String {
+    let (token, rest) = (&search.text[place.clone()], &search.text[place.start..]);
+    let is_joined = search.text[..place.start].ends_with('"');
     let last = before.last().copied().unwrap_or("");
     let after_operand = last == "\"" || last == ")";
     let after_filter = ENDS_OF_FILTERS.contains(&last);
@@ -100,6 +102,7 @@ fn misplaced(token: &str, rest: &str, before: &[&str]) -> String {
         _ if KEYWORDS.contains(&token) || !rest.starts_with(char::is_alphabetic) => {
             return format!("'{token}' can't stand here")
         }
+        _ if is_joined => "a quote is missing, here or before",
         _ => return no_keyword(&rest[..rest.find(|c: char| !c.is_alphanumeric()).unwrap_or(rest.len())]),
     };
     what.to_string()
@@ -109,6 +112,7 @@ fn no_keyword(word: &str) -> String {
     let meant = match word {
         "and" => Some("ftand"),
         "or" => Some("ftor"),
+        "within" => Some("window"),
         _ if KEYWORDS.contains(&word.to_lowercase().as_str()) => {
             return "outside quotes all letters are small".to_string()
         }
@@ -142,7 +146,7 @@ fn awaited(before: &[&str]) -> Option<&'static str> {
         [.., "at"] => Some("'start' or 'end'"),
         [.., "same" | "different"] => Some("'sentence' or 'paragraph'"),
         [.., "entire"] => Some("'content'"),
-        [.., "not"] => Some("'in', or 'ftand ftnot' instead of 'not',"),
+        [.., "not"] => Some("'in' (or, for 'and not', 'ftand ftnot' instead of 'not')"),
         _ => None,
     }
 }

@@ -771,7 +771,7 @@ fn a_word_is_named_where_one_is_missing() {
   "cam" different words
                   ^~~~~
 
-'in', or 'ftand ftnot' instead of 'not', has to stand here (refusal 10)
+'in' (or, for 'and not', 'ftand ftnot' instead of 'not') has to stand here (refusal 10)
   "cam" not "cover"
             ^
 
@@ -813,6 +813,14 @@ outside quotes all letters are small (refusal 10)
 the quotes around a phrase are " (refusal 10)
   "cam" ftand «cover»
               ^
+
+'within' is no word of the search language; is it 'window'? (refusal 10)
+  "cam" within 6 words
+        ^~~~~~
+
+a quote is missing, here or before (refusal 10)
+  "cam ftand "cover"
+              ^~~~~
 "#,
     );
 }
