@@ -102,13 +102,13 @@ fn misplaced(search: &Search, place: &Range<usize>, before: &[&str]) -> String {
         _ if KEYWORDS.contains(&token) || !rest.starts_with(char::is_alphabetic) => {
             return format!("'{token}' can't stand here")
         }
-        _ if is_joined => "a quote is missing, here or before",
-        _ => return no_keyword(&rest[..rest.find(|c: char| !c.is_alphanumeric()).unwrap_or(rest.len())]),
+        _ => return no_keyword(&rest[..rest.find(|c: char| !c.is_alphanumeric()).unwrap_or(rest.len())], is_joined),
     };
     what.to_string()
 }
 
-fn no_keyword(word: &str) -> String {
+/// What a word outside quotes may be; `is_joined` says that a quote stands just before it.
+fn no_keyword(word: &str, is_joined: bool) -> String {
     let meant = match word {
         "and" => Some("ftand"),
         "or" => Some("ftor"),
@@ -120,6 +120,7 @@ fn no_keyword(word: &str) -> String {
     };
     match meant {
         Some(keyword) => format!("'{word}' is no word of the search language; is it '{keyword}'?"),
+        None if is_joined => "a quote is missing, here or before".to_string(),
         None => format!("'{word}' is no word of the search language; words to look for stand in double quotes"),
     }
 }

@@ -821,6 +821,10 @@ the quotes around a phrase are " (refusal 10)
 a quote is missing, here or before (refusal 10)
   "cam ftand "cover"
               ^~~~~
+
+'and' is no word of the search language; is it 'ftand'? (refusal 10)
+  "cam"and "cover"
+       ^~~
 "#,
     );
 }

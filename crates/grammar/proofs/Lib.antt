@@ -5,6 +5,7 @@ pub mod SymbolsLaws
 pub mod JoiningLaws
 pub mod CompletingLaws
 pub mod GoingLaws
+pub mod FlatRulesLaws
 pub mod RulesLaws
 -- .. a text's tokens; so every text has exactly one answer, which the functions compute.
 pub mod TextsLaws
