@@ -45,6 +45,11 @@ static void print_listing(const char *call, const uint32_t answer[4])
     }
 }
 
+static void print_quick(const char *call, const uint32_t answer[3])
+{
+    printf("%s: %s, %" PRIu32 " codes walked or built\n", call, answer[1] ? "yes" : "no", answer[2]);
+}
+
 int main(void)
 {
     uint32_t listed[4], answered[3], read[2];
@@ -61,16 +66,19 @@ int main(void)
     print_listing("listing", listed);
 
     if (jullpinay_typed_quick(section, COUNT(section), TEXT(mistyped), work, COUNT(work), answered))
-        print_refusal(mistyped, answered);
+        print_refusal("typed quick, mistyped", answered);
+    else
+        print_quick("typed quick, mistyped", answered);
 
     if (jullpinay_read(TEXT(kept), selection, COUNT(selection), read)) {
-        print_refusal(kept, read);
+        print_refusal("read", read);
         return 1;
     }
+    printf("read: %" PRIu32 " codes\n", read[1]);
     if (jullpinay_quick(section, COUNT(section), selection, 1 + 2 * read[1], work, COUNT(work), answered))
-        print_refusal("quick", answered);
+        print_refusal("quick, of what was read", answered);
     else
-        printf("quick: %s, %" PRIu32 " codes\n", answered[1] ? "yes" : "no", answered[2]);
+        print_quick("quick, of what was read", answered);
 
     if (listed[2] == 0)
         return 0;

@@ -4,56 +4,72 @@ use crate::show::View;
 use std::ffi::OsString;
 use std::path::PathBuf;
 
-pub const HELP: &str = r#"manual: searches a manual in plain text with a proved engine, and shows the finds in its text
+pub const HELP: &str = r#"manual: searches a manual in plain text with a proved engine, and shows the
+finds in its text
 
 usage:
-  manual search FILE SEARCH    which sections answer the search with yes, and why
-      --all                    every match, with what excludes it, also of sections that say no
+  manual search FILE SEARCH    which sections say yes to the search, and why
+      --all                    every match, with what excludes it, also of
+                               sections that say no
       --json                   the answers for programs
       --quiet, -q              nothing but the exit status
-      --color WHEN             colour instead of [..]: always, never or auto, the default: on a terminal,
-                               unless NO_COLOR is set
+      --color WHEN             colour instead of [..]: always, never or auto,
+                               the default: on a terminal without NO_COLOR
   manual words FILE            each word of the manual with its number
-  manual encode FILE N         section N in the engine's numbers, 32 bits each, the lowest byte first
-  manual encode FILE N SEARCH  the same, and after it the search, as the program ftlist reads them
+  manual encode FILE N         section N in the engine's numbers, 32 bits each,
+                               the lowest byte first
+  manual encode FILE N SEARCH  the same, and after it the search, as the program
+                               ftlist reads them
   manual --help, -h
 
-FILE. Markdown headings begin sections, and a heading's words belong to its section; blank lines part paragraphs; a
-sentence ends at . ! or ? before a blank or a line's end. A word is a run of letters and digits; large and small letters
-are alike; there are no wildcards, and no other forms of a word are found. The file is UTF-8.
+FILE. Markdown headings begin sections, and a heading's words belong to its
+section; blank lines part paragraphs; a sentence ends at . ! or ? before a blank
+or a line's end, so after 'approx.' too. A word is a run of letters and digits;
+large and small letters are alike; there are no wildcards, and no other forms of
+a word are found. The file is UTF-8.
 
-SEARCH. It stands in single quotes, so that the shell leaves the double ones. Its words are those of XQuery Full Text. A
-and B are searches:
-  "needle bed"                 one to eight words in double quotes, found side by side
-  ftnot A                      without A
-  A not in B                   A where it isn't part of B
-  A ftand B                    both
-  A ftor B                     either
-  ( A )                        'ftnot' binds most, then 'not in', 'ftand' and 'ftor'; parentheses say otherwise
+SEARCH. It stands in single quotes, so that the shell leaves the double ones.
+Its words are those of XQuery Full Text. A and B are searches:
+  "needle bed"               one to eight words in double quotes, side by side
+  ftnot A                    without A
+  A not in B                 A where it isn't part of B
+  A ftand B                  both
+  A ftor B                   either
+  ( A )                      'ftnot' binds most, then 'not in', 'ftand' and
+                             'ftor'; parentheses say otherwise
 After a search, or inside parentheses with it, any number of filters:
-  same sentence                all finds in one sentence; also: same paragraph
-  different sentence           two or more finds, each in a sentence of its own; also: different paragraph
-  ordered                      finds in the order of the search
-  window N words               all finds within N words
-  distance at most N words     so many words between neighbouring finds; also: at least N, exactly N, from N to N
-  at start                     a find at the section's start; also: at end
-  entire content               the finds are the whole section
-Filters work from left to right. A window or a distance makes one find of several: after it 'ordered' always holds and
-'different ..' never, so they stand before it.
+  same sentence              all finds in one; also: same paragraph
+  different sentence         two or more finds, each in a sentence of its own;
+                             also: different paragraph
+  ordered                    finds in the order of the search
+  window N words             all finds within N words
+  distance at most N words   so many words between neighbouring finds; also:
+                             at least N, exactly N, from N to N
+  at start                   a find at the section's start; also: at end
+  entire content             the finds are the whole section
+Filters work from left to right. A window or a distance makes one find of
+several: after it 'ordered' always holds and 'different ..' never, so they stand
+before it.
 
-A section says yes if it has a match that nothing excludes. In 'A ftand ftnot B' every B of the section excludes; after
-it a filter leaves only what lies in the same sentence, in order, within its words, and so on. So a filter may turn a
-no into a yes. A distance keeps every B that is near; a window may lie on the other side of A, and then B is outside.
-Shown are finds in [..], excludes in {..}, and the first match that isn't excluded: it decides.
+A section says yes if it has a match that nothing excludes. In 'A ftand ftnot B'
+every B of the section excludes; after it a filter leaves only what lies in the
+same sentence, in order, within its words, and so on. So a filter may turn a no
+into a yes. For 'no B within six words of A' take a distance, at most 4 words
+between them: it keeps every B that is near. A window may lie where it holds A
+and no B, and one such place is enough for a yes.
+Shown are finds in [..], excludes in {..}, and the first match that isn't
+excluded: it decides.
 
 examples:
   manual search manual.md '"needle bed" ftand "oil"'
-  manual search manual.md '"cam" ftand ftnot "cover" same sentence ordered distance at most 4 words'
-  manual search --all manual.md '("yarn" ftand "break" distance at most 3 words) ftor "E12"'
+  manual search manual.md '"cam" ftand ftnot "cover" same sentence'
+  manual search manual.md '"cam" ftand ftnot "cover" distance at most 4 words'
+  manual search --all manual.md '("yarn" ftand "break" ordered) ftor "E12"'
   manual search --quiet manual.md '"bolt" not in "bolt head"' && echo found
   manual encode manual.md 41 '"cam"' | od -t u4
 
-exit status: 0 if a section says yes, 1 if none does, 2 if something is refused or can't be read, whatever others say.
+exit status: 0 if a section says yes, 1 if none does, 2 if the search or the
+answer of a section is refused or something can't be read.
 "#;
 
 #[derive(Debug, PartialEq, Eq)]

@@ -174,20 +174,18 @@ impl Section {
 }
 
 /// Where the tokens from `start` on must be cut, if they are too many: where the last paragraph ends in time, unless the
-/// next one is too long itself; else where the last sentence does, else after the last word.
+/// next one is too long itself; else where the last sentence does, unless the next one is; else after the last word.
 fn next_cut(tokens: &[Token], start: usize) -> Option<usize> {
     let most = start + MOST_WORDS;
     if tokens.len() <= most {
         return None;
     }
-    let last_end =
-        |unit: fn(&Token) -> usize| (start + 1..=most).rfind(|&at| unit(&tokens[at - 1]) != unit(&tokens[at]));
-    let next_fits = |&at: &usize| {
-        let next = |token: &&Token| token.paragraph == tokens[at].paragraph;
-        tokens[at..].iter().take_while(next).count() <= MOST_WORDS
+    let last_end = |unit: fn(&Token) -> usize| {
+        let end = (start + 1..=most).rfind(|&at| unit(&tokens[at - 1]) != unit(&tokens[at]))?;
+        let next = tokens[end..].iter().take_while(|token| unit(token) == unit(&tokens[end]));
+        (next.count() <= MOST_WORDS).then_some(end)
     };
-    let paragraph = last_end(|token| token.paragraph).filter(next_fits);
-    paragraph.or_else(|| last_end(|token| token.sentence)).or(Some(most))
+    last_end(|token| token.paragraph).or_else(|| last_end(|token| token.sentence)).or(Some(most))
 }
 
 /// What blank lines, headings and fences part: the bytes of a heading's text, or of a paragraph.
@@ -202,7 +200,6 @@ enum Block {
 struct Blocks {
     blocks: Vec<Block>,
     open: Option<Range<usize>>,
-    is_fenced: bool,
     /// May it be underlined? Code, lists and quotations may not.
     is_plain: bool,
 }
@@ -221,11 +218,7 @@ impl Blocks {
         self.close(if self.is_plain { Block::Heading } else { Block::Paragraph });
     }
 
-    fn line(&mut self, bytes: Range<usize>, is_fenced: bool, is_plain: bool) {
-        if self.is_fenced != is_fenced {
-            self.close(Block::Paragraph);
-        }
-        self.is_fenced = is_fenced;
+    fn line(&mut self, bytes: Range<usize>, is_plain: bool) {
         self.is_plain = is_plain && (self.open.is_none() || self.is_plain);
         let start = self.open.take().map_or(bytes.start, |lines| lines.start);
         self.open = Some(start..bytes.end);
@@ -233,7 +226,7 @@ impl Blocks {
 }
 
 /// Headings are Markdown's: a line that begins with one to six `#` and a blank, or a paragraph underlined by `=` or `-`.
-/// There are none between fences, and a line that is indented by four blanks or a tab is none.
+/// There are none between fences, and a line that is indented by four blanks or a tab is none. A fence has no words.
 fn blocks(text: &str) -> Vec<Block> {
     let mut blocks = Blocks::default();
     let mut fence = None;
@@ -248,19 +241,19 @@ fn blocks(text: &str) -> Vec<Block> {
         if !is_indented {
             fence = fence_after(fence_before, words);
         }
-        if words.is_empty() {
+        if words.is_empty() || fence != fence_before {
             blocks.close(Block::Paragraph);
-        } else if fence_before.or(fence).is_some() {
-            blocks.line(bytes, true, false);
+        } else if fence.is_some() {
+            blocks.line(bytes, false);
         } else if is_indented {
-            blocks.line(bytes, false, blocks.open.is_some());
+            blocks.line(bytes, blocks.open.is_some());
         } else if let Some(title) = title(words) {
             let start = bytes.start + indent.len() + title.start;
             blocks.heading(start..start + title.len());
         } else if is_underline(words) {
             blocks.underline();
         } else {
-            blocks.line(bytes, false, !is_item(words));
+            blocks.line(bytes, !is_item(words));
         }
     }
     blocks.close(Block::Paragraph);

@@ -20,7 +20,9 @@ pub fn of_text(refusal: Refusal, search: &Search) -> Explained {
     let what = match (refusal.number, &place) {
         (Refusal::GRAMMAR, Some(place)) => not_allowed(search, place),
         (Refusal::TOO_LARGE, Some(_)) => "a number here is at most 4,096".to_string(),
-        (Refusal::TOO_LARGE, None) => "with a number for each word the search is longer than 2,048 bytes".to_string(),
+        (Refusal::TOO_LARGE, None) => {
+            "the search is too long: with a number for each word it has over 2,048 bytes".to_string()
+        }
         (Refusal::TOO_MANY_CODES, _) => {
             "the search is too long: words, phrases, operators and filters, each counted, are more than 64".to_string()
         }
@@ -59,7 +61,7 @@ fn not_allowed(search: &Search, place: &Range<usize>) -> String {
     if rest.starts_with(OTHER_QUOTES) {
         return "the quotes around a phrase are \"".to_string();
     }
-    if !search.text.contains('"') {
+    if !search.text.contains('"') && search.text.contains(char::is_alphanumeric) && !rest.is_empty() {
         return "words to look for stand in double quotes, and the whole search in single quotes, or the shell takes the \
                 double ones away"
             .to_string();
@@ -77,34 +79,45 @@ fn in_phrase(token: &str) -> &'static str {
     match token {
         "" => "a phrase isn't closed by a quote",
         "\"" => "a phrase has at least one word",
-        _ => "a phrase has at most eight words",
+        _ => "a phrase has at most eight words; 3.5 counts as two",
     }
 }
 
 /// Why a token, or the word that the text goes on with, can't stand after these.
 fn misplaced(search: &Search, place: &Range<usize>, before: &[&str]) -> String {
     let (token, rest) = (&search.text[place.clone()], &search.text[place.start..]);
-    let is_joined = search.text[..place.start].ends_with('"');
     let last = before.last().copied().unwrap_or("");
     let after_operand = last == "\"" || last == ")";
     let after_filter = ENDS_OF_FILTERS.contains(&last);
+    let next = first_word(rest[token.len()..].trim_start());
     let what = match token {
         "" if after_operand || after_filter => "a parenthesis isn't closed",
         "" => "the search can't end here",
         ")" if count(before, "(") == count(before, ")") => "no parenthesis is open here",
+        ")" => "a search has to stand before this parenthesis",
         "\"" | "(" | "ftor" | "ftand" | "not" | "ftnot" if after_filter => {
             "after a filter only another one can stand, unless parentheses enclose the search with its filter"
         }
         "\"" | "(" => "'ftand', 'ftor' or 'not in' has to join two searches",
+        "ftnot" if after_operand && next == "in" => "'ftnot in' can't stand here; is it 'not in'?",
         "ftnot" if after_operand => "'ftand ftnot' has to join two searches",
         "not" => "'not' can't stand here; is it 'ftnot'?",
+        "and" if BEGINNINGS_OF_FILTERS.contains(&next) => "a filter follows as it is, without 'and'",
+        _ if BEGINNINGS_OF_FILTERS.contains(&token) && last == "ftand" => "a filter follows as it is, without 'ftand'",
         _ if token.trim().is_empty() => "outside quotes only blanks part words",
-        _ if KEYWORDS.contains(&token) || !rest.starts_with(char::is_alphabetic) => {
-            return format!("'{token}' can't stand here")
+        _ if KEYWORDS.contains(&token) => return format!("'{token}' can't stand here"),
+        _ if rest.starts_with(char::is_alphabetic) => {
+            return no_keyword(first_word(rest), search.text[..place.start].ends_with('"'))
         }
-        _ => return no_keyword(&rest[..rest.find(|c: char| !c.is_alphanumeric()).unwrap_or(rest.len())], is_joined),
+        _ if after_operand || after_filter => return format!("'{token}' can't stand here; {JOINS}"),
+        _ => return format!("'{token}' can't stand here"),
     };
     what.to_string()
+}
+
+/// The letters and digits that a text begins with.
+fn first_word(text: &str) -> &str {
+    &text[..text.find(|c: char| !c.is_alphanumeric()).unwrap_or(text.len())]
 }
 
 /// What a word outside quotes may be; `is_joined` says that a quote stands just before it.
@@ -112,6 +125,9 @@ fn no_keyword(word: &str, is_joined: bool) -> String {
     let meant = match word {
         "and" => Some("ftand"),
         "or" => Some("ftor"),
+        "ft" => Some("ftand"),
+        "notin" => Some("not in"),
+        "order" => Some("ordered"),
         "within" => Some("window"),
         _ if KEYWORDS.contains(&word.to_lowercase().as_str()) => {
             return "outside quotes all letters are small".to_string()
@@ -182,4 +198,7 @@ const KEYWORDS: [&str; 23] = [
 const OTHER_QUOTES: [char; 10] =
     ['\'', '`', '\u{2018}', '\u{2019}', '\u{201A}', '\u{201C}', '\u{201D}', '\u{201E}', '\u{AB}', '\u{BB}'];
 
+const JOINS: &str = "'ftand', 'ftor' or 'not in' joins two searches, and a filter follows as it is";
+
+const BEGINNINGS_OF_FILTERS: [&str; 7] = ["ordered", "window", "distance", "same", "different", "at", "entire"];
 const ENDS_OF_FILTERS: [&str; 7] = ["ordered", "words", "sentence", "paragraph", "start", "end", "content"];

@@ -60,7 +60,10 @@ pub fn run(command: &Command, has_colors: bool) -> Printed {
 /// The manual in a file.
 fn read(file: &Path) -> Result<Manual, String> {
     let name = file.display();
-    let bytes = std::fs::read(file).map_err(|error| format!("can't read {name}: {error}"))?;
+    let bytes = std::fs::read(file).map_err(|error| {
+        let hint = if name.to_string().contains('"') { "; the file stands before the search" } else { "" };
+        format!("can't read {name}: {error}{hint}")
+    })?;
     let text = String::from_utf8(bytes).map_err(|error| {
         let at = error.utf8_error().valid_up_to();
         let line = 1 + error.as_bytes()[..at].iter().filter(|&&byte| byte == b'\n').count();

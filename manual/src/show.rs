@@ -4,6 +4,7 @@ use crate::answer::{Answer, Finds, Passed};
 use crate::document::{one_line, Manual, Part, Section, Token};
 use crate::engine::{Match, Str};
 use crate::refusal::Explained;
+use crate::tokens::is_accent;
 use std::fmt::Write;
 use std::ops::{Range, RangeInclusive};
 
@@ -131,6 +132,7 @@ impl Page<'_> {
         lines.dedup();
         let typed = one_line(typed);
         match lines[..] {
+            [] if section.part.count > 1 => format!("{typed} (not in this part)"),
             [] => format!("{typed} (not in this section)"),
             [line] => format!("{typed} (line {line})"),
             _ => {
@@ -231,9 +233,11 @@ pub fn explained(Explained { refusal, what, place }: &Explained, search: &str) -
     let Some(place) = place else { return what };
     let begin = search[..place.start].rfind('\n').map_or(0, |at| at + 1);
     let line = search[begin..].lines().next().unwrap_or("");
-    let before: String = search[begin..place.start].chars().map(|c| if c == '\t' { c } else { ' ' }).collect();
+    // an accent takes no column of its own
+    let columns = |from: usize, to: usize| search[from..to].chars().filter(|c| !is_accent(*c));
+    let before: String = columns(begin, place.start).map(|c| if c == '\t' { c } else { ' ' }).collect();
     let end = place.end.min(begin + line.len());
-    let under = "~".repeat(search[place.start..end].chars().count().saturating_sub(1));
+    let under = "~".repeat(columns(place.start, end).count().saturating_sub(1));
     format!("{what}\n  {line}\n  {before}^{under}")
 }
 

@@ -85,6 +85,8 @@ fn filters_turn_a_no_into_a_yes() {
     // 34 turns to yes: 'cover' is three words after 'cam', which three of six windows don't reach;
     // 39 turns to yes: there it is 15 and 24 words after
     yes(D, &[30, 32, 34, 37, 39, 41]);
+    // these are all that have a 'cam': one of the windows ends at it, and never holds a 'cover' that follows
+    yes(r#""cam""#, &[30, 32, 34, 37, 39, 41]);
     // 34 stays a no: two words lie between 'cam' and 'cover'; in 39 at least 14 do
     yes(Q, &[30, 32, 37, 39, 41]);
 }
@@ -253,6 +255,14 @@ Turn the bolt.
 /// A manual of three sections, the first before all headings.
 fn small() -> &'static str {
     file("small.md", SMALL)
+}
+
+#[test]
+fn an_accent_is_found_however_it_is_written() {
+    let name = file("accents.md", "U\u{308}bero\u{308}l lo\u{308}st.\n");
+    let wanted = "Section 1, line 1: (no heading)\n      1: [U\u{308}bero\u{308}l] lo\u{308}st.\n  \
+                  Match 1 of 1 decides: \"U\u{308}bero\u{308}l\" in line 1.\n\n1 of 1 section says yes.\n";
+    gives(&["search", name, "\"überöl\""], wanted, 0);
 }
 
 #[test]
@@ -846,6 +856,9 @@ fn a_section_over_4096_words_is_split_at_a_paragraph_and_that_is_said() {
 1 of 3 sections says yes.
 "#;
     assert_eq!(search(long(), r#""third""#), Ran::new(wanted, SPLIT, 0));
+    // what excludes in the other part doesn't in this one
+    let ran = search(long(), r#""first" ftand ftnot "third""#);
+    assert!(ran.out().contains("not excluded by \"third\" (not in this part).\n"), "{ran:?}");
     // each part is asked by itself
     assert_eq!(search(long(), r#""second" ftand "third""#), Ran::new("0 of 3 sections say yes.\n", SPLIT, 1));
     assert_eq!(shown(search(long(), r#""first" ftand "second""#).out()), [1]);
@@ -940,10 +953,12 @@ fn help_names_every_command_option_and_filter() {
     for name in operators.iter().chain(&filters).chain(&more) {
         assert!(help.contains(name), "{name}\n{help}");
     }
-    for status in ["0 if a section says yes", "1 if none does", "2 if something is refused or can't be read"] {
+    for status in
+        ["0 if a section says yes", "1 if none does", "2 if the search or the\nanswer of a section is refused"]
+    {
         assert!(help.contains(status), "{status}\n{help}");
     }
-    assert!(help.lines().all(|line| line.chars().count() <= 120));
+    assert!(help.lines().all(|line| line.chars().count() <= 80));
     assert_eq!(run(&["search", "--help"]).out(), help);
     assert_eq!(run(&["-h"]).out(), help);
 }

@@ -126,6 +126,8 @@ fn files_that_are_missing_or_no_files() {
     unreadable("missing.md", "can't read missing.md: No such file or directory (os error 2)");
     unreadable("missing/manual.md", "can't read missing/manual.md: No such file or directory (os error 2)");
     unreadable(".", "can't read .: Is a directory (os error 21)");
+    // the search stands first
+    unreadable(CAM, "can't read \"cam\": No such file or directory (os error 2); the file stands before the search");
 }
 
 #[test]
@@ -272,9 +274,21 @@ words to look for stand in double quotes, and the whole search in single quotes,
   "cam" distance 3 words
                  ^
 
-',' can't stand here (refusal 10)
+',' can't stand here; 'ftand', 'ftor' or 'not in' joins two searches, and a filter follows as it is (refusal 10)
   "cam", "cover"
        ^
+
+'&' can't stand here; 'ftand', 'ftor' or 'not in' joins two searches, and a filter follows as it is (refusal 10)
+  ("cam") && "cover"
+          ^
+
+',' can't stand here; 'ftand', 'ftor' or 'not in' joins two searches, and a filter follows as it is (refusal 10)
+  "cam" same sentence, ordered
+                     ^
+
+'!' can't stand here (refusal 10)
+  "cam" ftand !"cover"
+              ^
 
 'words' has to stand here (refusal 10)
   "cam" window 2.5 words
@@ -284,9 +298,17 @@ no parenthesis is open here (refusal 10)
   "cam")
        ^
 
-words to look for stand in double quotes, and the whole search in single quotes, or the shell takes the double ones away (refusal 10)
+a search has to stand before this parenthesis (refusal 10)
   ()
    ^
+
+a search has to stand before this parenthesis (refusal 10)
+  ("cam" ftand)
+              ^
+
+words to look for stand in double quotes, and the whole search in single quotes, or the shell takes the double ones away (refusal 10)
+  *cam*
+  ^
 
 'é' is no word of the search language; words to look for stand in double quotes (refusal 10)
   "hällmann" é
@@ -346,11 +368,11 @@ a phrase has at least one word (refusal 10)
   "cam" ftand "- -"
                   ^
 
-a phrase has at most eight words (refusal 10)
+a phrase has at most eight words; 3.5 counts as two (refusal 10)
   "front and back bed of the machine are alike"
                                          ^~~~~
 
-a phrase has at most eight words (refusal 10)
+a phrase has at most eight words; 3.5 counts as two (refusal 10)
   "bed, bed, bed, bed, bed, bed, bed, bed; Hällmann; bed" ftand cam
                                            ^~~~~~~~
 "#,
@@ -365,7 +387,7 @@ the search can't end here (refusal 10)
   "cam" ftand
              ^
 
-words to look for stand in double quotes, and the whole search in single quotes, or the shell takes the double ones away (refusal 10)
+the search can't end here (refusal 10)
   ftnot
        ^
 
@@ -400,6 +422,14 @@ fn tabs_and_line_ends_outside_quotes() {
     };
     refused_with("\"cam\"\nftand \"cover\"", &shown("\"cam\"", "     ^", says));
     refused_with("\"needle\nbed\" or", &shown("bed\" or", "     ^~", unknown));
+}
+
+/// An accent that is a character of its own takes no column.
+#[test]
+fn carets_stand_under_their_place_after_accents() {
+    let err = "manual: the search is refused: 'or' is no word of the search language; is it 'ftor'? (refusal 10)\n  \
+               \"o\u{308}l\" or\n       ^~\n";
+    refused_with("\"o\u{308}l\" or", err);
 }
 
 #[test]
@@ -530,7 +560,7 @@ fn refused_as_a_whole(search: &str, says: &str, number: i64) {
 fn searches_of_too_many_bytes() {
     // the number of 'cam' has three digits, so these bytes are the engine's too
     let of_length = |bytes: usize| format!("{CAM}{}", " ".repeat(bytes - CAM.len()));
-    let says = "with a number for each word the search is longer than 2,048 bytes";
+    let says = "the search is too long: with a number for each word it has over 2,048 bytes";
     assert_eq!(run(&["search", "--quiet", EXAMPLE, &of_length(2_048)]), Ran::new("", "", 0));
     refused_as_a_whole(&of_length(2_049), says, 11);
     refused_as_a_whole(&format!("{CAM}{}", " ordered".repeat(300)), says, 11);
@@ -817,6 +847,30 @@ the quotes around a phrase are " (refusal 10)
 'within' is no word of the search language; is it 'window'? (refusal 10)
   "cam" within 6 words
         ^~~~~~
+
+a filter follows as it is, without 'and' (refusal 10)
+  "cam" ftand "cover" and same sentence
+                      ^~~
+
+a filter follows as it is, without 'ftand' (refusal 10)
+  "cam" ftand "cover" ftand same sentence
+                            ^~~~
+
+'ftnot in' can't stand here; is it 'not in'? (refusal 10)
+  "cam" ftnot in "cover"
+        ^~~~~
+
+'notin' is no word of the search language; is it 'not in'? (refusal 10)
+  "cam" notin "cover"
+        ^~~~~
+
+'ft' is no word of the search language; is it 'ftand'? (refusal 10)
+  "cam" ft and "cover"
+        ^~
+
+'order' is no word of the search language; is it 'ordered'? (refusal 10)
+  "cam" ftand "cover" order
+                      ^~~~~
 
 a quote is missing, here or before (refusal 10)
   "cam ftand "cover"

@@ -14,8 +14,9 @@ listing: yes, 4 matches, 4 strings
   at 1 to 2
   at 2 to 4
   at 4 to 6
-\"10\" ftand: refused 10 at 11
-quick: yes, 2 codes
+typed quick, mistyped: refused 10 at 11
+read: 3 codes
+quick, of what was read: yes, 2 codes walked or built
 snippet of 1 to 2: 10 20
 ";
 
