@@ -69,7 +69,7 @@ examples:
   manual encode manual.md 41 '"cam"' | od -t u4
 
 exit status: 0 if a section says yes, 1 if none does, 2 if the search or the
-answer of a section is refused or something can't be read.
+answer of a section is refused, the file can't be read or the command is wrong.
 "#;
 
 #[derive(Debug, PartialEq, Eq)]

@@ -40,24 +40,24 @@ pub fn folded(word: &str) -> String {
 
 /// The one character for a small letter and an accent.
 fn accented(letter: char, accent: char) -> Option<char> {
-    let (_, letters, accented) = ACCENTED.iter().find(|(sign, ..)| *sign == accent)?;
-    letters.chars().zip(accented.chars()).find(|(plain, _)| *plain == letter).map(|(_, accented)| accented)
+    let (_, pairs) = ACCENTED.iter().find(|(sign, _)| *sign == accent)?;
+    pairs.split(' ').find_map(|pair| pair.strip_prefix(letter))?.chars().next()
 }
 
-/// Of Europe's languages in Latin letters: an accent, letters, and the same with that accent.
-const ACCENTED: [(char, &str, &str); 14] = [
-    ('\u{300}', "aeiou", "àèìòù"),
-    ('\u{301}', "aeiouycnszlr", "áéíóúýćńśźĺŕ"),
-    ('\u{302}', "aeiouwy", "âêîôûŵŷ"),
-    ('\u{303}', "anoiu", "ãñõĩũ"),
-    ('\u{304}', "aeiou", "āēīōū"),
-    ('\u{306}', "ag", "ăğ"),
-    ('\u{307}', "zeg", "żėġ"),
-    ('\u{308}', "aeiouy", "äëïöüÿ"),
-    ('\u{30A}', "au", "åů"),
-    ('\u{30B}', "ou", "őű"),
-    ('\u{30C}', "cdenrstzl", "čďěňřšťžľ"),
-    ('\u{326}', "st", "șț"),
-    ('\u{327}', "cstgklnr", "çşţģķļņŗ"),
-    ('\u{328}', "aeiu", "ąęįų"),
+/// An accent, and pairs of a letter without and with it: Latin ones up to U+017F and Romanian's two, Greek, Cyrillic.
+const ACCENTED: [(char, &str); 14] = [
+    ('\u{300}', "aà eè iì oò uù еѐ иѝ"),
+    ('\u{301}', "aá eé ií oó uú yý cć lĺ nń rŕ sś zź αά εέ ηή ιί ϊΐ οό υύ ϋΰ ωώ гѓ кќ"),
+    ('\u{302}', "aâ eê iî oô uû cĉ gĝ hĥ jĵ sŝ wŵ yŷ"),
+    ('\u{303}', "aã nñ oõ iĩ uũ"),
+    ('\u{304}', "aā eē iī oō uū"),
+    ('\u{306}', "aă eĕ gğ iĭ oŏ uŭ ий уў"),
+    ('\u{307}', "cċ eė gġ zż"),
+    ('\u{308}', "aä eë iï oö uü yÿ ιϊ υϋ её ії"),
+    ('\u{30A}', "aå uů"),
+    ('\u{30B}', "oő uű"),
+    ('\u{30C}', "cč dď eě lľ nň rř sš tť zž"),
+    ('\u{326}', "sș tț"),
+    ('\u{327}', "cç gģ kķ lļ nņ rŗ sş tţ"),
+    ('\u{328}', "aą eę iį uų"),
 ];

@@ -381,6 +381,9 @@ fn how_an_accent_is_written_does_not_matter() {
         ("a\u{30A}ngstro\u{308}m", "ÅNGSTRÖM"),
         ("garc\u{327}on", "garçon"),
         ("Dvor\u{30C}a\u{301}k", "DVOŘÁK"),
+        ("И\u{306}од", "йод"),
+        ("ΛΑ\u{301}ΔΙ", "λάδι"),
+        ("ι\u{308}\u{301}", "ΐ"),
         ("q\u{308}", "Q\u{308}"),
     ] {
         assert_eq!(folded(one), folded(other), "{one} {other}");

@@ -16,41 +16,32 @@ Inv-loop text at bytes₀ i₀ p₀ bytes i p = Copying text at bytes i p
 abbrev μ-loop : tie.MeasureT-loop
 μ-loop text at bytes₀ i₀ p₀ bytes i p = length text - p
 
--- src/lib.rt:21:5
 loop-holds : tie.Need-loop-holds Inv-loop μ-loop
 loop-holds c = record { here = omega arith; room = omega arith; stored = refl }
 
--- src/lib.rt:23:13
 returns : tie.Need-returns Inv-loop μ-loop
 returns c = copy-full (c .before .before .loop .inv) (c .if1 .taken)
 
--- src/lib.rt:25:20
 shared-slice-read-bytes : tie.Need-shared-slice-read-bytes Inv-loop μ-loop
 shared-slice-read-bytes c = search needs
 
--- src/lib.rt:25:9
 array-write-bytes : tie.Need-array-write-bytes Inv-loop μ-loop
 array-write-bytes c = search needs
 
--- src/lib.rt:26:9
 add-i : tie.Need-add-i Inv-loop μ-loop
 add-i c = search needs
 
--- src/lib.rt:27:9
 add-p : tie.Need-add-p Inv-loop μ-loop
 add-p c = search needs
 
--- src/lib.rt:21:5
 loop-less : tie.Need-loop-less Inv-loop μ-loop
 loop-less c = search needs
 
--- src/lib.rt:21:5
 loop-again : tie.Need-loop-again Inv-loop μ-loop
 loop-again c =
     let l = c .before .before .before in
     copy-more (l .loop .inv) (c .before .before .loop-test .taken) (omega (arith, l .loop .inv .room, c .before .if1 .left)) _ refl
 
--- src/lib.rt:15:1
 returns-2 : tie.Need-returns-2 Inv-loop μ-loop
 returns-2 c = copy-end (c .before .loop .inv) (c .loop-test .left)
 

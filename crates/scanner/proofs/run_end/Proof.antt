@@ -17,40 +17,32 @@ Inv-loop text size from sort i₀ i = (from ≤ i) × (i ≤ size) × (i + runLe
 abbrev μ-loop : tie.MeasureT-loop
 μ-loop text size from sort i₀ i = size - i
 
--- src/lib.rt:53:5
 loop-holds : tie.Need-loop-holds Inv-loop μ-loop
 loop-holds c = search needs
 
--- src/lib.rt:54:25
 element-copy-out-sort-of : tie.Need-element-copy-out-sort-of Inv-loop μ-loop
 element-copy-out-sort-of c = search needs
 
--- src/lib.rt:54:13
 sort-of-requires : tie.Need-sort-of-requires Inv-loop μ-loop
 sort-of-requires c κs = search needs
 
--- src/lib.rt:56:13
 returns : tie.Need-returns Inv-loop μ-loop
 returns c =
     let l = c .before .before .before in
     (run-stop _ _ _ _ _ (l .before .before .pre .held) _ (l .loop-test .taken) (c .before .sort-of .ensures .0) (c .if1 .taken) (l .before .loop .inv .2), search needs)
 
--- src/lib.rt:58:9
 add-i : tie.Need-add-i Inv-loop μ-loop
 add-i c = search needs
 
--- src/lib.rt:53:5
 loop-less : tie.Need-loop-less Inv-loop μ-loop
 loop-less c = search needs
 
--- src/lib.rt:53:5
 loop-again : tie.Need-loop-again Inv-loop μ-loop
 loop-again c =
     let l = c .before .before .before in
     let next = run-step _ _ _ _ _ (l .before .before .pre .held) _ (l .loop-test .taken) (c .before .sort-of .ensures .0) (c .if1 .left) (l .before .loop .inv .2) in
     (search needs, search needs, next)
 
--- src/lib.rt:47:1
 returns-2 : tie.Need-returns-2 Inv-loop μ-loop
 returns-2 c = (run-full _ _ _ _ _ (c .before .before .pre .held) (c .loop-test .left) (c .before .loop .inv .2), search needs)
 

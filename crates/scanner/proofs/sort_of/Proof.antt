@@ -7,23 +7,18 @@ use Rattle.scanner.proofs.sort_of.Tie as tie
 use Rattle.scanner.proofs.sort_of.Reads as reads
 use Rattle.scanner.proofs.sort_of.Lts as lts
 
--- src/lib.rt:32:9
 returns : tie.Need-returns
 returns c = (sym (sort-low _ (c .if1 .taken)), search needs)
 
--- src/lib.rt:35:9
 returns-2 : tie.Need-returns-2
 returns-2 c = (sym (sort-digit _ (c .before .if1 .left) (c .if2 .taken)), search needs)
 
--- src/lib.rt:38:9
 returns-3 : tie.Need-returns-3
 returns-3 c = (sym (sort-middle _ (c .before .if2 .left) (c .if3 .taken)), search needs)
 
--- src/lib.rt:41:9
 returns-4 : tie.Need-returns-4
 returns-4 c = (sym (sort-letter _ (c .before .if3 .left) (c .if4 .taken)), search needs)
 
--- src/lib.rt:27:1
 returns-5 : tie.Need-returns-5
 returns-5 c = (sym (sort-high _ (c .if4 .left)), search needs)
 

@@ -13,43 +13,33 @@ use Rattle.scanner.proofs.sort_of.Reads as sort-of-reads
 use Rattle.scanner.proofs.symbols.word_symbol.Reads as word-symbol-reads
 use Rattle.scanner.proofs.token.Reads as token-reads
 
--- src/lib.rt:76:9
 run-end-requires : tie.Need-run-end-requires
 run-end-requires c κs = search needs
 
--- src/lib.rt:78:9
 token-requires : tie.Need-token-requires
 token-requires c κs = search needs
 
--- src/lib.rt:78:9
 returns : tie.Need-returns
 returns c = scanned-end _ _ _ _ (c .before .before .before .pre .held) (c .before .before .run-end .ensures .0) (c .before .before .run-end .ensures .1 .0) (c .before .if1 .taken) _ (c .token .ensures)
 
--- src/lib.rt:80:24
 element-copy-out-sort-of : tie.Need-element-copy-out-sort-of
 element-copy-out-sort-of c = search needs
 
--- src/lib.rt:80:9
 sort-of-requires : tie.Need-sort-of-requires
 sort-of-requires c κs = search needs
 
--- src/lib.rt:82:39
 add-run-end : tie.Need-add-run-end
 add-run-end c = search needs
 
--- src/lib.rt:82:13
 run-end-requires-2 : tie.Need-run-end-requires-2
 run-end-requires-2 c κs = search needs
 
--- src/lib.rt:83:22
 word-symbol-requires : tie.Need-word-symbol-requires
 word-symbol-requires c κs = search needs
 
--- src/lib.rt:83:9
 token-requires-2 : tie.Need-token-requires-2
 token-requires-2 c κs = (omega (arith, keyword-most _ _ (c .word-symbol .ensures)), search needs, search needs)
 
--- src/lib.rt:83:9
 returns-2 : tie.Need-returns-2
 returns-2 c =
     let sorted = c .before .before .before .before in
@@ -57,19 +47,15 @@ returns-2 c =
     scanned-word _ _ _ _ (ran .before .pre .held) (ran .run-end .ensures .0) (ran .run-end .ensures .1 .0) (omega (arith, ran .run-end .ensures .1 .1, sorted .before .before .if1 .left)) _ (c .before .before .run-end2 .ensures .1 .1) _ _
     (sym (c .before .before .before .if2 .taken) ∙ sorted .sort-of .ensures .0) (c .before .before .run-end2 .ensures .0) (c .before .word-symbol .ensures) (c .token2 .ensures)
 
--- src/lib.rt:86:39
 add-run-end-2 : tie.Need-add-run-end-2
 add-run-end-2 c = search needs
 
--- src/lib.rt:86:13
 run-end-requires-3 : tie.Need-run-end-requires-3
 run-end-requires-3 c κs = search needs
 
--- src/lib.rt:87:9
 token-requires-3 : tie.Need-token-requires-3
 token-requires-3 c κs = search needs
 
--- src/lib.rt:87:9
 returns-3 : tie.Need-returns-3
 returns-3 c =
     let sorted = c .before .before .before .before in
@@ -77,19 +63,15 @@ returns-3 c =
     scanned-number _ _ _ _ (ran .before .pre .held) (ran .run-end .ensures .0) (ran .run-end .ensures .1 .0) (omega (arith, ran .run-end .ensures .1 .1, sorted .before .before .if1 .left)) _ (c .before .run-end3 .ensures .1 .1) _
     (sym (c .before .before .if3 .taken) ∙ sorted .sort-of .ensures .0) (c .before .run-end3 .ensures .0) (c .token3 .ensures)
 
--- src/lib.rt:89:11
 add-token : tie.Need-add-token
 add-token c = search needs
 
--- src/lib.rt:89:32
 add-token-2 : tie.Need-add-token-2
 add-token-2 c = search needs
 
--- src/lib.rt:89:5
 token-requires-4 : tie.Need-token-requires-4
 token-requires-4 c κs = search needs
 
--- src/lib.rt:72:1
 returns-4 : tie.Need-returns-4
 returns-4 c =
     let sorted = c .before .before .before in

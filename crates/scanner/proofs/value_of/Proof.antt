@@ -21,55 +21,42 @@ Inv-loop text token end i₀ v₀ i v = (i ≤ end) × (v ≤ ceiling) × (cappe
 abbrev μ-loop : tie.MeasureT-loop
 μ-loop text token end i₀ v₀ i v = end - i
 
--- src/lib.rt:134:15
 end-of-requires : tie.Need-end-of-requires Inv-loop μ-loop
 end-of-requires c κs = search needs
 
--- src/lib.rt:134:15
 cast-end : tie.Need-cast-end Inv-loop μ-loop
 cast-end c = search needs
 
--- src/lib.rt:135:17
 start-of-requires : tie.Need-start-of-requires Inv-loop μ-loop
 start-of-requires c κs = search needs
 
--- src/lib.rt:135:17
 cast-i : tie.Need-cast-i Inv-loop μ-loop
 cast-i c = search needs
 
--- src/lib.rt:137:5
 loop-holds : tie.Need-loop-holds Inv-loop μ-loop
 loop-holds c = (search needs, search needs, rw (c .start-of .ensures, c .before .end-of .ensures))
 
--- src/lib.rt:138:26
 element-copy-out-digit-of : tie.Need-element-copy-out-digit-of Inv-loop μ-loop
 element-copy-out-digit-of c = search needs
 
--- src/lib.rt:138:13
 digit-of-requires : tie.Need-digit-of-requires Inv-loop μ-loop
 digit-of-requires c κs = search needs
 
--- src/lib.rt:139:20
 mul-capped : tie.Need-mul-capped Inv-loop μ-loop
 mul-capped c = search needs
 
--- src/lib.rt:139:20
 add-capped : tie.Need-add-capped Inv-loop μ-loop
 add-capped c = search needs
 
--- src/lib.rt:139:9
 capped-requires : tie.Need-capped-requires Inv-loop μ-loop
 capped-requires c κs = search needs
 
--- src/lib.rt:140:9
 add-i : tie.Need-add-i Inv-loop μ-loop
 add-i c = search needs
 
--- src/lib.rt:137:5
 loop-less : tie.Need-loop-less Inv-loop μ-loop
 loop-less c = search needs
 
--- src/lib.rt:137:5
 loop-again : tie.Need-loop-again Inv-loop μ-loop
 loop-again c =
     let l = c .before .before .before in
@@ -79,7 +66,6 @@ loop-again c =
       value-step _ _ _ _ _ _ _ (l .loop-test .taken) (omega (arith, ended .before .pre .held, ended .end-of .ensures)) (c .before .digit-of .ensures .0) (c .capped .ensures) (l .before .loop .inv .2),
     )
 
--- src/lib.rt:130:1
 returns : tie.Need-returns Inv-loop μ-loop
 returns c = value-done _ _ _ _ _ (c .loop-test .left) (c .before .loop .inv .1) (c .before .loop .inv .2)
 

@@ -6,7 +6,6 @@ use Rattle.theorems.proofs.Demand2.{demand-2}
 use Rattle.theorems.proofs.Demand3.{demand-3}
 use Rattle.theorems.proofs.TypedSearches.{typed-searches}
 
--- src/lib.rt:4:1
 returns : tie.Need-returns
 returns c = (demand-1, (demand-2, (demand-3, typed-searches)))
 

@@ -1,6 +1,7 @@
--- Each rule reads as the grammar's does, since those that it calls do. A level's loop, before each operand: the level is the codes written, then an operand,
--- the code of the operator read before it, and a row of operators with their operands (Turns). `ftnot` and a parenthesis go by cases on the next token.
--- Measure: eight times the bytes left, and the rule's level, since a rule reads a byte before it calls one of a higher level. Of a loop: the bytes left.
+-- Each rule reads as the grammar's does, since those that it calls do; all six stand here, since they call each other. A level's loop, before each
+-- operand: the level is the codes written, then an operand, the code of the operator read before it, and a row of operators with their operands (Turns).
+-- `ftnot` and a parenthesis go by cases on the next token. Measure: eight times the bytes left, and the rule's level, since a rule reads a byte before
+-- it calls one of a higher level. Of a loop: the bytes left.
 use Prim.Native.Nat.{ℕ, _+_, _*_, _-_, _<_}
 use native.Mathlib.Omega.{arith}
 use mathlib.Core.Bool.{false}
@@ -241,34 +242,27 @@ ands-Inv-loop text size at codes₀ count p₀ n₀ more₀ codes p n more = Tur
 abbrev ands-μ-loop : ands-lts.MeasureT-loop
 ands-μ-loop text size at codes₀ count p₀ n₀ more₀ codes p n more = size - p
 
--- src/rules.rt:60:5
 ands-loop-holds : (t : ℕ) → ands-lts.Need-loop-holds (ands-claims t) (ands-at t) ands.Post ands-Inv-loop ands-μ-loop
 ands-loop-holds t c = turns-start andLevel (c .pre .1)
 
--- src/rules.rt:61:13
 ands-milds-requires : (t : ℕ) → ands-lts.Need-milds-requires (ands-claims t) (ands-at t) ands.Post ands-Inv-loop ands-μ-loop
 ands-milds-requires t c κs = (omega (arith, c .before .before .pre .0, c .before .loop .inv .on), turns-ready (c .before .loop .inv))
 
--- src/rules.rt:62:12
 ands-is-failed-requires : (t : ℕ) → ands-lts.Need-is-failed-requires (ands-claims t) (ands-at t) ands.Post ands-Inv-loop ands-μ-loop
 ands-is-failed-requires t c κs = search needs
 
--- src/rules.rt:63:13
 ands-returns : (t : ℕ) → ands-lts.Need-returns (ands-claims t) (ands-at t) ands.Post ands-Inv-loop ands-μ-loop
 ands-returns t c = passed-up _ (c .before .is-failed .ensures) (c .if1 .taken) (turns-fails (c .before .before .before .before .loop .inv)) (c .before .before .milds .ensures)
 
--- src/rules.rt:65:9
 ands-count-of-requires : (t : ℕ) → ands-lts.Need-count-of-requires (ands-claims t) (ands-at t) ands.Post ands-Inv-loop ands-μ-loop
 ands-count-of-requires t c κs = search needs
 
--- src/rules.rt:67:13
 ands-push-requires : (t : ℕ) → ands-lts.Need-push-requires (ands-claims t) (ands-at t) ands.Post ands-Inv-loop ands-μ-loop
 ands-push-requires t c κs =
     let asked = c .before .before .before .before in
     count-short (ready-next (turns-ready (asked .before .before .before .loop .inv)) (read-further
     (is-reached _ (asked .is-failed .ensures) (c .before .before .before .if1 .left) refl (c .before .before .count-of .ensures) (asked .before .milds .ensures))))
 
--- src/rules.rt:70:13
 ands-at-of-requires : (t : ℕ) → ands-lts.Need-at-of-requires (ands-claims t) (ands-at t) ands.Post ands-Inv-loop ands-μ-loop
 ands-at-of-requires t c κs = search needs
 
@@ -284,25 +278,20 @@ ands-rows t c =
     (⊎-elim (λ w. rw (w .0 .taken, w .3, w .4) (w .2 .ensures (Combine And) (record { kind-is = refl; operand-is = refl })))
     (λ w. rw (w .0 .left, w .1, w .2) (wrote-none _ _)) (c .before .if2 .came))
 
--- src/rules.rt:71:13
 ands-token-at-requires : (t : ℕ) → ands-lts.Need-token-at-requires (ands-claims t) (ands-at t) ands.Post ands-Inv-loop ands-μ-loop
 ands-token-at-requires t c κs = rows-ready (ands-rows t c) .inside
 
--- src/rules.rt:72:12
 ands-symbol-of-requires : (t : ℕ) → ands-lts.Need-symbol-of-requires (ands-claims t) (ands-at t) ands.Post ands-Inv-loop ands-μ-loop
 ands-symbol-of-requires t c κs = search needs
 
--- src/rules.rt:73:13
 ands-read-requires : (t : ℕ) → ands-lts.Need-read-requires (ands-claims t) (ands-at t) ands.Post ands-Inv-loop ands-μ-loop
 ands-read-requires t c κs = let r = rows-ready (ands-rows t (c .before .before .before)) in (at-short r, count-short r)
 
--- src/rules.rt:73:13
 ands-returns-2 : (t : ℕ) → ands-lts.Need-returns-2 (ands-claims t) (ands-at t) ands.Post ands-Inv-loop ands-μ-loop
 ands-returns-2 t c =
     answers-as (c .read .ensures) (row-stop (ands-rows t (c .before .before .before .before))
     (symbol-no (c .before .before .before .token-at .ensures) (c .before .before .symbol-of .ensures) k-ftand (c .before .if3 .taken)))
 
--- src/rules.rt:75:9
 ands-end-of-requires : (t : ℕ) → ands-lts.Need-end-of-requires (ands-claims t) (ands-at t) ands.Post ands-Inv-loop ands-μ-loop
 ands-end-of-requires t c κs = search needs
 
@@ -312,11 +301,9 @@ ands-operator : (t : ℕ) (c : ands-lts.After-end-of (ands-claims t) (ands-at t)
     Begins k-ftand (a .text .now) (a .size) (c .before .before .before .before .at-of .result) (c .end-of .result)
 ands-operator t c = begins (c .before .before .before .token-at .ensures) (c .before .before .symbol-of .ensures) (c .end-of .ensures) k-ftand (c .before .if3 .left) refl
 
--- src/rules.rt:60:5
 ands-loop-less : (t : ℕ) → ands-lts.Need-loop-less (ands-claims t) (ands-at t) ands.Post ands-Inv-loop ands-μ-loop
 ands-loop-less t c = let o = ands-operator t c in omega (arith, ands-rows t (c .before .before .before .before) .past, o .on, o .end-within)
 
--- src/rules.rt:60:5
 ands-loop-again : (t : ℕ) → ands-lts.Need-loop-again (ands-claims t) (ands-at t) ands.Post ands-Inv-loop ands-μ-loop
 ands-loop-again t c = let o = ands-operator t c in row-step (ands-rows t (c .before .before .before .before)) o (expect-is o) (omega arith) (o .end-within)
 
@@ -326,34 +313,27 @@ milds-Inv-loop text size at codes₀ count p₀ n₀ more₀ codes p n more = Tu
 abbrev milds-μ-loop : milds-lts.MeasureT-loop
 milds-μ-loop text size at codes₀ count p₀ n₀ more₀ codes p n more = size - p
 
--- src/rules.rt:87:5
 milds-loop-holds : (t : ℕ) → milds-lts.Need-loop-holds (milds-claims t) (milds-at t) milds.Post milds-Inv-loop milds-μ-loop
 milds-loop-holds t c = turns-start mildLevel (c .pre .1)
 
--- src/rules.rt:88:13
 milds-nots-requires : (t : ℕ) → milds-lts.Need-nots-requires (milds-claims t) (milds-at t) milds.Post milds-Inv-loop milds-μ-loop
 milds-nots-requires t c κs = (omega (arith, c .before .before .pre .0, c .before .loop .inv .on), turns-ready (c .before .loop .inv))
 
--- src/rules.rt:89:12
 milds-is-failed-requires : (t : ℕ) → milds-lts.Need-is-failed-requires (milds-claims t) (milds-at t) milds.Post milds-Inv-loop milds-μ-loop
 milds-is-failed-requires t c κs = search needs
 
--- src/rules.rt:90:13
 milds-returns : (t : ℕ) → milds-lts.Need-returns (milds-claims t) (milds-at t) milds.Post milds-Inv-loop milds-μ-loop
 milds-returns t c = passed-up _ (c .before .is-failed .ensures) (c .if1 .taken) (turns-fails (c .before .before .before .before .loop .inv)) (c .before .before .nots .ensures)
 
--- src/rules.rt:92:9
 milds-count-of-requires : (t : ℕ) → milds-lts.Need-count-of-requires (milds-claims t) (milds-at t) milds.Post milds-Inv-loop milds-μ-loop
 milds-count-of-requires t c κs = search needs
 
--- src/rules.rt:94:13
 milds-push-requires : (t : ℕ) → milds-lts.Need-push-requires (milds-claims t) (milds-at t) milds.Post milds-Inv-loop milds-μ-loop
 milds-push-requires t c κs =
     let asked = c .before .before .before .before in
     count-short (ready-next (turns-ready (asked .before .before .before .loop .inv)) (read-further
     (is-reached _ (asked .is-failed .ensures) (c .before .before .before .if1 .left) refl (c .before .before .count-of .ensures) (asked .before .nots .ensures))))
 
--- src/rules.rt:97:13
 milds-at-of-requires : (t : ℕ) → milds-lts.Need-at-of-requires (milds-claims t) (milds-at t) milds.Post milds-Inv-loop milds-μ-loop
 milds-at-of-requires t c κs = search needs
 
@@ -369,25 +349,20 @@ milds-rows t c =
     (⊎-elim (λ w. rw (w .0 .taken, w .3, w .4) (w .2 .ensures (Combine MildNot) (record { kind-is = refl; operand-is = refl })))
     (λ w. rw (w .0 .left, w .1, w .2) (wrote-none _ _)) (c .before .if2 .came))
 
--- src/rules.rt:98:13
 milds-token-at-requires : (t : ℕ) → milds-lts.Need-token-at-requires (milds-claims t) (milds-at t) milds.Post milds-Inv-loop milds-μ-loop
 milds-token-at-requires t c κs = rows-ready (milds-rows t c) .inside
 
--- src/rules.rt:99:12
 milds-symbol-of-requires : (t : ℕ) → milds-lts.Need-symbol-of-requires (milds-claims t) (milds-at t) milds.Post milds-Inv-loop milds-μ-loop
 milds-symbol-of-requires t c κs = search needs
 
--- src/rules.rt:100:13
 milds-read-requires : (t : ℕ) → milds-lts.Need-read-requires (milds-claims t) (milds-at t) milds.Post milds-Inv-loop milds-μ-loop
 milds-read-requires t c κs = let r = rows-ready (milds-rows t (c .before .before .before)) in (at-short r, count-short r)
 
--- src/rules.rt:100:13
 milds-returns-2 : (t : ℕ) → milds-lts.Need-returns-2 (milds-claims t) (milds-at t) milds.Post milds-Inv-loop milds-μ-loop
 milds-returns-2 t c =
     answers-as (c .read .ensures) (row-stop (milds-rows t (c .before .before .before .before))
     (symbol-no (c .before .before .before .token-at .ensures) (c .before .before .symbol-of .ensures) k-not (c .before .if3 .taken)))
 
--- src/rules.rt:102:52
 milds-end-of-requires : (t : ℕ) → milds-lts.Need-end-of-requires (milds-claims t) (milds-at t) milds.Post milds-Inv-loop milds-μ-loop
 milds-end-of-requires t c κs = search needs
 
@@ -397,21 +372,17 @@ milds-operator : (t : ℕ) (c : milds-lts.After-end-of (milds-claims t) (milds-a
     Begins k-not (a .text .now) (a .size) (c .before .before .before .before .at-of .result) (c .end-of .result)
 milds-operator t c = begins (c .before .before .before .token-at .ensures) (c .before .before .symbol-of .ensures) (c .end-of .ensures) k-not (c .before .if3 .left) refl
 
--- src/rules.rt:102:13
 milds-token-at-requires-2 : (t : ℕ) → milds-lts.Need-token-at-requires-2 (milds-claims t) (milds-at t) milds.Post milds-Inv-loop milds-μ-loop
 milds-token-at-requires-2 t c κs = ready-past (milds-operator t c) (rows-ready (milds-rows t (c .before .before .before .before))) .inside
 
--- src/rules.rt:103:12
 milds-symbol-of-requires-2 : (t : ℕ) → milds-lts.Need-symbol-of-requires-2 (milds-claims t) (milds-at t) milds.Post milds-Inv-loop milds-μ-loop
 milds-symbol-of-requires-2 t c κs = search needs
 
--- src/rules.rt:104:13
 milds-error-at-requires : (t : ℕ) → milds-lts.Need-error-at-requires (milds-claims t) (milds-at t) milds.Post milds-Inv-loop milds-μ-loop
 milds-error-at-requires t c κs =
     let ended = c .before .before .before in
     ((omega arith, omega arith), start-short (c .before .before .token-at2 .ensures) (ready-past (milds-operator t ended) (rows-ready (milds-rows t (ended .before .before .before .before)))))
 
--- src/rules.rt:104:13
 milds-returns-3 : (t : ℕ) → milds-lts.Need-returns-3 (milds-claims t) (milds-at t) milds.Post milds-Inv-loop milds-μ-loop
 milds-returns-3 t c =
     let ended = c .before .before .before .before in
@@ -419,7 +390,6 @@ milds-returns-3 t c =
     answers-as (c .error-at .ensures) (row-broken (milds-rows t (ended .before .before .before .before)) o
     (not-only o (expect-failed (c .before .before .before .token-at2 .ensures) (c .before .before .symbol-of2 .ensures) k-in (c .before .if4 .taken))))
 
--- src/rules.rt:106:9
 milds-end-of-requires-2 : (t : ℕ) → milds-lts.Need-end-of-requires-2 (milds-claims t) (milds-at t) milds.Post milds-Inv-loop milds-μ-loop
 milds-end-of-requires-2 t c κs = search needs
 
@@ -429,14 +399,12 @@ milds-in : (t : ℕ) (c : milds-lts.After-end-of2 (milds-claims t) (milds-at t) 
     Begins k-in (a .text .now) (a .size) (c .before .before .before .before .end-of .result) (c .end-of2 .result)
 milds-in t c = begins (c .before .before .before .token-at2 .ensures) (c .before .before .symbol-of2 .ensures) (c .end-of2 .ensures) k-in (c .before .if4 .left) refl
 
--- src/rules.rt:87:5
 milds-loop-less : (t : ℕ) → milds-lts.Need-loop-less (milds-claims t) (milds-at t) milds.Post milds-Inv-loop milds-μ-loop
 milds-loop-less t c =
     let ended = c .before .before .before .before in
     let i = milds-in t c in
     omega (arith, milds-rows t (ended .before .before .before .before) .past, milds-operator t ended .on, i .on, i .end-within)
 
--- src/rules.rt:87:5
 milds-loop-again : (t : ℕ) → milds-lts.Need-loop-again (milds-claims t) (milds-at t) milds.Post milds-Inv-loop milds-μ-loop
 milds-loop-again t c =
     let ended = c .before .before .before .before in
@@ -444,15 +412,12 @@ milds-loop-again t c =
     let i = milds-in t c in
     row-step (milds-rows t (ended .before .before .before .before)) o (not-in o i) (omega (arith, i .on)) (i .end-within)
 
--- src/rules.rt:115:9
 nots-token-at-requires : (t : ℕ) → nots-lts.Need-token-at-requires (nots-claims t) (nots-at t) nots.Post
 nots-token-at-requires t c κs = c .pre .1 .inside
 
--- src/rules.rt:116:19
 nots-symbol-of-requires : (t : ℕ) → nots-lts.Need-symbol-of-requires (nots-claims t) (nots-at t) nots.Post
 nots-symbol-of-requires t c κs = search needs
 
--- src/rules.rt:119:9
 nots-end-of-requires : (t : ℕ) → nots-lts.Need-end-of-requires (nots-claims t) (nots-at t) nots.Post
 nots-end-of-requires t c κs = search needs
 
@@ -468,27 +433,21 @@ nots-negated t c =
     (λ w. rw (w .0 .left, w .1) (negated-not (t .before .pre .1 .inside .within) (symbol-no (t .token-at .ensures) (s .symbol-of .ensures) k-ftnot (eqb-false _ _ (w .0 .left)))))
     (c .if1 .came)
 
--- src/rules.rt:121:9
 nots-primary-requires : (t : ℕ) → nots-lts.Need-primary-requires (nots-claims t) (nots-at t) nots.Post
 nots-primary-requires t c κs = let g = nots-negated t (c .before) in (omega (arith, c .before .before .before .before .pre .0, g .on, g .end-within), negated-ready g (c .before .before .before .before .pre .1))
 
--- src/rules.rt:122:8
 nots-is-failed-requires : (t : ℕ) → nots-lts.Need-is-failed-requires (nots-claims t) (nots-at t) nots.Post
 nots-is-failed-requires t c κs = search needs
 
--- src/rules.rt:123:9
 nots-returns : (t : ℕ) → nots-lts.Need-returns (nots-claims t) (nots-at t) nots.Post
 nots-returns t c = passed-up _ (c .before .is-failed .ensures) (c .if2 .taken) (not-fails (nots-negated t (c .before .before .before .before))) (c .before .before .primary .ensures)
 
--- src/rules.rt:126:9
 nots-returns-2 : (t : ℕ) → nots-lts.Need-returns-2 (nots-claims t) (nots-at t) nots.Post
 nots-returns-2 t c = not-plain (nots-negated t (c .before .before .before .before .before)) _ (not-true _ (c .if3 .taken)) (c .before .before .before .primary .ensures)
 
--- src/rules.rt:128:9
 nots-count-of-requires : (t : ℕ) → nots-lts.Need-count-of-requires (nots-claims t) (nots-at t) nots.Post
 nots-count-of-requires t c κs = search needs
 
--- src/rules.rt:129:9
 nots-push-requires : (t : ℕ) → nots-lts.Need-push-requires (nots-claims t) (nots-at t) nots.Post
 nots-push-requires t c κs =
     let asked = c .before .before .before .before in
@@ -496,7 +455,6 @@ nots-push-requires t c κs =
     count-short (ready-next (negated-ready (nots-negated t joined) (joined .before .before .before .pre .1)) (read-further
     (is-reached _ (asked .is-failed .ensures) (c .before .before .before .if2 .left) refl (c .before .count-of .ensures) (asked .before .primary .ensures))))
 
--- src/rules.rt:130:17
 nots-at-of-requires : (t : ℕ) → nots-lts.Need-at-of-requires (nots-claims t) (nots-at t) nots.Post
 nots-at-of-requires t c κs = search needs
 
@@ -511,13 +469,11 @@ nots-read t c =
     (is-reached _ (asked .is-failed .ensures) (c .before .before .before .before .before .if2 .left) (c .at-of .ensures) (c .before .before .before .count-of .ensures) (asked .before .primary .ensures))
     (c .before .push .ensures Not (record { kind-is = refl; operand-is = refl }))
 
--- src/rules.rt:130:5
 nots-read-requires : (t : ℕ) → nots-lts.Need-read-requires (nots-claims t) (nots-at t) nots.Post
 nots-read-requires t c κs =
     let r = ready-next (c .before .before .before .before .before .before .before .before .before .before .before .before .pre .1) (read-further (nots-read t c)) in
     (at-short r, count-short r)
 
--- src/rules.rt:111:1
 nots-returns-3 : (t : ℕ) → nots-lts.Need-returns-3 (nots-claims t) (nots-at t) nots.Post
 nots-returns-3 t c = answers-as (c .read .ensures) (nots-read t (c .before))
 
@@ -527,34 +483,27 @@ ors-Inv-loop text size at codes₀ count p₀ n₀ more₀ codes p n more = Turn
 abbrev ors-μ-loop : ors-lts.MeasureT-loop
 ors-μ-loop text size at codes₀ count p₀ n₀ more₀ codes p n more = size - p
 
--- src/rules.rt:33:5
 ors-loop-holds : (t : ℕ) → ors-lts.Need-loop-holds (ors-claims t) (ors-at t) ors.Post ors-Inv-loop ors-μ-loop
 ors-loop-holds t c = turns-start orLevel (c .pre .1)
 
--- src/rules.rt:34:13
 ors-ands-requires : (t : ℕ) → ors-lts.Need-ands-requires (ors-claims t) (ors-at t) ors.Post ors-Inv-loop ors-μ-loop
 ors-ands-requires t c κs = (omega (arith, c .before .before .pre .0, c .before .loop .inv .on), turns-ready (c .before .loop .inv))
 
--- src/rules.rt:35:12
 ors-is-failed-requires : (t : ℕ) → ors-lts.Need-is-failed-requires (ors-claims t) (ors-at t) ors.Post ors-Inv-loop ors-μ-loop
 ors-is-failed-requires t c κs = search needs
 
--- src/rules.rt:36:13
 ors-returns : (t : ℕ) → ors-lts.Need-returns (ors-claims t) (ors-at t) ors.Post ors-Inv-loop ors-μ-loop
 ors-returns t c = passed-up _ (c .before .is-failed .ensures) (c .if1 .taken) (turns-fails (c .before .before .before .before .loop .inv)) (c .before .before .ands .ensures)
 
--- src/rules.rt:38:9
 ors-count-of-requires : (t : ℕ) → ors-lts.Need-count-of-requires (ors-claims t) (ors-at t) ors.Post ors-Inv-loop ors-μ-loop
 ors-count-of-requires t c κs = search needs
 
--- src/rules.rt:40:13
 ors-push-requires : (t : ℕ) → ors-lts.Need-push-requires (ors-claims t) (ors-at t) ors.Post ors-Inv-loop ors-μ-loop
 ors-push-requires t c κs =
     let asked = c .before .before .before .before in
     count-short (ready-next (turns-ready (asked .before .before .before .loop .inv)) (read-further
     (is-reached _ (asked .is-failed .ensures) (c .before .before .before .if1 .left) refl (c .before .before .count-of .ensures) (asked .before .ands .ensures))))
 
--- src/rules.rt:43:13
 ors-at-of-requires : (t : ℕ) → ors-lts.Need-at-of-requires (ors-claims t) (ors-at t) ors.Post ors-Inv-loop ors-μ-loop
 ors-at-of-requires t c κs = search needs
 
@@ -570,25 +519,20 @@ ors-rows t c =
     (⊎-elim (λ w. rw (w .0 .taken, w .3, w .4) (w .2 .ensures (Combine Or) (record { kind-is = refl; operand-is = refl })))
     (λ w. rw (w .0 .left, w .1, w .2) (wrote-none _ _)) (c .before .if2 .came))
 
--- src/rules.rt:44:13
 ors-token-at-requires : (t : ℕ) → ors-lts.Need-token-at-requires (ors-claims t) (ors-at t) ors.Post ors-Inv-loop ors-μ-loop
 ors-token-at-requires t c κs = rows-ready (ors-rows t c) .inside
 
--- src/rules.rt:45:12
 ors-symbol-of-requires : (t : ℕ) → ors-lts.Need-symbol-of-requires (ors-claims t) (ors-at t) ors.Post ors-Inv-loop ors-μ-loop
 ors-symbol-of-requires t c κs = search needs
 
--- src/rules.rt:46:13
 ors-read-requires : (t : ℕ) → ors-lts.Need-read-requires (ors-claims t) (ors-at t) ors.Post ors-Inv-loop ors-μ-loop
 ors-read-requires t c κs = let r = rows-ready (ors-rows t (c .before .before .before)) in (at-short r, count-short r)
 
--- src/rules.rt:46:13
 ors-returns-2 : (t : ℕ) → ors-lts.Need-returns-2 (ors-claims t) (ors-at t) ors.Post ors-Inv-loop ors-μ-loop
 ors-returns-2 t c =
     answers-as (c .read .ensures) (row-stop (ors-rows t (c .before .before .before .before))
     (symbol-no (c .before .before .before .token-at .ensures) (c .before .before .symbol-of .ensures) k-ftor (c .before .if3 .taken)))
 
--- src/rules.rt:48:9
 ors-end-of-requires : (t : ℕ) → ors-lts.Need-end-of-requires (ors-claims t) (ors-at t) ors.Post ors-Inv-loop ors-μ-loop
 ors-end-of-requires t c κs = search needs
 
@@ -598,23 +542,18 @@ ors-operator : (t : ℕ) (c : ors-lts.After-end-of (ors-claims t) (ors-at t) ors
     Begins k-ftor (a .text .now) (a .size) (c .before .before .before .before .at-of .result) (c .end-of .result)
 ors-operator t c = begins (c .before .before .before .token-at .ensures) (c .before .before .symbol-of .ensures) (c .end-of .ensures) k-ftor (c .before .if3 .left) refl
 
--- src/rules.rt:33:5
 ors-loop-less : (t : ℕ) → ors-lts.Need-loop-less (ors-claims t) (ors-at t) ors.Post ors-Inv-loop ors-μ-loop
 ors-loop-less t c = let o = ors-operator t c in omega (arith, ors-rows t (c .before .before .before .before) .past, o .on, o .end-within)
 
--- src/rules.rt:33:5
 ors-loop-again : (t : ℕ) → ors-lts.Need-loop-again (ors-claims t) (ors-at t) ors.Post ors-Inv-loop ors-μ-loop
 ors-loop-again t c = let o = ors-operator t c in row-step (ors-rows t (c .before .before .before .before)) o (expect-is o) (omega arith) (o .end-within)
 
--- src/rules.rt:138:9
 primary-token-at-requires : (t : ℕ) → primary-lts.Need-token-at-requires (primary-claims t) (primary-at t) primary.Post
 primary-token-at-requires t c κs = c .pre .1 .inside
 
--- src/rules.rt:139:9
 primary-symbol-of-requires : (t : ℕ) → primary-lts.Need-symbol-of-requires (primary-claims t) (primary-at t) primary.Post
 primary-symbol-of-requires t c κs = search needs
 
--- src/rules.rt:141:46
 primary-end-of-requires : (t : ℕ) → primary-lts.Need-end-of-requires (primary-claims t) (primary-at t) primary.Post
 primary-end-of-requires t c κs = search needs
 
@@ -624,11 +563,9 @@ primary-quote : (t : ℕ) (c : primary-lts.After-end-of (primary-claims t) (prim
     Begins s-quote (a .text .now) (a .size) (a .at) (c .end-of .result)
 primary-quote t c = begins (c .before .before .before .token-at .ensures) (c .before .before .symbol-of .ensures) (c .end-of .ensures) s-quote (c .before .if1 .taken) refl
 
--- src/rules.rt:141:9
 primary-words-requires : (t : ℕ) → primary-lts.Need-words-requires (primary-claims t) (primary-at t) primary.Post
 primary-words-requires t c κs = ready-past (primary-quote t (c .before)) (c .before .before .before .before .before .pre .1)
 
--- src/rules.rt:141:9
 primary-returns : (t : ℕ) → primary-lts.Need-returns (primary-claims t) (primary-at t) primary.Post
 primary-returns t c = primary-words _ (primary-quote t (c .before .before)) (c .words .ensures)
 
@@ -638,18 +575,15 @@ primary-unquoted : (t : ℕ) (c : primary-lts.Else1 (primary-claims t) (primary-
     eqb (symbolIn (streamIn (a .text .now) (a .size) (a .at))) s-quote ≡ false
 primary-unquoted t c = symbol-no (c .before .before .token-at .ensures) (c .before .symbol-of .ensures) s-quote (c .if1 .left)
 
--- src/rules.rt:144:9
 primary-error-at-requires : (t : ℕ) → primary-lts.Need-error-at-requires (primary-claims t) (primary-at t) primary.Post
 primary-error-at-requires t c κs = ((omega arith, omega arith), start-short (c .before .before .before .token-at .ensures) (c .before .before .before .before .pre .1))
 
--- src/rules.rt:144:9
 primary-returns-2 : (t : ℕ) → primary-lts.Need-returns-2 (primary-claims t) (primary-at t) primary.Post
 primary-returns-2 t c =
     let scanned = c .before .before .before .before .token-at .ensures in
     answers-as (c .error-at .ensures) (primary-not (primary-unquoted t (c .before .before))
     (symbol-no scanned (c .before .before .before .symbol-of .ensures) s-opening (c .before .if2 .taken)) (scanned .place-is))
 
--- src/rules.rt:146:39
 primary-end-of-requires-2 : (t : ℕ) → primary-lts.Need-end-of-requires-2 (primary-claims t) (primary-at t) primary.Post
 primary-end-of-requires-2 t c κs = search needs
 
@@ -659,23 +593,19 @@ primary-opens : (t : ℕ) (c : primary-lts.After-end-of2 (primary-claims t) (pri
     Begins s-opening (a .text .now) (a .size) (a .at) (c .end-of2 .result)
 primary-opens t c = begins (c .before .before .before .before .token-at .ensures) (c .before .before .before .symbol-of .ensures) (c .end-of2 .ensures) s-opening (c .before .if2 .left) refl
 
--- src/rules.rt:146:9
 primary-selection-requires : (t : ℕ) → primary-lts.Need-selection-requires (primary-claims t) (primary-at t) primary.Post
 primary-selection-requires t c κs =
     let o = primary-opens t (c .before) in
     (omega (arith, c .before .before .before .before .before .before .pre .0, o .on, o .end-within), ready-past o (c .before .before .before .before .before .before .pre .1))
 
--- src/rules.rt:147:8
 primary-is-failed-requires : (t : ℕ) → primary-lts.Need-is-failed-requires (primary-claims t) (primary-at t) primary.Post
 primary-is-failed-requires t c κs = search needs
 
--- src/rules.rt:148:9
 primary-returns-3 : (t : ℕ) → primary-lts.Need-returns-3 (primary-claims t) (primary-at t) primary.Post
 primary-returns-3 t c =
     let ended = c .before .before .before .before in
     passed-up _ (c .before .is-failed .ensures) (c .if3 .taken) (primary-fails (primary-unquoted t (ended .before .before)) (primary-opens t ended)) (c .before .before .selection .ensures)
 
--- src/rules.rt:150:47
 primary-at-of-requires : (t : ℕ) → primary-lts.Need-at-of-requires (primary-claims t) (primary-at t) primary.Post
 primary-at-of-requires t c κs = search needs
 
@@ -696,19 +626,15 @@ primary-ready t c =
     let ended = c .before .before .before .before .before in
     ready-next (ready-past (primary-opens t ended) (ended .before .before .before .before .before .pre .1)) (read-further (primary-inner t c))
 
--- src/rules.rt:150:9
 primary-token-at-requires-2 : (t : ℕ) → primary-lts.Need-token-at-requires-2 (primary-claims t) (primary-at t) primary.Post
 primary-token-at-requires-2 t c κs = primary-ready t c .inside
 
--- src/rules.rt:151:8
 primary-symbol-of-requires-2 : (t : ℕ) → primary-lts.Need-symbol-of-requires-2 (primary-claims t) (primary-at t) primary.Post
 primary-symbol-of-requires-2 t c κs = search needs
 
--- src/rules.rt:152:9
 primary-error-at-requires-2 : (t : ℕ) → primary-lts.Need-error-at-requires-2 (primary-claims t) (primary-at t) primary.Post
 primary-error-at-requires-2 t c κs = ((omega arith, omega arith), start-short (c .before .before .token-at2 .ensures) (primary-ready t (c .before .before .before)))
 
--- src/rules.rt:152:9
 primary-returns-4 : (t : ℕ) → primary-lts.Need-returns-4 (primary-claims t) (primary-at t) primary.Post
 primary-returns-4 t c =
     let found = c .before .before .before .before in
@@ -716,7 +642,6 @@ primary-returns-4 t c =
     (primary-unquoted t (found .before .before .before .before .before .before .before)) (primary-opens t (found .before .before .before .before .before)) (primary-inner t found)
     (expect-failed (c .before .before .before .token-at2 .ensures) (c .before .before .symbol-of2 .ensures) s-closing (c .before .if4 .taken)))
 
--- src/rules.rt:154:17
 primary-end-of-requires-3 : (t : ℕ) → primary-lts.Need-end-of-requires-3 (primary-claims t) (primary-at t) primary.Post
 primary-end-of-requires-3 t c κs = search needs
 
@@ -726,40 +651,32 @@ primary-closes : (t : ℕ) (c : primary-lts.After-end-of3 (primary-claims t) (pr
     Begins s-closing (a .text .now) (a .size) (c .before .before .before .before .at-of .result) (c .end-of3 .result)
 primary-closes t c = begins (c .before .before .before .token-at2 .ensures) (c .before .before .symbol-of2 .ensures) (c .end-of3 .ensures) s-closing (c .before .if4 .left) refl
 
--- src/rules.rt:154:41
 primary-count-of-requires : (t : ℕ) → primary-lts.Need-count-of-requires (primary-claims t) (primary-at t) primary.Post
 primary-count-of-requires t c κs = search needs
 
--- src/rules.rt:154:5
 primary-read-requires : (t : ℕ) → primary-lts.Need-read-requires (primary-claims t) (primary-at t) primary.Post
 primary-read-requires t c κs =
     let r = ready-past (primary-closes t (c .before)) (primary-ready t (c .before .before .before .before .before)) in
     (at-short r, omega (arith, count-short r, c .count-of .ensures))
 
--- src/rules.rt:134:1
 primary-returns-5 : (t : ℕ) → primary-lts.Need-returns-5 (primary-claims t) (primary-at t) primary.Post
 primary-returns-5 t c =
     let found = c .before .before .before .before .before .before in
     let a = primary-closed (primary-unquoted t (found .before .before .before .before .before .before .before)) (primary-opens t (found .before .before .before .before .before)) (primary-inner t found) (primary-closes t (c .before .before)) in
     answers-as (c .read .ensures) (rw (c .before .count-of .ensures) a)
 
--- src/rules.rt:16:9
 selection-ors-requires : (t : ℕ) → selection-lts.Need-ors-requires (selection-claims t) (selection-at t) selection.Post
 selection-ors-requires t c κs = (omega (arith, c .before .pre .0), c .before .pre .1)
 
--- src/rules.rt:17:8
 selection-is-failed-requires : (t : ℕ) → selection-lts.Need-is-failed-requires (selection-claims t) (selection-at t) selection.Post
 selection-is-failed-requires t c κs = search needs
 
--- src/rules.rt:18:9
 selection-returns : (t : ℕ) → selection-lts.Need-returns (selection-claims t) (selection-at t) selection.Post
 selection-returns t c = passed-up _ (c .before .is-failed .ensures) (c .if1 .taken) whole-fails (c .before .before .ors .ensures)
 
--- src/rules.rt:20:9
 selection-at-of-requires : (t : ℕ) → selection-lts.Need-at-of-requires (selection-claims t) (selection-at t) selection.Post
 selection-at-of-requires t c κs = search needs
 
--- src/rules.rt:21:9
 selection-count-of-requires : (t : ℕ) → selection-lts.Need-count-of-requires (selection-claims t) (selection-at t) selection.Post
 selection-count-of-requires t c κs = search needs
 
@@ -771,11 +688,9 @@ selection-whole : (t : ℕ) (c : selection-lts.After-count-of (selection-claims 
     (reached (c .before .at-of .result) (c .count-of .result))
 selection-whole t c = is-reached _ (c .before .before .before .is-failed .ensures) (c .before .before .if1 .left) (c .before .at-of .ensures) (c .count-of .ensures) (c .before .before .before .before .ors .ensures)
 
--- src/rules.rt:22:5
 selection-filters-requires : (t : ℕ) → selection-lts.Need-filters-requires (selection-claims t) (selection-at t) selection.Post
 selection-filters-requires t c κs = ready-next (c .before .before .before .before .before .before .before .pre .1) (read-further (selection-whole t (c .before)))
 
--- src/rules.rt:12:1
 selection-returns-2 : (t : ℕ) → selection-lts.Need-returns-2 (selection-claims t) (selection-at t) selection.Post
 selection-returns-2 t c = whole-is _ (selection-whole t (c .before .before)) (c .filters .ensures)
 

@@ -20,112 +20,90 @@ Later n words s =
     let word = bytesFrom (s .args .text .now) (s .args .start) (s .args .end) in
     numberAmong n words word ≡ numberAmong 6 filterWords word
 
--- src/symbols.rt:114:33
 slice-aggregate-spells : tie.Need-slice-aggregate-spells
 slice-aggregate-spells c = search needs
 
--- src/symbols.rt:114:8
 spells-requires : tie.Need-spells-requires
 spells-requires c κs = search needs
 
--- src/symbols.rt:115:9
 returns : tie.Need-returns
 returns c = found 6 "ordered" _ _ _ (c .before .spells .ensures) _ refl (c .if1 .taken)
 
 after-1 : (p : lts.Else1 (spells-reads.Asked, spells-reads.Learnt) reads.Pre reads.Post) → Later 7 (drop 1 filterWords) (p .before .before .before)
 after-1 p = passed 6 "ordered" _ _ _ (p .before .spells .ensures) _ refl (p .if1 .left)
 
--- src/symbols.rt:117:33
 slice-aggregate-spells-2 : tie.Need-slice-aggregate-spells-2
 slice-aggregate-spells-2 c = search needs
 
--- src/symbols.rt:117:8
 spells-requires-2 : tie.Need-spells-requires-2
 spells-requires-2 c κs = search needs
 
--- src/symbols.rt:118:9
 returns-2 : tie.Need-returns-2
 returns-2 c = found 7 "window" _ _ _ (c .before .spells2 .ensures) _ (after-1 (c .before .before .before)) (c .if2 .taken)
 
 after-2 : (p : lts.Else2 (spells-reads.Asked, spells-reads.Learnt) reads.Pre reads.Post) → Later 8 (drop 2 filterWords) (p .before .before .before .before .before .before)
 after-2 p = passed 7 "window" _ _ _ (p .before .spells2 .ensures) _ (after-1 (p .before .before .before)) (p .if2 .left)
 
--- src/symbols.rt:120:33
 slice-aggregate-spells-3 : tie.Need-slice-aggregate-spells-3
 slice-aggregate-spells-3 c = search needs
 
--- src/symbols.rt:120:8
 spells-requires-3 : tie.Need-spells-requires-3
 spells-requires-3 c κs = search needs
 
--- src/symbols.rt:121:9
 returns-3 : tie.Need-returns-3
 returns-3 c = found 8 "distance" _ _ _ (c .before .spells3 .ensures) _ (after-2 (c .before .before .before)) (c .if3 .taken)
 
 after-3 : (p : lts.Else3 (spells-reads.Asked, spells-reads.Learnt) reads.Pre reads.Post) → Later 9 (drop 3 filterWords) (p .before .before .before .before .before .before .before .before .before)
 after-3 p = passed 8 "distance" _ _ _ (p .before .spells3 .ensures) _ (after-2 (p .before .before .before)) (p .if3 .left)
 
--- src/symbols.rt:123:33
 slice-aggregate-spells-4 : tie.Need-slice-aggregate-spells-4
 slice-aggregate-spells-4 c = search needs
 
--- src/symbols.rt:123:8
 spells-requires-4 : tie.Need-spells-requires-4
 spells-requires-4 c κs = search needs
 
--- src/symbols.rt:124:9
 returns-4 : tie.Need-returns-4
 returns-4 c = found 9 "same" _ _ _ (c .before .spells4 .ensures) _ (after-3 (c .before .before .before)) (c .if4 .taken)
 
 after-4 : (p : lts.Else4 (spells-reads.Asked, spells-reads.Learnt) reads.Pre reads.Post) → Later 10 (drop 4 filterWords) (p .before .before .before .before .before .before .before .before .before .before .before .before)
 after-4 p = passed 9 "same" _ _ _ (p .before .spells4 .ensures) _ (after-3 (p .before .before .before)) (p .if4 .left)
 
--- src/symbols.rt:126:33
 slice-aggregate-spells-5 : tie.Need-slice-aggregate-spells-5
 slice-aggregate-spells-5 c = search needs
 
--- src/symbols.rt:126:8
 spells-requires-5 : tie.Need-spells-requires-5
 spells-requires-5 c κs = search needs
 
--- src/symbols.rt:127:9
 returns-5 : tie.Need-returns-5
 returns-5 c = found 10 "different" _ _ _ (c .before .spells5 .ensures) _ (after-4 (c .before .before .before)) (c .if5 .taken)
 
 after-5 : (p : lts.Else5 (spells-reads.Asked, spells-reads.Learnt) reads.Pre reads.Post) → Later 11 (drop 5 filterWords) (p .before .before .before .before .before .before .before .before .before .before .before .before .before .before .before)
 after-5 p = passed 10 "different" _ _ _ (p .before .spells5 .ensures) _ (after-4 (p .before .before .before)) (p .if5 .left)
 
--- src/symbols.rt:129:33
 slice-aggregate-spells-6 : tie.Need-slice-aggregate-spells-6
 slice-aggregate-spells-6 c = search needs
 
--- src/symbols.rt:129:8
 spells-requires-6 : tie.Need-spells-requires-6
 spells-requires-6 c κs = search needs
 
--- src/symbols.rt:130:9
 returns-6 : tie.Need-returns-6
 returns-6 c = found 11 "at" _ _ _ (c .before .spells6 .ensures) _ (after-5 (c .before .before .before)) (c .if6 .taken)
 
 after-6 : (p : lts.Else6 (spells-reads.Asked, spells-reads.Learnt) reads.Pre reads.Post) → Later 12 (drop 6 filterWords) (p .before .before .before .before .before .before .before .before .before .before .before .before .before .before .before .before .before .before)
 after-6 p = passed 11 "at" _ _ _ (p .before .spells6 .ensures) _ (after-5 (p .before .before .before)) (p .if6 .left)
 
--- src/symbols.rt:132:33
 slice-aggregate-spells-7 : tie.Need-slice-aggregate-spells-7
 slice-aggregate-spells-7 c = search needs
 
--- src/symbols.rt:132:8
 spells-requires-7 : tie.Need-spells-requires-7
 spells-requires-7 c κs = search needs
 
--- src/symbols.rt:133:9
 returns-7 : tie.Need-returns-7
 returns-7 c = found 12 "entire" _ _ _ (c .before .spells7 .ensures) _ (after-6 (c .before .before .before)) (c .if7 .taken)
 
 after-7 : (p : lts.Else7 (spells-reads.Asked, spells-reads.Learnt) reads.Pre reads.Post) → Later 13 (drop 7 filterWords) (p .before .before .before .before .before .before .before .before .before .before .before .before .before .before .before .before .before .before .before .before .before)
 after-7 p = passed 12 "entire" _ _ _ (p .before .spells7 .ensures) _ (after-6 (p .before .before .before)) (p .if7 .left)
 
--- src/symbols.rt:110:1
 returns-8 : tie.Need-returns-8
 unfolding numberAmong
 returns-8 c = after-7 c

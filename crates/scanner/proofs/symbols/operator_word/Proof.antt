@@ -20,82 +20,66 @@ Later n words s =
     let word = bytesFrom (s .args .text .now) (s .args .start) (s .args .end) in
     numberAmong n words word ≡ numberAmong 1 operatorWords word
 
--- src/symbols.rt:91:33
 slice-aggregate-spells : tie.Need-slice-aggregate-spells
 slice-aggregate-spells c = search needs
 
--- src/symbols.rt:91:8
 spells-requires : tie.Need-spells-requires
 spells-requires c κs = search needs
 
--- src/symbols.rt:92:9
 returns : tie.Need-returns
 returns c = found 1 "ftor" _ _ _ (c .before .spells .ensures) _ refl (c .if1 .taken)
 
 after-1 : (p : lts.Else1 (spells-reads.Asked, spells-reads.Learnt) reads.Pre reads.Post) → Later 2 (drop 1 operatorWords) (p .before .before .before)
 after-1 p = passed 1 "ftor" _ _ _ (p .before .spells .ensures) _ refl (p .if1 .left)
 
--- src/symbols.rt:94:33
 slice-aggregate-spells-2 : tie.Need-slice-aggregate-spells-2
 slice-aggregate-spells-2 c = search needs
 
--- src/symbols.rt:94:8
 spells-requires-2 : tie.Need-spells-requires-2
 spells-requires-2 c κs = search needs
 
--- src/symbols.rt:95:9
 returns-2 : tie.Need-returns-2
 returns-2 c = found 2 "ftand" _ _ _ (c .before .spells2 .ensures) _ (after-1 (c .before .before .before)) (c .if2 .taken)
 
 after-2 : (p : lts.Else2 (spells-reads.Asked, spells-reads.Learnt) reads.Pre reads.Post) → Later 3 (drop 2 operatorWords) (p .before .before .before .before .before .before)
 after-2 p = passed 2 "ftand" _ _ _ (p .before .spells2 .ensures) _ (after-1 (p .before .before .before)) (p .if2 .left)
 
--- src/symbols.rt:97:33
 slice-aggregate-spells-3 : tie.Need-slice-aggregate-spells-3
 slice-aggregate-spells-3 c = search needs
 
--- src/symbols.rt:97:8
 spells-requires-3 : tie.Need-spells-requires-3
 spells-requires-3 c κs = search needs
 
--- src/symbols.rt:98:9
 returns-3 : tie.Need-returns-3
 returns-3 c = found 3 "ftnot" _ _ _ (c .before .spells3 .ensures) _ (after-2 (c .before .before .before)) (c .if3 .taken)
 
 after-3 : (p : lts.Else3 (spells-reads.Asked, spells-reads.Learnt) reads.Pre reads.Post) → Later 4 (drop 3 operatorWords) (p .before .before .before .before .before .before .before .before .before)
 after-3 p = passed 3 "ftnot" _ _ _ (p .before .spells3 .ensures) _ (after-2 (p .before .before .before)) (p .if3 .left)
 
--- src/symbols.rt:100:33
 slice-aggregate-spells-4 : tie.Need-slice-aggregate-spells-4
 slice-aggregate-spells-4 c = search needs
 
--- src/symbols.rt:100:8
 spells-requires-4 : tie.Need-spells-requires-4
 spells-requires-4 c κs = search needs
 
--- src/symbols.rt:101:9
 returns-4 : tie.Need-returns-4
 returns-4 c = found 4 "not" _ _ _ (c .before .spells4 .ensures) _ (after-3 (c .before .before .before)) (c .if4 .taken)
 
 after-4 : (p : lts.Else4 (spells-reads.Asked, spells-reads.Learnt) reads.Pre reads.Post) → Later 5 (drop 4 operatorWords) (p .before .before .before .before .before .before .before .before .before .before .before .before)
 after-4 p = passed 4 "not" _ _ _ (p .before .spells4 .ensures) _ (after-3 (p .before .before .before)) (p .if4 .left)
 
--- src/symbols.rt:103:33
 slice-aggregate-spells-5 : tie.Need-slice-aggregate-spells-5
 slice-aggregate-spells-5 c = search needs
 
--- src/symbols.rt:103:8
 spells-requires-5 : tie.Need-spells-requires-5
 spells-requires-5 c κs = search needs
 
--- src/symbols.rt:104:9
 returns-5 : tie.Need-returns-5
 returns-5 c = found 5 "in" _ _ _ (c .before .spells5 .ensures) _ (after-4 (c .before .before .before)) (c .if5 .taken)
 
 after-5 : (p : lts.Else5 (spells-reads.Asked, spells-reads.Learnt) reads.Pre reads.Post) → Later 6 (drop 5 operatorWords) (p .before .before .before .before .before .before .before .before .before .before .before .before .before .before .before)
 after-5 p = passed 5 "in" _ _ _ (p .before .spells5 .ensures) _ (after-4 (p .before .before .before)) (p .if5 .left)
 
--- src/symbols.rt:87:1
 returns-6 : tie.Need-returns-6
 unfolding numberAmong
 returns-6 c = after-5 c

@@ -20,97 +20,78 @@ Later n words s =
     let word = bytesFrom (s .args .text .now) (s .args .start) (s .args .end) in
     numberAmong n words word ≡ numberAmong 18 rangeWords word
 
--- src/symbols.rt:166:33
 slice-aggregate-spells : tie.Need-slice-aggregate-spells
 slice-aggregate-spells c = search needs
 
--- src/symbols.rt:166:8
 spells-requires : tie.Need-spells-requires
 spells-requires c κs = search needs
 
--- src/symbols.rt:167:9
 returns : tie.Need-returns
 returns c = found 18 "exactly" _ _ _ (c .before .spells .ensures) _ refl (c .if1 .taken)
 
 after-1 : (p : lts.Else1 (spells-reads.Asked, spells-reads.Learnt) reads.Pre reads.Post) → Later 19 (drop 1 rangeWords) (p .before .before .before)
 after-1 p = passed 18 "exactly" _ _ _ (p .before .spells .ensures) _ refl (p .if1 .left)
 
--- src/symbols.rt:169:33
 slice-aggregate-spells-2 : tie.Need-slice-aggregate-spells-2
 slice-aggregate-spells-2 c = search needs
 
--- src/symbols.rt:169:8
 spells-requires-2 : tie.Need-spells-requires-2
 spells-requires-2 c κs = search needs
 
--- src/symbols.rt:170:9
 returns-2 : tie.Need-returns-2
 returns-2 c = found 19 "from" _ _ _ (c .before .spells2 .ensures) _ (after-1 (c .before .before .before)) (c .if2 .taken)
 
 after-2 : (p : lts.Else2 (spells-reads.Asked, spells-reads.Learnt) reads.Pre reads.Post) → Later 20 (drop 2 rangeWords) (p .before .before .before .before .before .before)
 after-2 p = passed 19 "from" _ _ _ (p .before .spells2 .ensures) _ (after-1 (p .before .before .before)) (p .if2 .left)
 
--- src/symbols.rt:172:33
 slice-aggregate-spells-3 : tie.Need-slice-aggregate-spells-3
 slice-aggregate-spells-3 c = search needs
 
--- src/symbols.rt:172:8
 spells-requires-3 : tie.Need-spells-requires-3
 spells-requires-3 c κs = search needs
 
--- src/symbols.rt:173:9
 returns-3 : tie.Need-returns-3
 returns-3 c = found 20 "to" _ _ _ (c .before .spells3 .ensures) _ (after-2 (c .before .before .before)) (c .if3 .taken)
 
 after-3 : (p : lts.Else3 (spells-reads.Asked, spells-reads.Learnt) reads.Pre reads.Post) → Later 21 (drop 3 rangeWords) (p .before .before .before .before .before .before .before .before .before)
 after-3 p = passed 20 "to" _ _ _ (p .before .spells3 .ensures) _ (after-2 (p .before .before .before)) (p .if3 .left)
 
--- src/symbols.rt:175:33
 slice-aggregate-spells-4 : tie.Need-slice-aggregate-spells-4
 slice-aggregate-spells-4 c = search needs
 
--- src/symbols.rt:175:8
 spells-requires-4 : tie.Need-spells-requires-4
 spells-requires-4 c κs = search needs
 
--- src/symbols.rt:176:9
 returns-4 : tie.Need-returns-4
 returns-4 c = found 21 "least" _ _ _ (c .before .spells4 .ensures) _ (after-3 (c .before .before .before)) (c .if4 .taken)
 
 after-4 : (p : lts.Else4 (spells-reads.Asked, spells-reads.Learnt) reads.Pre reads.Post) → Later 22 (drop 4 rangeWords) (p .before .before .before .before .before .before .before .before .before .before .before .before)
 after-4 p = passed 21 "least" _ _ _ (p .before .spells4 .ensures) _ (after-3 (p .before .before .before)) (p .if4 .left)
 
--- src/symbols.rt:178:33
 slice-aggregate-spells-5 : tie.Need-slice-aggregate-spells-5
 slice-aggregate-spells-5 c = search needs
 
--- src/symbols.rt:178:8
 spells-requires-5 : tie.Need-spells-requires-5
 spells-requires-5 c κs = search needs
 
--- src/symbols.rt:179:9
 returns-5 : tie.Need-returns-5
 returns-5 c = found 22 "most" _ _ _ (c .before .spells5 .ensures) _ (after-4 (c .before .before .before)) (c .if5 .taken)
 
 after-5 : (p : lts.Else5 (spells-reads.Asked, spells-reads.Learnt) reads.Pre reads.Post) → Later 23 (drop 5 rangeWords) (p .before .before .before .before .before .before .before .before .before .before .before .before .before .before .before)
 after-5 p = passed 22 "most" _ _ _ (p .before .spells5 .ensures) _ (after-4 (p .before .before .before)) (p .if5 .left)
 
--- src/symbols.rt:181:33
 slice-aggregate-spells-6 : tie.Need-slice-aggregate-spells-6
 slice-aggregate-spells-6 c = search needs
 
--- src/symbols.rt:181:8
 spells-requires-6 : tie.Need-spells-requires-6
 spells-requires-6 c κs = search needs
 
--- src/symbols.rt:182:9
 returns-6 : tie.Need-returns-6
 returns-6 c = found 23 "words" _ _ _ (c .before .spells6 .ensures) _ (after-5 (c .before .before .before)) (c .if6 .taken)
 
 after-6 : (p : lts.Else6 (spells-reads.Asked, spells-reads.Learnt) reads.Pre reads.Post) → Later 24 (drop 6 rangeWords) (p .before .before .before .before .before .before .before .before .before .before .before .before .before .before .before .before .before .before)
 after-6 p = passed 23 "words" _ _ _ (p .before .spells6 .ensures) _ (after-5 (p .before .before .before)) (p .if6 .left)
 
--- src/symbols.rt:162:1
 returns-7 : tie.Need-returns-7
 unfolding numberAmong
 returns-7 c = after-6 c

@@ -18,51 +18,40 @@ Inv-loop text start end word n i₀ i = (i ≤ n) × (sameBytes (bytesFrom text 
 abbrev μ-loop : tie.MeasureT-loop
 μ-loop text start end word n i₀ i = n - i
 
--- src/symbols.rt:73:8
 sub-if1 : tie.Need-sub-if1 Inv-loop μ-loop
 sub-if1 c = search needs
 
--- src/symbols.rt:74:9
 returns : tie.Need-returns Inv-loop μ-loop
 returns c = spells-longer _ _ _ _ (c .before .pre) (c .if1 .taken)
 
--- src/symbols.rt:77:5
 loop-holds : tie.Need-loop-holds Inv-loop μ-loop
 loop-holds c = (search needs, rw (add-zero (c .before .args .start)))
 
--- src/symbols.rt:78:17
 add-if2 : tie.Need-add-if2 Inv-loop μ-loop
 add-if2 c = search needs
 
--- src/symbols.rt:78:12
 element-copy-out-if2 : tie.Need-element-copy-out-if2 Inv-loop μ-loop
 element-copy-out-if2 c = search needs
 
--- src/symbols.rt:78:31
 shared-slice-read-if2 : tie.Need-shared-slice-read-if2 Inv-loop μ-loop
 shared-slice-read-if2 c = search needs
 
--- src/symbols.rt:79:13
 returns-2 : tie.Need-returns-2 Inv-loop μ-loop
 returns-2 c =
     let l = c .before .before .before in
     spells-differ _ _ _ _ (l .before .before .before .pre) _ _ (l .before .before .if1 .left) (l .before .loop .inv .1) (l .loop-test .taken) (c .if2 .taken)
 
--- src/symbols.rt:81:9
 add-i : tie.Need-add-i Inv-loop μ-loop
 add-i c = search needs
 
--- src/symbols.rt:77:5
 loop-less : tie.Need-loop-less Inv-loop μ-loop
 loop-less c = search needs
 
--- src/symbols.rt:77:5
 loop-again : tie.Need-loop-again Inv-loop μ-loop
 loop-again c =
     let l = c .before .before .before in
     (search needs, spells-next _ _ _ _ (l .before .before .before .pre) _ _ (l .before .before .if1 .left) (l .before .loop .inv .1) (l .loop-test .taken) (c .if2 .left))
 
--- src/symbols.rt:68:1
 returns-3 : tie.Need-returns-3 Inv-loop μ-loop
 returns-3 c = spells-done _ _ _ _ (c .before .before .before .pre) _ _ (c .before .before .if1 .left) (c .before .loop .inv .1) (c .loop-test .left)
 

@@ -20,40 +20,32 @@ pastFilters = scopeWords ++ rangeWords
 abbrev pastOperators : List String
 pastOperators = filterWords ++ pastFilters
 
--- src/symbols.rt:192:9
 operator-word-requires : tie.Need-operator-word-requires
 operator-word-requires c κs = search needs
 
--- src/symbols.rt:194:9
 returns : tie.Need-returns
 returns c = among-first 1 operatorWords pastOperators _ _ (c .before .operator-word .ensures) (c .if1 .taken)
 
--- src/symbols.rt:196:9
 filter-word-requires : tie.Need-filter-word-requires
 filter-word-requires c κs = search needs
 
--- src/symbols.rt:198:9
 returns-2 : tie.Need-returns-2
 returns-2 c =
     among-first 6 filterWords pastFilters _ _ (c .before .filter-word .ensures) (c .if2 .taken)
     ∙ among-rest 1 operatorWords pastOperators _ _ (c .before .before .before .operator-word .ensures) (c .before .before .if1 .left)
 
--- src/symbols.rt:200:9
 scope-word-requires : tie.Need-scope-word-requires
 scope-word-requires c κs = search needs
 
--- src/symbols.rt:202:9
 returns-3 : tie.Need-returns-3
 returns-3 c =
     among-first 13 scopeWords rangeWords _ _ (c .before .scope-word .ensures) (c .if3 .taken)
     ∙ among-rest 6 filterWords pastFilters _ _ (c .before .before .before .filter-word .ensures) (c .before .before .if2 .left)
     ∙ among-rest 1 operatorWords pastOperators _ _ (c .before .before .before .before .before .operator-word .ensures) (c .before .before .before .before .if1 .left)
 
--- src/symbols.rt:204:5
 range-word-requires : tie.Need-range-word-requires
 range-word-requires c κs = search needs
 
--- src/symbols.rt:188:1
 returns-4 : tie.Need-returns-4
 returns-4 c =
     c .range-word .ensures
