@@ -1,6 +1,6 @@
-//! `bench` prints the table of times, `bench typed` that of the reader; `bench once` runs each case once for `bench/count`; `bench cases` prints the cases for `bench/compare`; `bench search SECONDS SEED [KIND]...`
-//! looks for the accepted inputs that cost most, some kinds left out, and `bench slower` for those that cost most beside the
-//! second engine.
+//! `bench` prints the table of times, `bench typed` that of the reader; `bench once` runs each case once and `bench longest` writes what `ftlist` reads, for
+//! `bench/count`; `bench cases` prints the cases for `bench/compare`; `bench search SECONDS SEED [KIND]...` looks for the accepted inputs that cost most, some
+//! kinds left out, and `bench slower` for those that cost most beside the second engine.
 
 mod cases;
 mod least;
@@ -14,8 +14,9 @@ mod typed;
 use cases::Case;
 use proved::Proved;
 use search::Aim;
-use second_engine::{Engine, Listing, Quick, SecondEngine, BUFFER, WORK};
+use second_engine::{text, Engine, Listing, Quick, SecondEngine, BUFFER, WORK};
 use std::hint::black_box;
+use std::io::Write;
 
 /// What is lent, kept from call to call and not cleared between them.
 struct Lent {
@@ -77,6 +78,13 @@ fn print_cases() {
     }
 }
 
+/// Writes what `ftlist` reads for its longest listing: 512 strings with positions of four digits and query positions of two.
+fn write_longest() {
+    let section = notation::section("0*4064 1*16 2*16");
+    let selection = notation::selection(&format!("9 {}1 2 and or", "9 or ".repeat(8)));
+    std::io::stdout().write_all(&text::bytes(&section, &selection)).expect("standard output");
+}
+
 fn main() {
     let arguments: Vec<String> = std::env::args().skip(1).collect();
     let arguments: Vec<&str> = arguments.iter().map(String::as_str).collect();
@@ -85,6 +93,7 @@ fn main() {
         ["typed"] => typed::table(),
         ["once"] => once(),
         ["cases"] => print_cases(),
+        ["longest"] => write_longest(),
         [aim @ ("search" | "slower"), seconds, seed, ref without @ ..] => {
             let aim = if aim == "search" { Aim::Time } else { Aim::Ratio };
             let number = |text: &str| text.parse::<u64>().expect("a number");
@@ -92,7 +101,7 @@ fn main() {
             search::search(aim, number(seconds), number(seed), &without);
         }
         _ => panic!(
-            "bench, bench typed, bench once, bench cases, or bench search|slower SECONDS SEED [KIND LEFT OUT]..."
+            "bench, bench typed, bench once, bench longest, bench cases, or bench search|slower SECONDS SEED [KIND LEFT OUT]..."
         ),
     }
 }

@@ -48,6 +48,19 @@ fn long_inputs() {
     }
 }
 
+/// As many strings as a list may have, and each as long as a string's text gets.
+#[test]
+fn the_longest_listing() {
+    let words = [vec![0; 4_064], vec![1; 16], vec![2; 16]].concat();
+    // nine phrases come first, so that query positions have two digits
+    let absent = (1..9).fold(word(9), |selection, _| selection.or(word(9)));
+    let selection = absent.or(word(1).and(word(2))).numbers();
+    let found = agrees(&text::bytes(&plain(&words), &selection), "the longest listing");
+    assert!(found.starts_with("yes 256 512\n+4065-4065 q10 c +4081-4081 q11 c\n"));
+    assert!(found.ends_with("\n+4080-4080 q10 c +4096-4096 q11 c\n"));
+    assert_eq!(found.len(), 12 + 512 * 17);
+}
+
 /// An input cut short anywhere: "the section's 1 + 2n numbers (all, if fewer) and then the selection".
 #[test]
 fn cut_short() {

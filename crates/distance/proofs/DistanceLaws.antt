@@ -1,5 +1,5 @@
 -- Two spans are in the order of the numbers that they are written as, and their distance is told from these numbers.
-use Prim.Native.Nat.{ℕ, _/_, _%_, _<_, _≤_}
+use Prim.Native.Nat.{ℕ, _<_, _≤_}
 use native.Mathlib.Omega.{arith}
 use mathlib.Core.Bool.{Bool, true, false, _&&_, _||_}
 use mathlib.Core.List.{List, [], _∷_, map}
@@ -12,6 +12,7 @@ use Rattle.model.specs.Limits.{radix}
 use Rattle.model.specs.Lists.{Every, neighbours}
 use Rattle.model.specs.Matches.{Str}
 use Rattle.model.specs.Rules.{notAfter, between, distanceOf, within}
+use Rattle.model.proofs.LimitsLaws.{upper-half, lower-half}
 use Rattle.distance.specs.Sorting.{spansWithin}
 use Rattle.strings.specs.Strings.{strOf}
 use Rattle.strings.proofs.StringsLaws.{spanOf-strOf}
@@ -49,14 +50,8 @@ neighbours-map P f q r h [] a = refl
 neighbours-map P f q r h (x ∷ []) a = refl
 neighbours-map P f q r h (x ∷ y ∷ ys) a = ap₂ _&&_ (h x y (a .0) (a .1 .0)) (neighbours-map P f q r h (y ∷ ys) (a .1))
 
-start-spanOf : (s : Str) → s .end < radix → spanOf s / radix ≡ s .start
-start-spanOf s h = omega arith
-
-end-spanOf : (s : Str) → s .end < radix → spanOf s % radix ≡ s .end
-end-spanOf s h = omega arith
-
 distanceOf-spanOf : (s t : Str) → s .end < radix → t .end < radix → distanceOf (strOf (spanOf s) 0) (strOf (spanOf t) 0) ≡ distanceOf s t
-distanceOf-spanOf s t h k = rw (start-spanOf s h, end-spanOf s h, start-spanOf t k, end-spanOf t k)
+distanceOf-spanOf s t h k = rw (upper-half (s .start) (s .end) h, lower-half (s .start) (s .end) h, upper-half (t .start) (t .end) k, lower-half (t .start) (t .end) k)
 
 -- the test on strings, made on their spans
 pub neighbours-spanOf : (least most : ℕ) (ss : List Str) → AllStrs (λ s. s .end < radix) ss

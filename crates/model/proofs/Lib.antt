@@ -1,4 +1,5 @@
 -- The laws that the code and the demands rest on, a file for each module of specs/.
+pub mod LimitsLaws
 pub mod TestsLaws
 pub mod ListsLaws
 pub mod SetsLaws

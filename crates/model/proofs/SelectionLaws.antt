@@ -19,8 +19,8 @@ use Rattle.model.specs.Lists.{allOf, upFrom}
 use Rattle.model.specs.Selection.{kindOf, operandOf, codeOf, upTo}
 use Rattle.model.specs.Checks.{operandFits, filterOperandFits}
 use Rattle.model.specs.Parts.{mostOf}
-use Rattle.model.proofs.ListsLaws.{all-append}
-use Rattle.model.proofs.ListsLaws.{upFrom-snoc}
+use Rattle.model.proofs.LimitsLaws.{upper-half, lower-half}
+use Rattle.model.proofs.ListsLaws.{all-append, upFrom-snoc}
 use Rattle.model.proofs.TestsLaws.{and-join}
 
 -- ---- kindOf, operandOf, codeOf
@@ -71,10 +71,7 @@ code-code (Combine MildNot) h = refl
 code-code Not h = refl
 code-code (Filtered Ordered) h = refl
 code-code (Filtered (Window n)) h = refl
-code-code (Filtered (Distance a b)) h =
-    let least : (a * radix + b) / radix ≡ a = omega arith in
-    let most : (a * radix + b) % radix ≡ b = omega arith in
-    ap₂ (λ (x y : ℕ). Filtered (Distance x y)) least most
+code-code (Filtered (Distance a b)) h = ap₂ (λ (x y : ℕ). Filtered (Distance x y)) (upper-half a b h) (lower-half a b h)
 code-code (Filtered SameSentence) h = refl
 code-code (Filtered SameParagraph) h = refl
 code-code (Filtered DifferentSentence) h = refl

@@ -1,6 +1,6 @@
 -- What is written of strings is read back: a valid string is its span and its tag, and the two counts of a match's header say where its includes and
 -- its excludes lie.
-use Prim.Native.Nat.{ℕ, _+_, _-_, _*_, _/_, _%_, _≤_}
+use Prim.Native.Nat.{ℕ, _+_, _-_, _*_, _/_, _%_, _≤_, _<_}
 use native.Mathlib.Omega.{arith}
 use mathlib.Core.Path.{_≡_, refl, sym, ap, ap₂, _∙_, subst}
 use mathlib.Core.Bool.{Bool, true, false, cond}
@@ -12,6 +12,7 @@ use Rattle.model.specs.Answers.{spanOf, tagOf}
 use Rattle.model.specs.Limits.{radix, maxStrings}
 use Rattle.model.specs.Lists.{Every}
 use Rattle.model.specs.Matches.{Str, Match, stringsIn}
+use Rattle.model.proofs.LimitsLaws.{upper-half, lower-half}
 use Rattle.strings.specs.Strings.{strsOf, strOf, strsAt}
 use Rattle.store.specs.ValidStr.{ValidStr}
 use Rattle.store.specs.declared.matches.Bounds.{Bounds}
@@ -32,8 +33,9 @@ tag-contiguous q sort false h = let e : (q * 4 + 0 + sort) / 2 % 2 ≡ 0 = omega
 
 pub str-back : (sort : ℕ) (s : Str) → sort ≤ 1 → ValidStr s → strOf (spanOf s) (tagOf sort s) ≡ s
 str-back sort s h f =
-    let a : (s .start * radix + s .end) / radix ≡ s .start = omega (arith, f .end-up-to) in
-    let b : (s .start * radix + s .end) % radix ≡ s .end = omega (arith, f .end-up-to) in
+    let below : s .end < radix = omega (arith, f .end-up-to) in
+    let a = upper-half (s .start) (s .end) below in
+    let b = lower-half (s .start) (s .end) below in
     λ i. record { start = a i; end = b i; query = tag-query (s .query) sort (s .contiguous) h i; contiguous = tag-contiguous (s .query) sort (s .contiguous) h i }
 
 pub strs-back : (sort : ℕ) (ss : List Str) → sort ≤ 1 → AllStrs ValidStr ss → strsAt (strsOf sort ss) ≡ ss

@@ -22,14 +22,14 @@ fn header(includes: usize, excludes: usize) -> u32
 pub fn includes_in(header: u32) -> usize
     ensures { λ r. ⌜ r ≡ includesIn header ⌝ }
 {
-    (header / RADIX) as usize
+    strings::halves::upper(header) as usize
 }
 
 // How many excludes a match has, by its header.
 pub fn excludes_in(header: u32) -> usize
     ensures { λ r. ⌜ r ≡ excludesIn header ⌝ }
 {
-    (header % RADIX) as usize
+    strings::halves::lower(header) as usize
 }
 
 // How many strings a match has, by its header.

@@ -1,4 +1,5 @@
-// The two numbers of a string, taken apart and put together.
+// The two numbers of a string, taken apart and put together. A span is split here and nowhere else.
+use super::halves;
 use model::Position;
 use model::RADIX;
 ghost use mathlib.Core.Path.{_≡_};
@@ -11,14 +12,14 @@ ghost use Rattle.model.specs.Limits.{radix};
 pub fn start_of(span: u32) -> Position
     ensures { λ r. ⌜ r .0 ≡ span / radix ⌝ }
 {
-    Position(span / RADIX)
+    Position(halves::upper(span))
 }
 
 // The end of a span.
 pub fn end_of(span: u32) -> Position
     ensures { λ r. ⌜ r .0 ≡ span % radix ⌝ }
 {
-    Position(span % RADIX)
+    Position(halves::lower(span))
 }
 
 // The span of a start and an end.

@@ -3,6 +3,7 @@ pub mod Demand1
 pub mod Demand2
 pub mod Demand3
 pub mod TypedSearches
+pub mod SpansRead
 -- .. and the laws of their words.
 pub mod WordsLaws
 pub mod SpelledLaws

@@ -1,10 +1,10 @@
--- The three demands, sentence by sentence, and document 02's F-1, over the definitions that the calls' contracts name (calls/src/lib.rt and
+-- The three demands, sentence by sentence, and document 02's F-1 and F-2, over the definitions that the calls' contracts name (calls/src/lib.rt and
 -- engine/src/lib.rt): the listing answers `listingAnswer ..` and leaves `listingBuffer ..` in the buffer, the quick answer answers `quickAnswer ..`, the
 -- snippet is `snippetOf ..`; for the answer of its text a typed call answers `typedListing ..`, `typedQuick ..`, `readAnswer ..`. So what is proved of
 -- these holds of the calls. proofs/ has a proof of each.
 -- Quotation marks enclose the demands' own words, or document 01's where it is named. `A ↔ B` is 'A exactly when B', `(x : A) × B` 'there is an x with
 -- B', `⊎` 'or', `¬` 'not'.
-use Prim.Native.Nat.{ℕ, suc, _≤_, _<_}
+use Prim.Native.Nat.{ℕ, suc, _/_, _%_, _^_, _≤_, _<_}
 use mathlib.Core.Bool.{Bool, true, false, _&&_, cond}
 use mathlib.Core.List.{List, [], _∷_, _++_}
 use mathlib.Core.Logic.{_↔_, _⊎_}
@@ -22,11 +22,11 @@ use Rattle.model.specs.declared.Refusal.{Refusal}
 use Rattle.model.specs.Accepted.{ReportedOrNot}
 use Rattle.model.specs.AllMatches.{allMatches}
 use Rattle.model.specs.AllStrings.{AllList}
-use Rattle.model.specs.Answers.{completeList, listingAnswer, listingNumbers, listingBuffer, quickAnswer, snippetOf}
+use Rattle.model.specs.Answers.{completeList, listingAnswer, spanOf, listingNumbers, listingBuffer, quickAnswer, snippetOf}
 use Rattle.model.specs.Checks.{refusal, wrongSection, faultyPosition, wrongSelection, unknownKind, wrongOperand, wrongShape, notUnderMildNot}
 use Rattle.model.specs.Limits.{maxCodes, maxMatches, maxStrings, maxText, workLength, bufferLength, radix, selectionLength}
 use Rattle.model.specs.Lists.{Every}
-use Rattle.model.specs.Matches.{Match, strings}
+use Rattle.model.specs.Matches.{Str, Match, strings}
 use Rattle.model.specs.Productions.{FTSelection}
 use Rattle.model.specs.Section.{size, sentenceAt, paragraphAt, sectionOf}
 use Rattle.model.specs.Selection.{codeAt, upTo}
@@ -292,3 +292,16 @@ pub record TypedSearches : Type 0 where
       → TypedOf section text a work buffer selection
   -- model/specs/TypedExamples.antt
   pub examples : ExamplesHold
+
+-- ---- document 02's F-2, what is read of a span
+
+-- for a string: "what is read are the two numbers of document 01's span". The code splits a span at one place, strings/src/spans.rt, whose contracts say
+-- `span / radix` of the start and `span % radix` of the end; and a span is a number of 32 bits.
+pub record SpanReadOf (s : Str) : Type 0 where
+  pub in-32-bits : spanOf s < 2 ^ 32
+  pub start-read : spanOf s / radix ≡ s .start
+  pub end-read : spanOf s % radix ≡ s .end
+
+-- "for every start and end up to 4,096", and up to 65,535
+abbrev pub SpansRead : Type 0
+SpansRead = (s : Str) → s .start < radix → s .end < radix → SpanReadOf s

@@ -1,10 +1,11 @@
-// The three demands hold, and what document 02's F-1 says of typed searches: specs/Demands.antt states them, and the crate isn't proved unless proofs/
-// inhabits each. Nothing imports it.
-ghost use Rattle.theorems.specs.Demands.{Demand1, Demand2, Demand3, TypedSearches};
+// The three demands hold, and what document 02's F-1 says of typed searches and F-2 of spans: specs/Demands.antt states them, and the crate isn't proved
+// unless proofs/ inhabits each. Nothing imports it.
+ghost use Rattle.theorems.specs.Demands.{Demand1, Demand2, Demand3, SpansRead, TypedSearches};
 
 pub fn demands_hold()
     ensures { λ _. ⌜ Demand1 ⌝ }
     ensures { λ _. ⌜ Demand2 ⌝ }
     ensures { λ _. ⌜ Demand3 ⌝ }
     ensures { λ _. ⌜ TypedSearches ⌝ }
+    ensures { λ _. ⌜ SpansRead ⌝ }
 {}

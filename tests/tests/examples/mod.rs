@@ -5,6 +5,7 @@ mod paper;
 mod published;
 mod refusals;
 mod rules;
+mod spans;
 
 pub use crate::words::*;
 use second_engine::{compare, engine as second, text, unlimited, Case, Engine, Listing, Quick, BUFFER, WORK};
