@@ -78,10 +78,11 @@ fn print_cases() {
     }
 }
 
-/// Writes what `ftlist` reads for its longest listing: 512 strings with positions of four digits and query positions of two.
+/// Writes what `ftlist` reads for a listing of as many strings as a list may have, each of the longest text: positions of four digits,
+/// query positions of two.
 fn write_longest() {
-    let section = notation::section("0*4064 1*16 2*16");
-    let selection = notation::selection(&format!("9 {}1 2 and or", "9 or ".repeat(8)));
+    let section = notation::section("0*4062 1*17 2*17");
+    let selection = notation::selection(&format!("9 {}1-1 2-2 and or", "9 or ".repeat(8)));
     std::io::stdout().write_all(&text::bytes(&section, &selection)).expect("standard output");
 }
 

@@ -51,13 +51,13 @@ fn long_inputs() {
 /// As many strings as a list may have, and each as long as a string's text gets.
 #[test]
 fn the_longest_listing() {
-    let words = [vec![0; 4_064], vec![1; 16], vec![2; 16]].concat();
+    let words = [vec![0; 4_062], vec![1; 17], vec![2; 17]].concat();
     // nine phrases come first, so that query positions have two digits
     let absent = (1..9).fold(word(9), |selection, _| selection.or(word(9)));
-    let selection = absent.or(word(1).and(word(2))).numbers();
+    let selection = absent.or(phrase(&[1, 1]).and(phrase(&[2, 2]))).numbers();
     let found = agrees(&text::bytes(&plain(&words), &selection), "the longest listing");
-    assert!(found.starts_with("yes 256 512\n+4065-4065 q10 c +4081-4081 q11 c\n"));
-    assert!(found.ends_with("\n+4080-4080 q10 c +4096-4096 q11 c\n"));
+    assert!(found.starts_with("yes 256 512\n+4063-4064 q10 c +4080-4081 q11 c\n"));
+    assert!(found.ends_with("\n+4078-4079 q10 c +4095-4096 q11 c\n"));
     assert_eq!(found.len(), 12 + 512 * 17);
 }
 

@@ -1,5 +1,4 @@
--- Two numbers in one, first × 65,536 + second, are read as those two: the start and the end of a span, a place's paragraph and sentence, the least and the
--- most of a distance.
+-- Two numbers in one, first × 65,536 + second, are read as those two: the start and the end of a span, the least and the most of a distance.
 use Prim.Native.Nat.{ℕ, _+_, _*_, _/_, _%_, _<_}
 use native.Mathlib.Omega.{arith}
 use mathlib.Core.Path.{_≡_}

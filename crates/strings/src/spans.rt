@@ -1,4 +1,4 @@
-// The two numbers of a string, taken apart and put together. A span is split here and nowhere else.
+// The two numbers of a string, taken apart and put together. No other function of the engine splits a span.
 use super::halves;
 use model::Position;
 use model::RADIX;

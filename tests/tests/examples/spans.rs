@@ -1,4 +1,4 @@
-//! Document 02's F-2: what is read of a span are its start and its end, at every position up to 4,096.
+//! Document 02's F-2: what is read of a span are its start and its end, for every start and for every end up to 4,096.
 
 use super::*;
 
@@ -7,21 +7,23 @@ fn positions() -> impl Iterator<Item = usize> {
     (1..=4_096).step_by(if cfg!(debug_assertions) { 63 } else { 1 })
 }
 
-/// The longest section, with word 5 at one position and word 6 at a later one, and the two joined to one string.
+/// The longest section, with word 5 at one position and word 6 at a later one. A window joins the two to one string; a second
+/// one reads its span, and gives one match only if it is as wide as it was written.
 fn joined(five: usize, six: usize) -> (Vec<u32>, Selection) {
     let mut words = vec![0; 4_096];
     (words[five - 1], words[six - 1]) = (5, 6);
-    (plain(&words), word(5).and(word(6)).window((six - five + 1) as u32))
+    let length = (six - five + 1) as u32;
+    (plain(&words), word(5).and(word(6)).window(length).window(length))
 }
 
-/// The one line of a listing that a filter after the join leaves.
+/// The one line that a filter after the two windows leaves of the listing.
 fn kept((section, selection): (Vec<u32>, Selection), filter: impl Fn(Selection) -> Selection) -> String {
     let [head, line] = &lines(&section, &filter(selection))[..] else { panic!("one match") };
     assert_eq!(head, "yes 1 1");
     line.clone()
 }
 
-/// A string from any position to the last covers the last: so its end is read as it was written.
+/// A string from each position to the last, which covers the last.
 #[test]
 fn every_start() {
     for start in positions().filter(|&start| start < 4_096) {
@@ -30,7 +32,7 @@ fn every_start() {
     }
 }
 
-/// A string from the first position to any covers the first.
+/// A string from the first position to each, which covers the first.
 #[test]
 fn every_end() {
     for end in positions().filter(|&end| end > 1) {
