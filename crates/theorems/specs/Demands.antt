@@ -2,8 +2,8 @@
 -- engine/src/lib.rt): the listing answers `listingAnswer ..` and leaves `listingBuffer ..` in the buffer, the quick answer answers `quickAnswer ..`, the
 -- snippet is `snippetOf ..`; for the answer of its text a typed call answers `typedListing ..`, `typedQuick ..`, `readAnswer ..`. So what is proved of
 -- these holds of the calls. (F-2 speaks of no call, but of what is read inside them.) proofs/ has a proof of each.
--- Quotation marks enclose the demands' own words, or document 01's or 02's where it is named. `A ↔ B` is 'A exactly when B', `(x : A) × B` 'there is an x with
--- B', `⊎` 'or', `¬` 'not'.
+-- Quotation marks enclose the demands' own words, or document 01's or 02's where it is named. `A ↔ B` is 'A exactly when B', `(x : A) × B` 'there is an x
+-- with B', `⊎` 'or', `¬` 'not'.
 use Prim.Native.Nat.{ℕ, suc, _/_, _%_, _^_, _≤_, _<_}
 use mathlib.Core.Bool.{Bool, true, false, _&&_, cond}
 use mathlib.Core.List.{List, [], _∷_, _++_}
@@ -295,8 +295,8 @@ pub record TypedSearches : Type 0 where
 
 -- ---- document 02's F-2, what is read of a span
 
--- for a string: "what is read are the two numbers of document 01's span". `/` and `%` say what is read, by the contracts of `strings::start_of` and `end_of`
--- (strings/src/spans.rt); the code reads it by a shift and a mask (halves.rt).
+-- for a string: "what is read are the two numbers of document 01's span". `/` and `%` say what is read, by the contracts of `strings::start_of` and
+-- `end_of` (strings/src/spans.rt); the code reads it by a shift and a mask (halves.rt).
 pub record SpanReadOf (s : Str) : Type 0 where
   -- the span fits into the number that it is read from
   pub in-32-bits : spanOf s < 2 ^ 32
