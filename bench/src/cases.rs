@@ -75,6 +75,17 @@ pub fn all() -> Vec<Case> {
             "1 2 and ordered different-sentence different-paragraph distance:0-40 end window:32",
         ),
         ("nested filters, 4,096 tokens", &long, "2 1 and ordered distance:0-100 window:60 same-paragraph"),
+        // all choices of three finds; the most matches and strings that choices of one phrase may have; the most finds, and too many choices of them
+        ("occurs at least 0 of 3", &notation::section("1*3"), "1 least:0"),
+        ("occurs exactly 3 of 3", &notation::section("1*3"), "1 occurs:3-3"),
+        ("occurs exactly 2 of 3", &notation::section("1*3"), "1 occurs:2-2"),
+        ("occurs at least 0 of 7", &notation::section("1*7"), "1 least:0"),
+        ("occurs exactly 6 of 7", &notation::section("1*7"), "1 occurs:6-6"),
+        ("occurs at least 21 of 22", &notation::section("1*22"), "1 least:21"),
+        ("occurs from 21 to 22 of 22", &notation::section("1*22"), "1 occurs:21-22"),
+        ("occurs at least 256 of 256", &notation::section("1*256"), "1 least:256"),
+        ("occurs at least 3 of 256, too long", &notation::section("1*256"), "1 least:3"),
+        ("occurs from 1 to 3 of 256, too long", &notation::section("1*256"), "1 occurs:1-3"),
     ] {
         cases.push(case(name, section, selection));
     }

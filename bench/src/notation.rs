@@ -1,8 +1,8 @@
 //! Sections and selections written as text.
 //!
 //! A section: runs of words, then how many tokens a sentence and a paragraph have: `1*256 2 3*10 s20 p100`. Without them
-//! they aren't reported. A selection: postfix, a phrase by its words, a window and a distance by their numbers:
-//! `1 2-3 and not 4 or window:5 distance:0-3`.
+//! they aren't reported. A selection: postfix, a phrase by its words, a window, a distance and the two occurs by their numbers:
+//! `1 2-3 and not 4 or window:5 distance:0-3`, `1 least:2`, `1 occurs:1-2`.
 
 use second_engine::section::Section;
 use second_engine::selection::{self, Code};
@@ -63,6 +63,12 @@ pub fn section_text(words: &[u32], sentence: u32, paragraph: u32) -> String {
     text
 }
 
+/// `a-b` as the operand a × 65,536 + b.
+fn two_numbers(text: &str) -> u32 {
+    let (least, most) = text.split_once('-').expect("two numbers");
+    number(least) * 65_536 + number(most)
+}
+
 pub fn codes(text: &str) -> Vec<Code> {
     let mut codes = vec![];
     for token in text.split_whitespace() {
@@ -71,8 +77,11 @@ pub fn codes(text: &str) -> Vec<Code> {
         } else if let Some(size) = token.strip_prefix("window:") {
             codes.push(Code { kind: 7, operand: number(size) });
         } else if let Some(bounds) = token.strip_prefix("distance:") {
-            let (least, most) = bounds.split_once('-').expect("two numbers");
-            codes.push(Code { kind: 8, operand: number(least) * 65_536 + number(most) });
+            codes.push(Code { kind: 8, operand: two_numbers(bounds) });
+        } else if let Some(bounds) = token.strip_prefix("occurs:") {
+            codes.push(Code { kind: 16, operand: two_numbers(bounds) });
+        } else if let Some(least) = token.strip_prefix("least:") {
+            codes.push(Code { kind: 17, operand: number(least) });
         } else {
             let words: Vec<u32> = token.split('-').map(number).collect();
             codes.extend(words.iter().map(|&operand| Code { kind: 0, operand }));
@@ -94,6 +103,8 @@ pub fn selection_text(codes: &[Code]) -> String {
             1 => tokens.push(std::mem::take(&mut words).join("-")),
             7 => tokens.push(format!("window:{}", code.operand)),
             8 => tokens.push(format!("distance:{}-{}", code.operand / 65_536, code.operand % 65_536)),
+            16 => tokens.push(format!("occurs:{}-{}", code.operand / 65_536, code.operand % 65_536)),
+            17 => tokens.push(format!("least:{}", code.operand)),
             kind => tokens.push(PLAIN.iter().find(|(_, k)| *k == kind).expect("a kind").0.to_string()),
         }
     }

@@ -55,6 +55,9 @@ fn beginnings() -> Vec<Input> {
     add("1*16 2*16 s16 p16", format!("1 2 and {}", "different-sentence ".repeat(59)));
     add("1*16 2*16 s16 p16", format!("1 {}", "2 and ".repeat(20)));
     add("1 2 3 4 5 6 7 8", format!("1 2 and 3 and 4 and 5 and 6 and 7 and 8 and {}", "ordered ".repeat(40)));
+    add("1*22", format!("1 least:21 {}", "1 least:21 mild ".repeat(15)));
+    add("1*7", format!("1 occurs:6-6 {}", "ordered ".repeat(59)));
+    add("1*7", format!("1 least:0 {}", "ordered ".repeat(60)));
     beginnings
 }
 

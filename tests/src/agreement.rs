@@ -46,12 +46,21 @@ pub fn compare(engine: &dyn Engine, case: &Case) -> Result<(), String> {
 /// Compares an engine with the second engine on the first cases of a seed. The error names the first case that fails, and
 /// holds a test of it, made as small as it gets.
 pub fn hunt(engine: &dyn Engine, seed: u64, count: usize) -> Result<(), String> {
-    for (index, case) in gen::cases(seed, count).enumerate() {
+    hunt_in(engine, gen::cases(seed, count), &format!("seed {seed}, case"))
+}
+
+/// Does the same on the first cases of a seed that have an occurs.
+pub fn hunt_occurs(engine: &dyn Engine, seed: u64, count: usize) -> Result<(), String> {
+    hunt_in(engine, gen::occurs_cases(seed, count), &format!("seed {seed}, occurs case"))
+}
+
+fn hunt_in(engine: &dyn Engine, cases: impl Iterator<Item = Case>, name: &str) -> Result<(), String> {
+    for (index, case) in cases.enumerate() {
         if let Err(first) = compare(engine, &case) {
             let small = shrink::shrink(&case, &|case| compare(engine, case).is_err());
             let last = compare(engine, &small).expect_err("a shrunk case still fails");
-            let test = shrink::as_rust(&small, &format!("seed_{seed}_case_{index}"));
-            return Err(format!("seed {seed}, case {index}: {first}\nmade smaller: {last}\n\n{test}"));
+            let test = shrink::as_rust(&small, &format!("{name} {index}").replace(", ", "_").replace(' ', "_"));
+            return Err(format!("{name} {index}: {first}\nmade smaller: {last}\n\n{test}"));
         }
     }
     Ok(())
@@ -138,7 +147,7 @@ fn compare_with_unlimited(case: &Case, listing: Listing, quick: Quick) -> Result
                 return Err(format!("{quick:?}, but the selection has {} codes", last.count));
             }
         }
-        // "Limits on size hold only for lists built at or under kinds 5 to 15."
+        // "Limits on size hold only for lists built at or under kinds 5 to 15", and so at or under an occurs.
         Quick::Refused { number: 9, place } => {
             let refused = lists.iter().find(|code| code.place == place as usize);
             if !refused.is_some_and(|code| code.measured && over(&code)) {
@@ -296,7 +305,8 @@ impl LentText {
     fn of(text: &[u8]) -> LentText {
         let (before, behind): (&[u8], &[u8]) = match text.last() {
             Some(b'a'..=b'z') => (b"(ftnot", b"x ftand"),
-            Some(b'"') => (b"\"1\"ftor", b"ftor\"1\""),
+            Some(b'"') if text.len().is_multiple_of(2) => (b"\"1\"ftor", b"ftor\"1\""),
+            Some(b'"') => (b"\"1\"ftor", b"occurs at most 1 times"),
             Some(b'0'..=b'9') => (b"\"1", b"0\" words"),
             _ => (b"(", b"\"1\")"),
         };
@@ -380,10 +390,13 @@ impl Lent {
         static NOISE: OnceLock<Vec<u32>> = OnceLock::new();
         let noise = NOISE.get_or_init(|| {
             let mut rng = Rng::new(0, 0);
-            (0..2 * WORK).map(|_| rng.number()).collect()
+            (0..4 * WORK).map(|_| rng.number()).collect()
         });
-        let row: Vec<u32> = noise[start % WORK..].iter().cycle().take(length).copied().collect();
-        Lent::copy(&row)
+        let row = &noise[start % WORK..];
+        match row.get(..length) {
+            Some(row) => Lent::copy(row),
+            None => Lent::copy(&row.iter().cycle().take(length).copied().collect::<Vec<u32>>()),
+        }
     }
 
     fn slice(&mut self) -> &mut [u32] {

@@ -3,7 +3,7 @@
 use crate::agreement::Engine;
 use crate::rules::{self, AllMatches, Match};
 use crate::section::{self, Section};
-use crate::selection::{self, Filter, Rule, Tree, Unit};
+use crate::selection::{self, Filter, Occurs, Rule, Tree, Unit};
 use crate::sizes::{self, Limits, Size};
 use crate::typed;
 use crate::{Refusal, BUFFER, WORK};
@@ -15,7 +15,7 @@ pub enum Listing {
     Refused { number: u32, place: u32 },
 }
 
-/// The quick answer: yes or no and "how many codes of kind 1 to 15 it walked or built", or a refusal with its place.
+/// The quick answer: yes or no and how many codes of kind 1 to 17 it walked or built, or a refusal with its place.
 #[derive(Clone, Copy, Debug, PartialEq, Eq)]
 pub enum Quick {
     Answered { yes: bool, codes: u32 },
@@ -39,14 +39,18 @@ pub struct RuleBook {
     pub at_start: fn(&Section, &[Match]) -> AllMatches,
     pub at_end: fn(&Section, &[Match]) -> AllMatches,
     pub entire_content: fn(&Section, &[Match]) -> AllMatches,
-    /// How a not is counted before it is made.
+    pub from_to: fn(&[Match], u32, u32) -> AllMatches,
+    pub at_least: fn(&[Match], u32) -> AllMatches,
+    /// How a not is counted before it is made, and an occurs over so many matches.
     pub size_of_not: fn(&[Match]) -> Size,
+    pub size_of_from_to: fn(usize, u32, u32) -> Size,
+    pub size_of_at_least: fn(usize, u32) -> Size,
     /// Over which a list is refused.
     pub limits: Limits,
 }
 
 impl RuleBook {
-    /// The rules of document 01.
+    /// The rules of document 01 and of request F-3.
     pub fn paper() -> RuleBook {
         RuleBook {
             phrase: rules::phrase,
@@ -62,7 +66,11 @@ impl RuleBook {
             at_start: rules::at_start,
             at_end: rules::at_end,
             entire_content: rules::entire_content,
+            from_to: rules::from_to,
+            at_least: rules::at_least,
             size_of_not: sizes::not,
+            size_of_from_to: sizes::from_to,
+            size_of_at_least: sizes::at_least,
             limits: sizes::PAPER,
         }
     }
@@ -85,6 +93,8 @@ impl RuleBook {
                 Filter::AtEnd => (self.at_end)(section, list),
                 Filter::EntireContent => (self.entire_content)(section, list),
             },
+            (Rule::Occurs(Occurs::FromTo(a, b)), [list]) => (self.from_to)(list, *a, *b),
+            (Rule::Occurs(Occurs::AtLeast(a)), [list]) => (self.at_least)(list, *a),
             _ => panic!("{rule:?} over {} lists", below.len()),
         }
     }
@@ -98,6 +108,8 @@ impl RuleBook {
             (Rule::And, [left, right]) => Some(sizes::and(left, right)),
             (Rule::Not, [list]) => Some((self.size_of_not)(list)),
             (Rule::Filter(Filter::Window(size)), [list]) => Some(sizes::window(list, *size)),
+            (Rule::Occurs(Occurs::FromTo(a, b)), [list]) => Some((self.size_of_from_to)(list.len(), *a, *b)),
+            (Rule::Occurs(Occurs::AtLeast(a)), [list]) => Some((self.size_of_at_least)(list.len(), *a)),
             _ => None,
         }
     }
@@ -169,14 +181,14 @@ impl RuleBook {
             },
             // "At kinds 5 to 15 it builds that code's whole part by the rules above, left to right, and looks for a match
             // without excludes." "A built part, which is its code and every code below it, counts all its codes but those
-            // of kind 0."
+            // of kind 0." Of occurs: "The quick walk builds and counts them as it does filters."
             _ => Ok((rules::is_yes(&self.build(section, tree)?), tree.count())),
         }
     }
 }
 
-/// Refusals 1 to 8: "tried in this order, each over the whole input before the next." No buffer length is given where no
-/// buffer is lent.
+/// Refusals 1 to 8 and 12: "tried in this order, each over the whole input before the next", 12 after 6. No buffer length is
+/// given where no buffer is lent.
 pub fn check(
     section: &[u32],
     selection: &[u32],
@@ -314,10 +326,10 @@ pub fn snippet(section: &[u32], from: u32, to: u32) -> &[u32] {
 pub struct CodeList {
     /// The place of the code, counting all codes from 1.
     pub place: usize,
-    /// How many codes of kind 1 to 15 stand in the code's part.
+    /// How many codes of kind 1 to 17 stand in the code's part.
     pub count: usize,
     /// Do "limits on size hold" for it in the quick answer, wherever it is built at all: is it "built at or under kinds 5
-    /// to 15"?
+    /// to 15", or at or under an occurs?
     pub measured: bool,
     /// Its size, where the lists right below it could be made: counted, and so known also where the list can't be made.
     pub size: Option<Size>,
@@ -326,8 +338,8 @@ pub struct CodeList {
 }
 
 /// "The unlimited lists are those of the rules above for every code but kind 0, unread ones too, with no limit on matches
-/// or strings; the complete AllMatches of a selection is that of its last code." In postfix order. `None` if section or
-/// selection don't pass the checks.
+/// or strings; the complete AllMatches of a selection is that of its last code." By request F-3 this "gains both kinds" of
+/// occurs. In postfix order. `None` if section or selection don't pass the checks.
 pub fn unlimited_lists(section: &[u32], selection: &[u32]) -> Option<Vec<CodeList>> {
     unlimited_lists_within(sizes::GUARD, section, selection)
 }

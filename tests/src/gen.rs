@@ -4,11 +4,13 @@
 //! vocabularies smaller, so that finds are many. Selections grow code by code while their lists are looked at: a step that
 //! empties a list, or takes it over the limits, is mostly tried again, so that most cases end with something in their list.
 //! The lists serve only this choice; what is right is said by the comparison.
+//!
+//! About a quarter of the cases have an occurs. [`occurs_cases`] all have one, in every place where it may stand.
 
 use crate::engine::RuleBook;
 use crate::rules::{self, AllMatches, Match};
 use crate::section::{Section, MOST_TOKENS};
-use crate::selection::{self, Code, Filter, Rule, Unit, MOST_CODES, MOST_WAITING, MOST_WORDS};
+use crate::selection::{self, Code, Filter, Occurs, Rule, Unit, MOST_CODES, MOST_WAITING, MOST_WORDS};
 use crate::sizes::{self, Size};
 use crate::{text, BUFFER, WORK};
 
@@ -47,6 +49,30 @@ pub fn case(seed: u64, index: usize) -> Case {
             made
         }
     };
+    lend(&mut rng, &mut made);
+    made
+}
+
+/// The first cases of a seed that have an occurs.
+pub fn occurs_cases(seed: u64, count: usize) -> impl Iterator<Item = Case> {
+    (0..count).map(move |index| occurs_case(seed, index))
+}
+
+/// One case of a seed that has an occurs: over a phrase of few or of many finds, with little above it; in a longer selection;
+/// or damaged.
+pub fn occurs_case(seed: u64, index: usize) -> Case {
+    let mut rng = Rng::new(seed.rotate_left(16), index as u64);
+    let mut made = placed_occurs(&mut rng);
+    match rng.below(20) {
+        0 | 1 => damage_occurs(&mut rng, &mut made),
+        // which of two refusals comes first?
+        2 => {
+            damage_occurs(&mut rng, &mut made);
+            damage_occurs(&mut rng, &mut made);
+        }
+        3 => damage(&mut rng, &mut made),
+        _ => {}
+    }
     lend(&mut rng, &mut made);
     made
 }
@@ -195,10 +221,11 @@ fn section_with_counts(rng: &mut Rng, counts: &[usize]) -> Section {
 
 // Selections
 
-/// A list that waits, as far as it is known.
+/// A list that waits, as far as it is known; of a phrase also how many matches it has, however many.
 struct Waiting {
     has_not: bool,
     list: Option<AllMatches>,
+    finds: Option<usize>,
 }
 
 /// A selection in the making, over a section.
@@ -233,7 +260,11 @@ impl<'a> Builder<'a> {
         let sides = &self.waiting[self.waiting.len() - rule.sides()..];
         let below: Option<Vec<&[Match]>> = sides.iter().map(|side| side.list.as_deref()).collect();
         let list = below.and_then(|below| self.book.list_within(sizes::PAPER, self.section, rule, &below).ok());
-        Waiting { has_not: *rule == Rule::Not || sides.iter().any(|side| side.has_not), list }
+        let finds = match rule {
+            Rule::Phrase { words, .. } => Some(sizes::phrase(self.section, words).matches as usize),
+            _ => None,
+        };
+        Waiting { has_not: rule.is_a_not() || sides.iter().any(|side| side.has_not), list, finds }
     }
 
     fn add(&mut self, rule: &Rule, outcome: Waiting) {
@@ -261,10 +292,15 @@ impl<'a> Builder<'a> {
         self.phrase(&[word]);
     }
 
-    /// A mild not may not stand over a not.
+    /// A mild not may not stand over a not, and an occurs stands directly over a phrase.
     fn allowed(&self, rule: &Rule) -> bool {
-        let sides = &self.waiting[self.waiting.len().saturating_sub(2)..];
-        self.fits(rule) && !(*rule == Rule::MildNot && sides.iter().any(|side| side.has_not))
+        let sides = &self.waiting[self.waiting.len().saturating_sub(rule.sides())..];
+        let over_its_sides = match rule {
+            Rule::MildNot => !sides.iter().any(|side| side.has_not),
+            Rule::Occurs(_) => sides.iter().all(|side| side.finds.is_some()),
+            _ => true,
+        };
+        self.fits(rule) && over_its_sides
     }
 
     /// Tries random rules until one is good enough.
@@ -292,16 +328,54 @@ impl<'a> Builder<'a> {
     }
 
     fn random_rule(&self, rng: &mut Rng, taste: &Taste) -> Rule {
-        let roll = rng.below(taste.phrases + taste.combinations + taste.nots + taste.filters);
+        let roll = rng.below(taste.phrases + taste.combinations + taste.nots + taste.filters + taste.occurs);
         if self.waiting.is_empty() || roll < taste.phrases {
             Rule::Phrase { words: self.random_words(rng), query: self.phrases + 1 }
         } else if roll < taste.phrases + taste.combinations {
             rng.pick(&[&Rule::Or, &Rule::And, &Rule::And, &Rule::MildNot]).clone()
         } else if roll < taste.phrases + taste.combinations + taste.nots {
             Rule::Not
-        } else {
+        } else if roll < taste.phrases + taste.combinations + taste.nots + taste.filters {
             Rule::Filter(self.random_filter(rng))
+        } else {
+            Rule::Occurs(self.random_occurs(rng))
         }
+    }
+
+    /// How many finds the list has that waits last, if it is a phrase's.
+    fn finds(&self) -> usize {
+        self.waiting.last().and_then(|top| top.finds).unwrap_or(0)
+    }
+
+    /// Numbers about that of the finds, zeros, and the table's last ones.
+    fn random_occurs(&self, rng: &mut Rng) -> Occurs {
+        let finds = self.finds();
+        let number = |rng: &mut Rng| match rng.below(8) {
+            0 | 1 => 0,
+            2 => rng.below(finds + 2),
+            3 => rng.pick(&[1, 2, 3, 4_094, 4_095]),
+            _ => (finds + 1).saturating_sub(rng.below(4)),
+        };
+        let (one, other) = (number(rng).min(4_095) as u32, number(rng).min(4_095) as u32);
+        if rng.chance(1, 2) {
+            return Occurs::AtLeast(one);
+        }
+        Occurs::FromTo(one.min(other), one.max(other))
+    }
+
+    /// The lowest number for which the list of the occurs stays within the limits, or the one below it.
+    fn tight_occurs(&self, rng: &mut Rng) -> Occurs {
+        let finds = self.finds();
+        let tight = |rng: &mut Rng, most: u32, size: &dyn Fn(u32) -> Size| {
+            let below = |&a: &u32| a.checked_sub(1).filter(|&lower| size(lower).within(sizes::PAPER));
+            let least = std::iter::successors(Some(most), below).last().unwrap_or(most);
+            least - rng.below(2).min(least as usize) as u32
+        };
+        if rng.chance(1, 2) {
+            return Occurs::AtLeast(tight(rng, finds as u32, &|a| sizes::at_least(finds, a)));
+        }
+        let b = (finds + 1).saturating_sub(rng.below(3)) as u32;
+        Occurs::FromTo(tight(rng, b, &|a| sizes::from_to(finds, a, b)), b)
     }
 
     /// Mostly one word or a row of the section.
@@ -385,7 +459,7 @@ impl<'a> Builder<'a> {
             }
         }
         while self.waiting.len() != 1 {
-            let combine = Taste { phrases: 0, combinations: 1, nots: 0, filters: 0 };
+            let combine = Taste { phrases: 0, combinations: 1, nots: 0, filters: 0, occurs: 0 };
             let waiting = self.waiting.len();
             self.step(rng, &combine);
             if self.waiting.len() == waiting {
@@ -405,18 +479,20 @@ struct Taste {
     combinations: usize,
     nots: usize,
     filters: usize,
+    occurs: usize,
 }
 
 impl Taste {
     fn any(rng: &mut Rng) -> Taste {
+        let occurs = if rng.chance(1, 2) { 4 } else { 0 };
         match rng.below(5) {
             // many waiting lists
-            0 => Taste { phrases: 6, combinations: 3, nots: 1, filters: 2 },
+            0 => Taste { phrases: 6, combinations: 3, nots: 1, filters: 2, occurs },
             // nots and filters in turn
-            1 => Taste { phrases: 2, combinations: 3, nots: 3, filters: 5 },
+            1 => Taste { phrases: 2, combinations: 3, nots: 3, filters: 5, occurs },
             // no nots, so that mild nots can stand anywhere
-            2 => Taste { phrases: 4, combinations: 5, nots: 0, filters: 4 },
-            _ => Taste { phrases: 3, combinations: 3, nots: 2, filters: 3 },
+            2 => Taste { phrases: 4, combinations: 5, nots: 0, filters: 4, occurs },
+            _ => Taste { phrases: 3, combinations: 3, nots: 2, filters: 3, occurs },
         }
     }
 }
@@ -477,11 +553,15 @@ fn factors(rng: &mut Rng, how_many: usize, target: usize) -> Vec<usize> {
 
 /// Lists with about 256 matches or 512 strings, made by each rule that can make them; with something above them or not.
 fn near_limits(rng: &mut Rng) -> Case {
-    let template = rng.below(9);
+    let template = rng.below(10);
     let (counts, script) = template_of(rng, template);
     let section = section_with_counts(rng, &counts);
     let mut builder = Builder::new(&section);
     script(&mut builder, counts.len());
+    if template == 9 {
+        let occurs = builder.tight_occurs(rng);
+        builder.force(Rule::Occurs(occurs));
+    }
     if rng.chance(1, 4) || template == 8 {
         tight_window(rng, &mut builder);
     }
@@ -597,6 +677,8 @@ fn template_of(rng: &mut Rng, template: usize) -> (Vec<usize>, Script) {
                 builder.force(Rule::And);
             })
         }
+        // a phrase under an occurs, whose number is then found
+        9 => (vec![any_finds(rng), rng.below(3)], |builder, _| builder.word(1)),
         // something under a window, whose size is then found
         _ => (vec![rng.from_to(1, 4), rng.from_to(0, 3), rng.from_to(0, 3)], |builder, _| {
             builder.word(1);
@@ -629,11 +711,121 @@ fn tight_window(rng: &mut Rng, builder: &mut Builder) {
     builder.force(Rule::Filter(Filter::Window(window)));
 }
 
+// Occurs
+
+/// Finds on both sides of every edge: of at least 0 the lists of 7 are within the limits, of 8 not; of all or all but one those
+/// of 22, not of 23; and a phrase's own list is up to 256.
+fn any_finds(rng: &mut Rng) -> usize {
+    match rng.below(20) {
+        0..=10 => rng.pick(&[0, 1, 2, 3]),
+        11..=15 => rng.from_to(4, 8),
+        16..=18 => rng.pick(&[21, 22, 23, 9]),
+        _ => rng.pick(&[255, 256, 257]),
+    }
+}
+
+/// An occurs over a phrase of so many finds: alone, or with one or two codes above it, or in a longer selection; on the right
+/// of what stands before it, or on the left of what follows.
+fn placed_occurs(rng: &mut Rng) -> Case {
+    let counts = [any_finds(rng), rng.below(4), rng.below(3)];
+    let section = section_with_counts(rng, &counts);
+    let mut builder = Builder::new(&section);
+    let on_the_right = rng.chance(1, 3);
+    if on_the_right {
+        builder.operand(rng);
+    }
+    builder.some_occurs(rng);
+    for _ in 0..rng.pick(&[0, 1, 1, 1, 2]) {
+        builder.put_above(rng);
+    }
+    if on_the_right {
+        builder.combine(rng);
+        if rng.chance(1, 3) {
+            builder.put_above(rng);
+        }
+    }
+    if rng.chance(1, 5) {
+        let taste = Taste { occurs: 4, ..Taste::any(rng) };
+        let codes = builder.codes.len() + rng.from_to(1, 12);
+        builder.grow(rng, &taste, codes);
+    }
+    case_of(&section, builder.selection())
+}
+
+impl Builder<'_> {
+    /// A phrase of word 1, mostly of it alone, and an occurs over it.
+    fn some_occurs(&mut self, rng: &mut Rng) {
+        match rng.below(8) {
+            0 => self.phrase(&[1, 1]),
+            1 => {
+                let words = self.random_words(rng);
+                self.phrase(&words);
+            }
+            _ => self.word(1),
+        }
+        let mut rule = Rule::Occurs(self.tight_occurs(rng));
+        for _ in 0..rng.below(4) {
+            // mostly until its list is within the limits
+            rule = Rule::Occurs(self.random_occurs(rng));
+            if self.outcome(&rule).list.is_some() {
+                break;
+            }
+        }
+        self.force(rule);
+    }
+
+    /// Another operand: a word, a phrase, the not of a word, or one more occurs.
+    fn operand(&mut self, rng: &mut Rng) {
+        match rng.below(8) {
+            0..=3 => self.word(2),
+            4 => self.word(1),
+            5 => {
+                let words = self.random_words(rng);
+                self.phrase(&words);
+            }
+            6 => {
+                self.word(2);
+                self.force(Rule::Not);
+            }
+            _ => {
+                self.word(2);
+                let occurs = self.random_occurs(rng);
+                self.force(Rule::Occurs(occurs));
+            }
+        }
+    }
+
+    /// A not, a filter, or an or, an and or a mild not with another operand.
+    fn put_above(&mut self, rng: &mut Rng) {
+        match rng.below(10) {
+            0 => self.force(Rule::Not),
+            1..=5 => {
+                let filter = self.random_filter(rng);
+                self.force(Rule::Filter(filter));
+            }
+            _ => {
+                self.operand(rng);
+                self.combine(rng);
+            }
+        }
+    }
+
+    /// An or, an and or a mild not of the last two lists; a mild not over a not is rare.
+    fn combine(&mut self, rng: &mut Rng) {
+        let rule = rng.pick(&[&Rule::Or, &Rule::And, &Rule::MildNot]).clone();
+        if self.allowed(&rule) || rng.chance(1, 8) {
+            self.force(rule);
+        } else {
+            self.force(if rng.chance(1, 2) { Rule::Or } else { Rule::And });
+        }
+    }
+}
+
 // Damage
 
 /// Breaks one thing. (Now and then nothing is broken by it: the comparison doesn't mind.)
 fn damage(rng: &mut Rng, case: &mut Case) {
-    match rng.below(12) {
+    match rng.below(13) {
         0 => damage_section_size(rng, &mut case.section),
         1 | 2 => damage_units(rng, &mut case.section),
         3 => damage_selection_size(rng, &mut case.selection),
@@ -641,6 +833,7 @@ fn damage(rng: &mut Rng, case: &mut Case) {
         6 | 7 => damage_code(rng, &mut case.selection, wrong_operand),
         8 | 9 => damage_shape(rng, &mut case.selection),
         10 => damage_mild_not(rng, case),
+        11 => damage_occurs(rng, case),
         _ => {
             case.work_len = rng.pick(&[WORK - 1, 0, 1, WORK / 2]);
             if rng.chance(1, 2) {
@@ -730,7 +923,7 @@ fn damage_code(rng: &mut Rng, selection: &mut Vec<u32>, wrong: fn(&mut Rng, &mut
         let mut at = rng.below(codes.len());
         for _ in 0..3 {
             // the kinds that have numbers of their own are the more interesting ones
-            if ![1, 7, 8].contains(&codes[at].kind) {
+            if ![1, 7, 8, 16, 17].contains(&codes[at].kind) {
                 at = rng.below(codes.len());
             }
         }
@@ -743,9 +936,9 @@ fn damage_code(rng: &mut Rng, selection: &mut Vec<u32>, wrong: fn(&mut Rng, &mut
 fn wrong_kind(rng: &mut Rng, code: &mut Code) {
     let kind = code.kind;
     code.kind =
-        rng.pick(&[16, 17, 22, 255, 256, kind | 256, kind | 1 << 16, kind | 1 << 31, u32::MAX, kind.wrapping_add(16)]);
+        rng.pick(&[18, 19, 22, 255, 256, kind | 256, kind | 1 << 16, kind | 1 << 31, u32::MAX, kind.wrapping_add(18)]);
     if rng.chance(1, 4) {
-        code.kind = rng.below(17) as u32;
+        code.kind = rng.below(19) as u32;
     }
 }
 
@@ -755,7 +948,8 @@ fn wrong_operand(rng: &mut Rng, code: &mut Code) {
     code.operand = match code.kind {
         1 => rng.pick(&[0, 8, 9, operand.wrapping_add(1), u32::MAX, operand | 1 << 16]),
         7 => rng.pick(&[0, 1, 4_096, 4_097, 65_536, u32::MAX, operand | 1 << 31]),
-        8 => {
+        17 => rng.pick(&[0, 4_095, 4_096, 4_097, 65_535, 65_536, u32::MAX, operand | 1 << 31]),
+        8 | 16 => {
             let (a, b) = (operand >> 16, operand & 0xFFFF);
             let (a, b) = rng.pick(&[
                 (b + 1, b),
@@ -786,7 +980,7 @@ fn damage_shape(rng: &mut Rng, selection: &mut Vec<u32>) {
             let other = rng.below(codes.len());
             codes.swap(at, other);
         }
-        3 => codes.insert(at, Code { kind: rng.pick(&[2, 3, 4, 5, 6, 9, 13]), operand: 0 }),
+        3 => codes.insert(at, Code { kind: rng.pick(&[2, 3, 4, 5, 6, 9, 13, 16, 17]), operand: 0 }),
         // loose words at the end
         4 => codes.push(Code { kind: 0, operand: 1 }),
         // several lists at the end
@@ -805,30 +999,74 @@ fn damage_shape(rng: &mut Rng, selection: &mut Vec<u32>) {
             }
             codes.extend(vec![Code { kind: 2, operand: 0 }; lists - rng.from_to(0, 2)]);
         }
-        _ => codes[at] = Code { kind: rng.below(16) as u32, operand: 0 },
+        _ => codes[at] = Code { kind: rng.below(18) as u32, operand: 0 },
     }
     codes.truncate(MOST_CODES);
     *selection = selection::numbers(&codes);
 }
 
-/// Refusal 7: nots and mild nots anywhere.
+/// Refusal 7: nots, occurs and mild nots anywhere.
 fn damage_mild_not(rng: &mut Rng, case: &mut Case) {
     let Ok(section) = crate::section::read(&case.section) else { return };
     let mut builder = Builder::new(&section);
     for _ in 0..rng.from_to(2, 24) {
-        let rule = match rng.below(8) {
+        let rule = match rng.below(9) {
             0..=2 => Rule::Phrase { words: builder.random_words(rng), query: builder.phrases + 1 },
             3 => Rule::Not,
             4 | 5 => Rule::MildNot,
             6 => rng.pick(&[&Rule::Or, &Rule::And]).clone(),
+            7 => Rule::Occurs(builder.random_occurs(rng)),
             _ => Rule::Filter(builder.random_filter(rng)),
         };
-        builder.force(rule);
+        if rule == Rule::MildNot || builder.allowed(&rule) {
+            builder.force(rule);
+        }
     }
     while builder.waiting.len() > 1 {
         builder.force(if rng.chance(1, 2) { Rule::MildNot } else { Rule::Or });
     }
     case.selection = builder.selection();
+}
+
+/// Refusal 12, 4, 5, 6 or 7, by an occurs: over something else than a phrase, of a wrong number, or under a mild not.
+fn damage_occurs(rng: &mut Rng, case: &mut Case) {
+    let mut codes = codes_of(&case.selection);
+    if codes.is_empty() {
+        return;
+    }
+    let occurs = |rng: &mut Rng| match rng.chance(1, 2) {
+        true => Code { kind: 17, operand: rng.below(4) as u32 },
+        false => Code { kind: 16, operand: rng.below(3) as u32 * 65_537 + rng.below(2) as u32 },
+    };
+    let kinds: Vec<u32> = codes.iter().map(|code| code.kind).collect();
+    let behind = |wanted: fn(&u32) -> bool| (1..=kinds.len()).filter(move |at| wanted(&kinds[at - 1]));
+    match rng.below(8) {
+        // behind any code that isn't a word or a phrase, twice at times
+        0..=3 => {
+            let places: Vec<usize> = behind(|kind| *kind > 1).collect();
+            for _ in 0..rng.pick(&[1, 1, 2]) {
+                if !places.is_empty() {
+                    codes.insert(rng.pick(&places), occurs(rng));
+                }
+            }
+        }
+        // behind a phrase, which may have one already
+        4 => {
+            let places: Vec<usize> = behind(|kind| *kind == 1).collect();
+            if !places.is_empty() {
+                codes.insert(rng.pick(&places), occurs(rng));
+            }
+        }
+        // the numbers and kinds of an occurs
+        5 | 6 => {
+            let wrong = if rng.chance(1, 3) { wrong_kind } else { wrong_operand };
+            codes.iter_mut().filter(|code| code.kind >= 16).for_each(|code| wrong(rng, code));
+        }
+        // under a mild not
+        _ => codes.extend([(0, 1), (1, 1), (5, 0)].map(|(kind, operand)| Code { kind, operand })),
+    }
+    codes.truncate(MOST_CODES);
+    case.selection = selection::numbers(&codes);
 }
 
 // What is lent

@@ -1,12 +1,14 @@
-//! A second engine for document 01 ("The manual search engine: sections, selections, AllMatches"), by another hand.
+//! A second engine for document 01 ("The manual search engine: sections, selections, AllMatches"), by another hand; with
+//! document 02's requests F-1 (typed searches) and F-3 (occurs).
 //!
-//! Written from the paper and the readings in docs/DECISIONS.md, to be compared with the first engine on random inputs. Its method is the plainest one:
-//! a match is two vectors of strings, a list is a vector of matches, a selection is a tree, and every rule is a function
-//! from lists to a list. It allocates freely and asks for no working memory; it only looks at its length.
+//! Written from the papers and the readings in docs/DECISIONS.md, to be compared with the first engine on random inputs. Its
+//! method is the plainest one: a match is two vectors of strings, a list is a vector of matches, a selection is a tree, and
+//! every rule is a function from lists to a list. It allocates freely and asks for no working memory; it only looks at its
+//! length.
 //!
 //! - [`section`]: what a section is, refusals 1 and 2.
-//! - [`selection`]: what a selection is, refusals 3 to 7, the tree.
-//! - [`rules`]: every list rule of the paper, without any limit.
+//! - [`selection`]: what a selection is, refusals 3 to 7 and 12, the tree.
+//! - [`rules`]: every list rule of the papers, without any limit.
 //! - [`sizes`]: how large a list will be, before it is made; the limits.
 //! - [`engine`]: the listing, the quick answer, the snippet, the unlimited lists.
 //! - [`text`]: what the program `ftlist` prints.
@@ -18,7 +20,8 @@
 //! - [`json`]: a reader just good enough for the published examples.
 //!
 //! To test an engine: implement [`Engine`] for it (as `tests/proved/mod.rs` does) and call [`agreement::hunt`] with a seed and a count
-//! of cases; the error is a message with a small test to paste back. [`agreement::hunt_typed`] does the same for typed searches.
+//! of cases; the error is a message with a small test to paste back. [`agreement::hunt_occurs`] does the same where every case
+//! has an occurs, [`agreement::hunt_typed`] for typed searches.
 
 pub mod agreement;
 pub mod engine;
@@ -33,9 +36,9 @@ pub mod text;
 pub mod typed;
 pub mod typed_gen;
 
-pub use agreement::{compare, compare_text, compare_typed, hunt, hunt_typed, Engine};
+pub use agreement::{compare, compare_text, compare_typed, hunt, hunt_occurs, hunt_typed, Engine};
 pub use engine::{listing, quick, snippet, unlimited, Listing, Quick, SecondEngine};
-pub use gen::{cases, Case};
+pub use gen::{cases, occurs_cases, Case};
 pub use rules::{AllMatches, Match, Str};
 pub use typed_gen::{typed_cases, TypedCase};
 

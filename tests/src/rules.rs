@@ -1,4 +1,5 @@
-//! "The lists": every rule of the paper, as a function from lists to a list, with no limit on anything.
+//! "The lists": every rule of the paper, and request F-3's occurs, as a function from lists to a list, with no limit on
+//! anything.
 //!
 //! "L is the left list, R the right."
 
@@ -267,6 +268,48 @@ pub fn entire_content(section: &Section, list: &[Match]) -> AllMatches {
     list.iter().filter(|m| (1..=section.n()).all(|position| covered(m, position))).cloned().collect()
 }
 
+/// "At least a: every choice of a or more of the phrase's matches, fewest first, equal sizes in order of first difference
+/// by position, each choice joined as and would." A choice of none is a match with no strings.
+pub fn at_least(list: &[Match], a: u32) -> AllMatches {
+    let joined = |choice: Vec<usize>| Match {
+        includes: choice.iter().flat_map(|&index| list[index].includes.clone()).collect(),
+        excludes: choice.iter().flat_map(|&index| list[index].excludes.clone()).collect(),
+    };
+    choices(list.len(), a as usize).into_iter().map(joined).collect()
+}
+
+/// Every choice of `least` or more of so many matches, as their indexes. A phrase's matches ascend, so these are in the order
+/// of positions.
+///
+/// What a choice leaves out is made first, one index more at a time: of 256 matches at least 255 are all or all but one.
+fn choices(count: usize, least: usize) -> Vec<Vec<usize>> {
+    let Some(most_left_out) = count.checked_sub(least) else { return vec![] };
+    let mut left_out: Vec<Vec<usize>> = vec![vec![]];
+    let mut next = 0;
+    while let Some(out) = left_out.get(next).cloned() {
+        next += 1;
+        if out.len() < most_left_out {
+            let behind = out.last().map_or(0, |last| last + 1);
+            left_out.extend((behind..count).map(|index| [&out[..], &[index]].concat()));
+        }
+    }
+    let chosen = |out: Vec<usize>| (0..count).filter(|index| !out.contains(index)).collect();
+    let mut list: Vec<Vec<usize>> = left_out.into_iter().map(chosen).collect();
+    // (Reading: "choices of one size in lexicographic order of the finds chosen".)
+    list.sort_by(|one, other| (one.len(), one).cmp(&(other.len(), other)));
+    list
+}
+
+/// "From a to b: at least a, and not at least b + 1." (Reading: the and of the one list with the not of the other.)
+pub fn from_to(list: &[Match], a: u32, b: u32) -> AllMatches {
+    let left = at_least(list, a);
+    if left.is_empty() {
+        // the and is empty, however large the not is
+        return vec![];
+    }
+    and(&left, &not(&at_least(list, b + 1)))
+}
+
 #[cfg(test)]
 mod tests {
     use super::*;
@@ -335,6 +378,54 @@ mod tests {
         let broken = Str { contiguous: false, ..string(1, 2, 1) };
         assert_eq!(join(&[broken]), Some(broken));
         assert_eq!(join(&[string(1, 5, 1), broken]), Some(Str { start: 1, end: 5, query: 1, contiguous: false }));
+    }
+
+    #[test]
+    fn choices_by_size_then_position() {
+        let none: Vec<Vec<usize>> = vec![];
+        let three: [&[usize]; 8] = [&[], &[0], &[1], &[2], &[0, 1], &[0, 2], &[1, 2], &[0, 1, 2]];
+        for (least, behind) in [(0, 0), (1, 1), (2, 4), (3, 7)] {
+            assert_eq!(choices(3, least), three[behind..]);
+        }
+        assert_eq!(choices(3, 4), none);
+        assert_eq!(choices(0, 0), [[]; 1]);
+        assert_eq!(choices(0, 1), none);
+        // all but one, the last first; then all
+        let most = choices(256, 255);
+        assert_eq!(most.len(), 257);
+        assert!((0..256).all(|index| !most[index].contains(&(255 - index))));
+        assert_eq!(most[256], (0..256).collect::<Vec<usize>>());
+    }
+
+    /// A choice of three matches is the and of their three lists.
+    #[test]
+    fn chosen_matches_are_joined_as_and_would() {
+        let one = Match { includes: vec![string(1, 1, 1), string(2, 2, 2)], excludes: vec![string(3, 3, 3)] };
+        let two = Match { includes: vec![string(4, 4, 1)], excludes: vec![] };
+        let three = Match { includes: vec![string(7, 7, 1)], excludes: vec![string(8, 8, 3), string(5, 6, 2)] };
+        let joined = |list: &[&Match]| {
+            list.iter().fold(vec![Match::default()], |joined, m| and(&joined, std::slice::from_ref(*m)))
+        };
+        let all = [one.clone(), two.clone(), three.clone()];
+        assert_eq!(at_least(&all, 3), joined(&[&one, &two, &three]));
+        assert_eq!(
+            at_least(&all[1..], 0),
+            [joined(&[]), joined(&[&two]), joined(&[&three]), joined(&[&two, &three])].concat()
+        );
+    }
+
+    /// Every set of bits of a number is a choice; the numbers are put in order by another rule, bit by bit from the lowest.
+    #[test]
+    fn choices_are_the_sets_of_bits() {
+        for count in 0..=10 {
+            for least in 0..=count + 1 {
+                let mut sets: Vec<u32> = (0..1 << count).filter(|set: &u32| set.count_ones() >= least as u32).collect();
+                sets.sort_by_key(|set| (set.count_ones(), u32::MAX - set.reverse_bits()));
+                let indexes = |set: &u32| (0..count).filter(|index| set >> index & 1 == 1).collect();
+                let wanted: Vec<Vec<usize>> = sets.iter().map(indexes).collect();
+                assert_eq!(choices(count, least), wanted, "{count}, at least {least}");
+            }
+        }
     }
 
     #[test]

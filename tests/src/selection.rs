@@ -10,7 +10,8 @@ pub const MOST_WORDS: usize = 8;
 /// "Kind 1 needs p = k and w < 8".
 pub const MOST_WAITING: usize = 8;
 
-/// One code as it is lent: "kinds 0 and 1 are words, 2 to 5 combine, 6 to 15 filter, 16 and up are unknown."
+/// One code as it is lent: "kinds 0 and 1 are words, 2 to 5 combine, 6 to 15 filter"; by request F-3 16 and 17 are occurs,
+/// "and 18 and up are unknown."
 #[derive(Clone, Copy, Debug, PartialEq, Eq)]
 pub struct Code {
     pub kind: u32,
@@ -37,7 +38,14 @@ pub enum Filter {
     EntireContent,
 }
 
-/// "So a code is a phrase, a combination or a filter".
+/// Request F-3: "Add kind 16, occurs from a to b (operand as kind 8), and kind 17, occurs at least a (0 to 4,095)".
+#[derive(Clone, Copy, Debug, PartialEq, Eq)]
+pub enum Occurs {
+    FromTo(u32, u32),
+    AtLeast(u32),
+}
+
+/// "So a code is a phrase, a combination or a filter"; or, since request F-3, an occurs.
 #[derive(Clone, Debug, PartialEq, Eq)]
 pub enum Rule {
     /// The words, and the query position: "its rank among the kind-1 codes, from 1" (of the whole selection).
@@ -50,10 +58,11 @@ pub enum Rule {
     Not,
     MildNot,
     Filter(Filter),
+    Occurs(Occurs),
 }
 
-/// A code of kind 1 to 15 with the trees of its sides, left before right: none for a phrase, one for a not or a filter,
-/// two for an or, an and or a mild not. `place` counts all codes from 1, those of kind 0 too.
+/// A code of kind 1 to 17 with the trees of its sides, left before right: none for a phrase, one for a not, a filter or an
+/// occurs, two for an or, an and or a mild not. `place` counts all codes from 1, those of kind 0 too.
 #[derive(Clone, Debug, PartialEq, Eq)]
 pub struct Tree {
     pub place: usize,
@@ -68,13 +77,15 @@ pub fn read(numbers: &[u32]) -> Result<Tree, Refusal> {
     Ok(tree)
 }
 
-/// Refusals 3 to 6, and the tree, which there is as soon as the shape is right.
+/// Refusals 3 to 6, then 12, and the tree: such a selection can be typed.
 pub fn read_shape(numbers: &[u32]) -> Result<Tree, Refusal> {
     let codes = check_length(numbers)?;
     check_kinds(&codes)?;
     check_operands(&codes)?;
     check_shape(&codes)?;
-    Ok(tree(&codes))
+    let tree = tree(&codes);
+    check_occurs(&tree)?;
+    Ok(tree)
 }
 
 /// "3, place 0: selection empty, m not 1 to 64, or length wrong".
@@ -89,9 +100,9 @@ fn check_length(numbers: &[u32]) -> Result<Vec<Code>, Refusal> {
     Ok(kinds.iter().zip(operands).map(|(&kind, &operand)| Code { kind, operand }).collect())
 }
 
-/// "4, first such code: kind unknown". "16 and up are unknown."
+/// "4, first such code: kind unknown". "18 and up are unknown."
 fn check_kinds(codes: &[Code]) -> Result<(), Refusal> {
-    match codes.iter().position(|code| code.kind >= 16) {
+    match codes.iter().position(|code| code.kind >= 18) {
         Some(index) => Err(Refusal::new(4, index + 1)),
         None => Ok(()),
     }
@@ -115,8 +126,10 @@ pub fn operand_in_table(code: Code) -> bool {
         1 => (1..=8).contains(&operand),
         // "N, 1 to 4,096"
         7 => (1..=4_096).contains(&operand),
-        // "a × 65,536 + b, a ≤ b ≤ 4,095"
-        8 => operand / 65_536 <= operand % 65_536 && operand % 65_536 <= 4_095,
+        // "a × 65,536 + b, a ≤ b ≤ 4,095"; "occurs from a to b (operand as kind 8)"
+        8 | 16 => operand / 65_536 <= operand % 65_536 && operand % 65_536 <= 4_095,
+        // "occurs at least a (0 to 4,095)"
+        17 => operand <= 4_095,
         // "0"
         _ => operand == 0,
     }
@@ -157,8 +170,21 @@ fn check_shape(codes: &[Code]) -> Result<(), Refusal> {
     }
 }
 
+/// "Each directly over a phrase." "12 at the code where the thing below isn't a phrase, tried after 6." (Reading: directly
+/// after 6, so before 7.)
+fn check_occurs(tree: &Tree) -> Result<(), Refusal> {
+    for side in &tree.below {
+        check_occurs(side)?;
+    }
+    match (&tree.rule, &tree.below[..]) {
+        (Rule::Occurs(_), [Tree { rule: Rule::Phrase { .. }, .. }]) => Ok(()),
+        (Rule::Occurs(_), _) => Err(Refusal::new(12, tree.place)),
+        _ => Ok(()),
+    }
+}
+
 /// "7, the first such kind 5: a not under a mild not". "No kind 4 may stand in either side of a kind 5." (Reading: at any
-/// depth; the place is the lowest such kind 5.)
+/// depth; the place is the lowest such kind 5.) The rule "now counts kind 16 too".
 fn check_mild_nots(tree: &Tree) -> Result<(), Refusal> {
     for side in &tree.below {
         check_mild_nots(side)?;
@@ -188,6 +214,7 @@ fn tree(codes: &[Code]) -> Tree {
             3 => Rule::And,
             4 => Rule::Not,
             5 => Rule::MildNot,
+            16 | 17 => Rule::Occurs(occurs(*code)),
             _ => Rule::Filter(filter(*code)),
         };
         let below = waiting.split_off(waiting.len() - rule.sides());
@@ -213,19 +240,34 @@ fn filter(code: Code) -> Filter {
     }
 }
 
+/// The occurs that a code of kind 16 or 17 stands for.
+fn occurs(code: Code) -> Occurs {
+    match code.kind {
+        16 => Occurs::FromTo(code.operand / 65_536, code.operand % 65_536),
+        17 => Occurs::AtLeast(code.operand),
+        kind => panic!("kind {kind} is no occurs"),
+    }
+}
+
 impl Rule {
     /// How many lists the rule takes.
     pub fn sides(&self) -> usize {
         match self {
             Rule::Phrase { .. } => 0,
-            Rule::Not | Rule::Filter(_) => 1,
+            Rule::Not | Rule::Filter(_) | Rule::Occurs(_) => 1,
             Rule::Or | Rule::And | Rule::MildNot => 2,
         }
     }
 
-    /// Is this one of "kinds 5 to 15", where the quick answer builds?
+    /// Is this one of "kinds 5 to 15", where the quick answer builds, or an occurs, which "the quick walk builds and counts
+    /// .. as it does filters"?
     pub fn is_built(&self) -> bool {
-        matches!(self, Rule::MildNot | Rule::Filter(_))
+        matches!(self, Rule::MildNot | Rule::Filter(_) | Rule::Occurs(_))
+    }
+
+    /// Is it a not to "the rule against a not under a mild not", which "now counts kind 16 too"?
+    pub fn is_a_not(&self) -> bool {
+        matches!(self, Rule::Not | Rule::Occurs(Occurs::FromTo(..)))
     }
 
     /// The codes that stand for the rule itself: for a phrase its words and a kind 1, else one code.
@@ -250,6 +292,8 @@ impl Rule {
             Rule::Filter(Filter::AtStart) => one(13, 0),
             Rule::Filter(Filter::AtEnd) => one(14, 0),
             Rule::Filter(Filter::EntireContent) => one(15, 0),
+            Rule::Occurs(Occurs::FromTo(a, b)) => one(16, a * 65_536 + b),
+            Rule::Occurs(Occurs::AtLeast(a)) => one(17, *a),
         }
     }
 }
@@ -260,9 +304,9 @@ impl Tree {
         1 + self.below.iter().map(Tree::count).sum::<usize>()
     }
 
-    /// Does a kind 4 stand in it?
+    /// Does a kind 4 or 16 stand in it?
     pub fn has_not(&self) -> bool {
-        self.rule == Rule::Not || self.below.iter().any(Tree::has_not)
+        self.rule.is_a_not() || self.below.iter().any(Tree::has_not)
     }
 
     /// All its codes, in postfix order.
@@ -302,6 +346,8 @@ impl fmt::Display for Tree {
             Rule::Filter(Filter::AtStart) => after(f, "at start".into()),
             Rule::Filter(Filter::AtEnd) => after(f, "at end".into()),
             Rule::Filter(Filter::EntireContent) => after(f, "entire content".into()),
+            Rule::Occurs(Occurs::FromTo(a, b)) => after(f, format!("occurs {a} to {b}")),
+            Rule::Occurs(Occurs::AtLeast(a)) => after(f, format!("occurs at least {a}")),
         }
     }
 }

@@ -2,7 +2,7 @@
 
 use crate::gen::Case;
 use crate::section::{self, Section};
-use crate::selection::{self, Code, Filter, Rule, Tree};
+use crate::selection::{self, Code, Filter, Occurs, Rule, Tree};
 use crate::typed::{self, SELECTION};
 use crate::typed_gen::TypedCase;
 use crate::{BUFFER, WORK};
@@ -150,13 +150,21 @@ fn lower_rules(rule: &Rule) -> Vec<Rule> {
             lower(*size).into_iter().filter(|&size| size > 0).map(|size| Rule::Filter(Filter::Window(size))).collect()
         }
         Rule::Filter(Filter::Distance(a, b)) => {
-            let (a, b) = (*a, *b);
-            let from = lower(a).into_iter().map(|lower| (lower, b));
-            let to = lower(b).into_iter().filter(|&lower| lower >= a).map(|lower| (a, lower));
-            from.chain(to).map(|(a, b)| Rule::Filter(Filter::Distance(a, b))).collect()
+            lower_ranges(*a, *b).map(|(a, b)| Rule::Filter(Filter::Distance(a, b))).collect()
         }
+        Rule::Occurs(Occurs::FromTo(a, b)) => {
+            lower_ranges(*a, *b).map(|(a, b)| Rule::Occurs(Occurs::FromTo(a, b))).collect()
+        }
+        Rule::Occurs(Occurs::AtLeast(a)) => lower(*a).into_iter().map(|a| Rule::Occurs(Occurs::AtLeast(a))).collect(),
         _ => vec![],
     }
+}
+
+/// Ranges from a to b with one end lower.
+fn lower_ranges(a: u32, b: u32) -> impl Iterator<Item = (u32, u32)> {
+    let from = lower(a).into_iter().map(move |lower| (lower, b));
+    let to = lower(b).into_iter().filter(move |&lower| lower >= a).map(move |lower| (a, lower));
+    from.chain(to)
 }
 
 fn lower(number: u32) -> Vec<u32> {

@@ -1,8 +1,8 @@
 //! How large a list will be, known before it is made.
 //!
-//! A not can have 2^256 matches, so a list is counted first and made only if it is small enough. Nothing here says what a
-//! list holds: that is in [`crate::rules`], and the tests hold these numbers to the lists made there. All arithmetic
-//! stops at the top of u128, far above every limit; a zero factor still gives zero.
+//! A not can have 2^256 matches, and so can an occurs, so a list is counted first and made only if it is small enough.
+//! Nothing here says what a list holds: that is in [`crate::rules`], and the tests hold these numbers to the lists made
+//! there. All arithmetic stops at the top of u128, far above every limit; a zero factor still gives zero.
 
 use crate::rules::{self, Match};
 use crate::section::Section;
@@ -55,7 +55,10 @@ pub fn or(left: &[Match], right: &[Match]) -> Size {
 
 /// An and: each match of the left stands once for each of the right, with its strings, and the other way round.
 pub fn and(left: &[Match], right: &[Match]) -> Size {
-    let (l, r) = (Size::of(left), Size::of(right));
+    product(Size::of(left), Size::of(right))
+}
+
+fn product(l: Size, r: Size) -> Size {
     Size {
         matches: l.matches.saturating_mul(r.matches),
         strings: l.strings.saturating_mul(r.matches).saturating_add(r.strings.saturating_mul(l.matches)),
@@ -87,6 +90,59 @@ pub fn window(list: &[Match], size: u32) -> Size {
         }
     }
     total
+}
+
+/// n choose k, for every k from 0 to n.
+fn binomials(n: usize) -> Vec<u128> {
+    let mut rising = vec![1];
+    for k in 1..=n / 2 {
+        rising.push(match rising[k - 1] {
+            u128::MAX => u128::MAX,
+            before => scaled(before, (n - k + 1) as u128, k as u128),
+        });
+    }
+    (0..=n).map(|k| rising[k.min(n - k)]).collect()
+}
+
+/// A number × `times` / `by`, which is a whole one. It alone can be too large, not what is on the way to it.
+fn scaled(number: u128, times: u128, by: u128) -> u128 {
+    let common = common_divisor(number, by);
+    (number / common).saturating_mul(times / (by / common))
+}
+
+fn common_divisor(one: u128, other: u128) -> u128 {
+    match other {
+        0 => one,
+        _ => common_divisor(other, one % other),
+    }
+}
+
+/// At least a of a phrase's matches: each has one string, so a choice of k is a match of k strings.
+pub fn at_least(finds: usize, a: u32) -> Size {
+    let mut total = Size { matches: 0, strings: 0 };
+    for (k, ways) in binomials(finds).into_iter().enumerate().skip(a as usize) {
+        total.matches = total.matches.saturating_add(ways);
+        total.strings = total.strings.saturating_add(ways.saturating_mul(k as u128));
+    }
+    total
+}
+
+/// The not of at least so many: a factor k for each choice of k, and each of its matches has a string of every choice.
+fn not_at_least(finds: usize, least: u32) -> Size {
+    let factors = binomials(finds).into_iter().enumerate().skip(least as usize).map(|(k, ways)| power(k, ways));
+    let matches = factors.fold(1, u128::saturating_mul);
+    Size { matches, strings: matches.saturating_mul(at_least(finds, least).matches) }
+}
+
+/// A power of any exponent but 0: one over 128 has stopped at the top if the base is over 1, and changes nothing if it isn't.
+fn power(base: usize, exponent: u128) -> u128 {
+    (base as u128).saturating_pow(exponent.min(128) as u32)
+}
+
+/// From a to b of a phrase's matches: the and of at least a with the not of at least b + 1. (Reading: "only its final list is
+/// measured".)
+pub fn from_to(finds: usize, a: u32, b: u32) -> Size {
+    product(at_least(finds, a), not_at_least(finds, b + 1))
 }
 
 #[cfg(test)]
@@ -126,6 +182,77 @@ mod tests {
             stringless += usize::from(left.iter().any(|m| m.strings() == 0));
         }
         assert!(stringless > 2_000);
+    }
+
+    /// A phrase's list: so many matches of one string.
+    fn finds(count: usize) -> AllMatches {
+        let string = |start| Str { start, end: start, query: 1, contiguous: true };
+        (1..=count as u32).map(|start| Match { includes: vec![string(start)], excludes: vec![] }).collect()
+    }
+
+    #[test]
+    fn occurs_counted_as_made() {
+        for count in 0..=10 {
+            let list = finds(count);
+            for a in 0..=12 {
+                assert_eq!(at_least(count, a), Size::of(&rules::at_least(&list, a)), "{count}, at least {a}");
+                // also with a over b, which no selection has
+                for b in (0..=12).filter(|&b| from_to(count, a, b).within(GUARD)) {
+                    let made = Size::of(&rules::from_to(&list, a, b));
+                    assert_eq!(from_to(count, a, b), made, "{count}, from {a} to {b}");
+                }
+            }
+        }
+        // at the sizes where most choices are all, or all but one
+        for count in [20, 21, 22, 23, 255, 256, 257] {
+            let list = finds(count);
+            for a in count as u32 - 1..=count as u32 + 1 {
+                assert_eq!(at_least(count, a), Size::of(&rules::at_least(&list, a)), "{count}, at least {a}");
+                let made = Size::of(&rules::from_to(&list, a, a));
+                assert_eq!(from_to(count, a, a), made, "{count}, from {a} to {a}");
+            }
+        }
+    }
+
+    /// "Only its final list is measured" (reading): with a ≤ b, as every selection has it, neither side of the and is over a
+    /// limit that the final list keeps, and neither is what the not is made of.
+    #[test]
+    fn what_is_on_the_way_is_never_larger() {
+        for (count, b) in (0..=60).flat_map(|count| (0..=62).map(move |b| (count, b))) {
+            for a in (0..=b).filter(|&a| from_to(count, a, b).within(PAPER)) {
+                let on_the_way = [at_least(count, a), at_least(count, b + 1), not_at_least(count, b + 1)];
+                assert!(on_the_way.iter().all(|size| size.within(PAPER)), "{count}, from {a} to {b}");
+            }
+        }
+    }
+
+    #[test]
+    fn binomials_are_sums_of_two_above() {
+        let mut above = vec![1u128];
+        for n in 1..=300 {
+            let sums = above.windows(2).map(|pair| pair[0].saturating_add(pair[1]));
+            above = [1].into_iter().chain(sums).chain([1]).collect();
+            assert_eq!(binomials(n), above, "{n}");
+        }
+        assert_eq!(binomials(4_096)[4_095], 4_096);
+        assert_eq!(binomials(4_096)[2_048], u128::MAX);
+    }
+
+    /// Far beyond every limit; and empty where the and has an empty side, however large the other is.
+    #[test]
+    fn occurs_at_the_top() {
+        let top = Size { matches: u128::MAX, strings: u128::MAX };
+        assert_eq!(at_least(120, 0), Size { matches: 1 << 120, strings: 60 << 120 });
+        assert_eq!(at_least(128, 0), top);
+        assert_eq!(at_least(4_096, 0), top);
+        assert_eq!(at_least(4_096, 4_095), Size { matches: 4_097, strings: 4_096 * 4_096 });
+        assert_eq!(from_to(4_096, 0, 0), top);
+        assert_eq!(from_to(4_095, 4_095, 4_095), Size { matches: 1, strings: 4_095 });
+        assert_eq!(from_to(4, 2, 1).matches, 11 * 2u128.pow(6) * 3u128.pow(4) * 4);
+        assert_eq!(not_at_least(200, 1), top);
+        assert_eq!(from_to(200, 201, 0), Size { matches: 0, strings: 0 });
+        // the not of a list that has the empty choice
+        assert_eq!(not_at_least(200, 0), Size { matches: 0, strings: 0 });
     }
 
     /// What isn't counted before isn't larger than the list it is made from.

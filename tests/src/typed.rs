@@ -1,4 +1,4 @@
-//! Typed searches: the codes that a text stands for, or the text's error (request F-1).
+//! Typed searches: the codes that a text stands for, or the text's error (request F-1, with F-3's occurs).
 //!
 //! Nothing here calls itself, however deep a text's parentheses are. [`tokens`] cuts the whole text into tokens first. A
 //! table of [`Move`]s then says which token may come next; a token without a move is error 10. The codes come out in
@@ -118,11 +118,13 @@ pub enum State {
     Primary,
     /// In a phrase, behind so many words.
     Phrase(usize),
-    /// Behind an operand.
+    /// Behind a phrase, which is an operand already, and which an `occurs` may follow.
+    Quoted,
+    /// Behind another operand.
     Behind,
     /// Behind the `not` of a `not in`.
     Not,
-    /// Behind these words of a filter.
+    /// Behind these words of a filter or an occurs.
     Inside(&'static str),
     /// Behind a filter.
     Filtered,
@@ -154,9 +156,9 @@ impl Operator {
     }
 }
 
-/// A filter as it is typed (N stands for a number), its kind, and its operand from its numbers.
+/// A filter or an occurs as it is typed (N stands for a number), its kind, and its operand from its numbers.
 #[derive(Clone, Copy)]
-pub struct Filter {
+pub struct Form {
     pub typed: &'static str,
     pub kind: u32,
     pub operand: fn(&[u32]) -> u32,
@@ -168,20 +170,29 @@ fn from_to(a: u32, b: u32) -> u32 {
 }
 
 /// Document 01's kinds 6 to 15. "Distance takes `exactly`, `at least` (to 4,095), `at most` (from 0) or `from .. to`."
-pub const FILTERS: [Filter; 13] = [
-    Filter { typed: "ordered", kind: 6, operand: |_| 0 },
-    Filter { typed: "window N words", kind: 7, operand: |n| n[0] },
-    Filter { typed: "distance exactly N words", kind: 8, operand: |n| from_to(n[0], n[0]) },
-    Filter { typed: "distance at least N words", kind: 8, operand: |n| from_to(n[0], 4_095) },
-    Filter { typed: "distance at most N words", kind: 8, operand: |n| from_to(0, n[0]) },
-    Filter { typed: "distance from N to N words", kind: 8, operand: |n| from_to(n[0], n[1]) },
-    Filter { typed: "same sentence", kind: 9, operand: |_| 0 },
-    Filter { typed: "same paragraph", kind: 10, operand: |_| 0 },
-    Filter { typed: "different sentence", kind: 11, operand: |_| 0 },
-    Filter { typed: "different paragraph", kind: 12, operand: |_| 0 },
-    Filter { typed: "at start", kind: 13, operand: |_| 0 },
-    Filter { typed: "at end", kind: 14, operand: |_| 0 },
-    Filter { typed: "entire content", kind: 15, operand: |_| 0 },
+pub const FILTERS: [Form; 13] = [
+    Form { typed: "ordered", kind: 6, operand: |_| 0 },
+    Form { typed: "window N words", kind: 7, operand: |n| n[0] },
+    Form { typed: "distance exactly N words", kind: 8, operand: |n| from_to(n[0], n[0]) },
+    Form { typed: "distance at least N words", kind: 8, operand: |n| from_to(n[0], 4_095) },
+    Form { typed: "distance at most N words", kind: 8, operand: |n| from_to(0, n[0]) },
+    Form { typed: "distance from N to N words", kind: 8, operand: |n| from_to(n[0], n[1]) },
+    Form { typed: "same sentence", kind: 9, operand: |_| 0 },
+    Form { typed: "same paragraph", kind: 10, operand: |_| 0 },
+    Form { typed: "different sentence", kind: 11, operand: |_| 0 },
+    Form { typed: "different paragraph", kind: 12, operand: |_| 0 },
+    Form { typed: "at start", kind: 13, operand: |_| 0 },
+    Form { typed: "at end", kind: 14, operand: |_| 0 },
+    Form { typed: "entire content", kind: 15, operand: |_| 0 },
+];
+
+/// "Typed, `occurs` with one of the four ranges and `times` follows a phrase; `at least` is kind 17." The other ranges are
+/// kind 16.
+pub const OCCURS: [Form; 4] = [
+    Form { typed: "occurs exactly N times", kind: 16, operand: |n| from_to(n[0], n[0]) },
+    Form { typed: "occurs at least N times", kind: 17, operand: |n| n[0] },
+    Form { typed: "occurs at most N times", kind: 16, operand: |n| from_to(0, n[0]) },
+    Form { typed: "occurs from N to N times", kind: 16, operand: |n| from_to(n[0], n[1]) },
 ];
 
 /// What is done with a token.
@@ -199,10 +210,12 @@ pub enum Act {
     Word,
     /// A phrase ends.
     Phrase,
-    /// A number of a filter.
+    /// A number of a filter or an occurs.
     Number,
-    /// A filter ends.
-    Filter(Filter),
+    /// A filter ends: it stands over the whole selection before it.
+    Filter(Form),
+    /// An occurs ends: it stands over the phrase before it.
+    Occurs(Form),
     /// The text ends.
     End,
 }
@@ -228,11 +241,13 @@ pub fn moves() -> Vec<Move> {
     let keyword = Sign::Keyword;
     let mut list = vec![
         Move::new(State::Operand, keyword("ftnot"), State::Primary, Act::Hold(Operator::Not)),
-        Move::new(State::Behind, keyword("ftor"), State::Operand, Act::Join(Operator::Or)),
-        Move::new(State::Behind, keyword("ftand"), State::Operand, Act::Join(Operator::And)),
-        Move::new(State::Behind, keyword("not"), State::Not, Act::Pass),
         Move::new(State::Not, keyword("in"), State::Operand, Act::Join(Operator::MildNot)),
     ];
+    for operand in [State::Quoted, State::Behind] {
+        list.push(Move::new(operand, keyword("ftor"), State::Operand, Act::Join(Operator::Or)));
+        list.push(Move::new(operand, keyword("ftand"), State::Operand, Act::Join(Operator::And)));
+        list.push(Move::new(operand, keyword("not"), State::Not, Act::Pass));
+    }
     for before in [State::Operand, State::Primary] {
         list.push(Move::new(before, Sign::Quote, State::Phrase(0), Act::Pass));
         list.push(Move::new(before, Sign::Open, State::Operand, Act::Hold(Operator::Open)));
@@ -240,39 +255,39 @@ pub fn moves() -> Vec<Move> {
     // "A phrase is one to eight word numbers in double quotes."
     for words in 0..MOST_WORDS {
         list.push(Move::new(State::Phrase(words), Sign::Number, State::Phrase(words + 1), Act::Word));
-        list.push(Move::new(State::Phrase(words + 1), Sign::Quote, State::Behind, Act::Phrase));
+        list.push(Move::new(State::Phrase(words + 1), Sign::Quote, State::Quoted, Act::Phrase));
+    }
+    // "`occurs` .. follows a phrase": not another occurs, and not a parenthesis.
+    for occurs in OCCURS {
+        list.extend(moves_of(occurs.typed, State::Quoted, State::Behind, Act::Occurs(occurs)));
     }
     // "Filters after a whole selection": behind its last operand, or behind another filter.
-    for behind in [State::Behind, State::Filtered] {
+    for behind in [State::Quoted, State::Behind, State::Filtered] {
         list.push(Move::new(behind, Sign::Close, State::Behind, Act::Close));
         list.push(Move::new(behind, Sign::End, State::Done, Act::End));
         for filter in FILTERS {
-            list.extend(moves_of(filter, behind));
+            list.extend(moves_of(filter.typed, behind, State::Filtered, Act::Filter(filter)));
         }
     }
     list
 }
 
-/// The moves through one filter's words. Filters that begin alike go through the same states.
-fn moves_of(filter: Filter, behind: State) -> Vec<Move> {
-    let typed = filter.typed;
-    let ends = typed.match_indices(' ').map(|(at, _)| at).chain([typed.len()]);
+/// The moves through the words of a filter or an occurs, the last with its act. Those that begin alike go through the same
+/// states.
+fn moves_of(typed: &'static str, behind: State, done: State, act: Act) -> Vec<Move> {
+    let ends = typed.match_indices(' ').map(|(at, _)| at);
     let mut list = vec![];
     let (mut from, mut start) = (behind, 0);
     for end in ends {
-        let sign = match &typed[start..end] {
-            "N" => Sign::Number,
-            word => Sign::Keyword(word),
+        let (sign, act) = match &typed[start..end] {
+            "N" => (Sign::Number, Act::Number),
+            word => (Sign::Keyword(word), Act::Pass),
         };
-        let to = if end == typed.len() { State::Filtered } else { State::Inside(&typed[..end]) };
-        let act = match (to, sign) {
-            (State::Filtered, _) => Act::Filter(filter),
-            (_, Sign::Number) => Act::Number,
-            _ => Act::Pass,
-        };
+        let to = State::Inside(&typed[..end]);
         list.push(Move::new(from, sign, to, act));
         (from, start) = (to, end + 1);
     }
+    list.push(Move::new(from, Sign::Keyword(&typed[start..]), done, act));
     list
 }
 
@@ -293,7 +308,7 @@ pub struct Reader {
 }
 
 impl Reader {
-    /// The reader of request F-1.
+    /// The reader of requests F-1 and F-3.
     pub fn paper() -> Reader {
         Reader {
             most_bytes: MOST_BYTES,
@@ -367,7 +382,7 @@ struct Reading<'a> {
     waiting: Vec<Operator>,
     /// How many of these are parentheses.
     open: usize,
-    /// The numbers of the filter in the reading.
+    /// The numbers of the filter or the occurs in the reading.
     numbers: Vec<u32>,
     codes: Vec<Pair>,
 }
@@ -408,9 +423,10 @@ impl<'a> Reading<'a> {
             Act::Number => self.numbers.push(self.within(token, self.reader.most_number)?),
             Act::Filter(filter) => {
                 self.release_all();
-                self.codes.push((filter.kind, (filter.operand)(&self.numbers)));
-                self.numbers.clear();
+                self.write(filter);
             }
+            // what waits, waits for the phrase with its occurs
+            Act::Occurs(occurs) => self.write(occurs),
             Act::End => self.release_all(),
         }
         self.state = step.to;
@@ -431,6 +447,12 @@ impl<'a> Reading<'a> {
             State::Phrase(words) => words as u32,
             state => panic!("no phrase ends in {state:?}"),
         }
+    }
+
+    /// The code of a filter or an occurs, which takes the numbers read since the last one.
+    fn write(&mut self, form: Form) {
+        self.codes.push((form.kind, (form.operand)(&self.numbers)));
+        self.numbers.clear();
     }
 
     fn hold(&mut self, operator: Operator) {

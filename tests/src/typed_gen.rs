@@ -5,8 +5,8 @@
 //! a length, a count of codes or a depth near its limit, or are tokens or bytes without any order.
 
 use crate::gen::{self, Rng};
-use crate::selection::{self, Filter, Rule, Tree, Unit, MOST_CODES, MOST_WORDS};
-use crate::typed::{self, MOST_BYTES, SELECTION};
+use crate::selection::{self, Filter, Occurs, Rule, Tree, Unit, MOST_CODES, MOST_WORDS};
+use crate::typed::{self, Form, MOST_BYTES, SELECTION};
 
 /// One call of everything typed: what is lent to it. The working memory is given by its length, the others with their
 /// noise; `selection` is lent to the reader alone.
@@ -71,7 +71,8 @@ type Word = String;
 
 // Sentences
 
-/// How much a rule binds: "`ftor` over `ftand` over `not in` over `ftnot`", filters over them all.
+/// How much a rule binds: "`ftor` over `ftand` over `not in` over `ftnot`", filters over them all; an occurs belongs to its
+/// phrase.
 fn level(rule: &Rule) -> usize {
     match rule {
         Rule::Filter(_) => 0,
@@ -79,7 +80,7 @@ fn level(rule: &Rule) -> usize {
         Rule::And => 2,
         Rule::MildNot => 3,
         Rule::Not => 4,
-        Rule::Phrase { .. } => 5,
+        Rule::Phrase { .. } | Rule::Occurs(_) => 5,
     }
 }
 
@@ -99,6 +100,10 @@ fn spelled_at(rng: &mut Rng, tree: &Tree, least: usize, extra: usize) -> Vec<Wor
     let words = |text: &str| text.split(' ').map(Word::from).collect::<Vec<Word>>();
     match (&tree.rule, &tree.below[..]) {
         (Rule::Phrase { words, .. }, _) => phrase(words.iter().map(u32::to_string)),
+        (Rule::Occurs(occurs), [Tree { rule: Rule::Phrase { words: of_phrase, .. }, .. }]) => {
+            // no parenthesis may part it from its phrase
+            [phrase(of_phrase.iter().map(u32::to_string)), words(&typed_occurs(rng, occurs))].concat()
+        }
         (Rule::Not, [side]) => [words("ftnot"), spelled_at(rng, side, 5, extra)].concat(),
         (Rule::Filter(filter), [side]) => {
             let list = spelled_at(rng, side, 0, extra);
@@ -139,22 +144,46 @@ fn typed_filter(rng: &mut Rng, filter: &Filter) -> String {
 
 /// One of the ways in which a distance can be typed.
 fn typed_distance(rng: &mut Rng, a: u32, b: u32) -> String {
-    let mut ways = vec![format!("distance from {a} to {b} words")];
-    if a == b {
-        ways.push(format!("distance exactly {a} words"));
-    }
+    let mut ways = ranges(a, b);
     if b == 4_095 {
-        ways.push(format!("distance at least {a} words"));
+        ways.push(format!("at least {a}"));
+    }
+    format!("distance {} words", ways.swap_remove(rng.below(ways.len())))
+}
+
+/// One of the ways in which an occurs can be typed: "`at least` is kind 17", and no other range is.
+fn typed_occurs(rng: &mut Rng, occurs: &Occurs) -> String {
+    let mut ways = match occurs {
+        Occurs::FromTo(a, b) => ranges(*a, *b),
+        Occurs::AtLeast(a) => vec![format!("at least {a}")],
+    };
+    format!("occurs {} times", ways.swap_remove(rng.below(ways.len())))
+}
+
+/// The ways to type a range that has both its ends.
+fn ranges(a: u32, b: u32) -> Vec<String> {
+    let mut ways = vec![format!("from {a} to {b}")];
+    if a == b {
+        ways.push(format!("exactly {a}"));
     }
     if a == 0 {
-        ways.push(format!("distance at most {b} words"));
+        ways.push(format!("at most {b}"));
     }
-    ways.swap_remove(rng.below(ways.len()))
+    ways
 }
 
 /// Every filter, with any small numbers.
 fn any_filter(rng: &mut Rng) -> Vec<Word> {
-    let typed = rng.pick(&typed::FILTERS).typed;
+    any_form(rng, &typed::FILTERS)
+}
+
+/// Every occurs, with any small numbers.
+fn any_occurs(rng: &mut Rng) -> Vec<Word> {
+    any_form(rng, &typed::OCCURS)
+}
+
+fn any_form(rng: &mut Rng, forms: &[Form]) -> Vec<Word> {
+    let typed = rng.pick(forms).typed;
     typed.split(' ').map(|word| if word == "N" { rng.below(6).to_string() } else { word.into() }).collect()
 }
 
@@ -170,6 +199,9 @@ fn chain(rng: &mut Rng, phrases: usize) -> Vec<Word> {
             list.push("ftnot".into());
         }
         list.extend(phrase([rng.from_to(1, 4).to_string()]));
+        if rng.chance(1, 6) {
+            list.extend(any_occurs(rng));
+        }
     }
     list
 }
@@ -214,12 +246,12 @@ fn run_together(text: &[u8], word: &[u8]) -> bool {
 
 // Near misses
 
-/// A token left out, doubled, exchanged with another or replaced; a filter where none may be; an end too soon; or a byte
-/// changed.
+/// A token left out, doubled, exchanged with another or replaced; a filter where none may be; an occurs where it may be or may
+/// not, or with a filter's last word; an end too soon; or a byte changed.
 fn near_miss(rng: &mut Rng, mut words: Vec<Word>) -> Vec<u8> {
     for _ in 0..rng.pick(&[1, 1, 1, 2, 3]) {
         let at = rng.below(words.len());
-        match rng.below(12) {
+        match rng.below(15) {
             0 if words.len() > 1 => drop(words.remove(at)),
             1 => words.insert(at, words[at].clone()),
             2 => {
@@ -244,6 +276,23 @@ fn near_miss(rng: &mut Rng, mut words: Vec<Word>) -> Vec<u8> {
                 if let Some(at) = (at..words.len()).chain(0..at).find(keyword) {
                     misspell(rng, &mut words[at]);
                 }
+            }
+            10 | 11 => {
+                let behind = |at: &usize| ["\"", ")", "times", "words"].contains(&words[at - 1].as_str());
+                let at = (at + 1..=words.len()).find(behind).unwrap_or(words.len());
+                let mut occurs = any_occurs(rng);
+                if rng.chance(1, 2) {
+                    occurs.remove(rng.below(occurs.len()));
+                }
+                words.splice(at..at, occurs);
+            }
+            12 => {
+                let exchanged = |word: &Word| match word.as_str() {
+                    "words" => Word::from("times"),
+                    "times" => Word::from("words"),
+                    _ => word.clone(),
+                };
+                words = words.iter().map(exchanged).collect();
             }
             _ => {
                 let mut text = joined(rng, &words);
@@ -300,7 +349,7 @@ fn any_word(rng: &mut Rng) -> Word {
     match rng.below(10) {
         0 => number_edge(rng),
         1 => rng
-            .pick(&["and", "or", "ftnotin", "ftan", "ftandd", "Ftand", "word", "sentences", "occurs", "times", "a"])
+            .pick(&["and", "or", "ftnotin", "ftan", "ftandd", "Ftand", "word", "sentences", "occur", "time", "a"])
             .into(),
         _ => rng.pick(&ALPHABET).into(),
     }
@@ -347,6 +396,9 @@ fn is_number(word: &str) -> bool {
 }
 
 fn with_a_number_at_its_edge(rng: &mut Rng, mut words: Vec<Word>) -> Vec<u8> {
+    if rng.chance(1, 2) {
+        put_an_occurs(rng, &mut words);
+    }
     for _ in 0..rng.from_to(0, 2) {
         words.extend(any_filter(rng));
     }
@@ -362,12 +414,26 @@ fn with_a_number_at_its_edge(rng: &mut Rng, mut words: Vec<Word>) -> Vec<u8> {
     joined(rng, &words)
 }
 
-/// A phrase of 0 to 9 words or a few more, before the others or behind them.
+/// An occurs behind one of the phrases, if one has none.
+fn put_an_occurs(rng: &mut Rng, words: &mut Vec<Word>) {
+    let quotes = (0..words.len()).filter(|&at| words[at] == "\"");
+    let behind = quotes.skip(1).step_by(2).map(|close| close + 1);
+    let free: Vec<usize> = behind.filter(|&at| words.get(at).is_none_or(|word| word != "occurs")).collect();
+    if !free.is_empty() {
+        let at = rng.pick(&free);
+        words.splice(at..at, any_occurs(rng));
+    }
+}
+
+/// A phrase of 0 to 9 words or a few more, before the others or behind them, with an occurs or without.
 fn with_a_long_phrase(rng: &mut Rng, words: Vec<Word>) -> Vec<u8> {
     let count = rng.pick(&[0, 1, 7, MOST_WORDS, MOST_WORDS, MOST_WORDS + 1, MOST_WORDS + 1, MOST_WORDS + 2, 17]);
     let mut long = phrase((0..count).map(|_| rng.from_to(1, 4).to_string()).collect::<Vec<Word>>());
     if count > MOST_WORDS && rng.chance(1, 3) {
         long[1 + MOST_WORDS] = number_edge(rng);
+    }
+    if rng.chance(1, 4) {
+        long.extend(any_occurs(rng));
     }
     let and = vec![Word::from("ftand")];
     let words = [vec!["(".into()], words, vec![")".into()]].concat();
@@ -395,6 +461,10 @@ fn many_codes(rng: &mut Rng) -> Vec<u8> {
         list.push(rng.pick(&["ftor", "ftand"]).into());
         list.extend(phrase((0..words).map(|_| rng.from_to(1, 4).to_string()).collect::<Vec<Word>>()));
         codes += words + 2;
+        if codes < wanted && rng.chance(1, 4) {
+            list.extend(any_occurs(rng));
+            codes += 1;
+        }
     }
     if rng.chance(1, 8) {
         return near_miss(rng, list);
@@ -423,12 +493,15 @@ fn full(rng: &mut Rng, words: Vec<Word>) -> Vec<u8> {
     text
 }
 
+/// What stands in the deepest parenthesis, or can't.
+const INSIDES: [&str; 7] = ["\"1\"", "\"1\"", "\"1\"ordered", "\"1\"occurs at least 1 times", "", "\"1", "ftnot"];
+
 /// Parentheses as deep as a text can have them, or nearly; balanced or not.
 fn deep(rng: &mut Rng) -> Vec<u8> {
     let depth = rng.pick(&[1, 7, 8, 9, 64, 65, 255, 256, 257, 1_021, 1_022, 1_023, 2_047, 2_048]);
     let nots = rng.chance(1, 4) && depth < 290;
     let open = if nots { "ftnot(" } else { "(" };
-    let inside = if depth > 2_000 { "" } else { rng.pick(&["\"1\"", "\"1\"", "\"1\"ordered", "", "\"1", "ftnot"]) };
+    let inside = if depth > 2_000 { "" } else { rng.pick(&INSIDES) };
     let close = match rng.below(8) {
         0 => depth - 1,
         1 => depth + 1,
@@ -476,7 +549,7 @@ fn any_bytes(rng: &mut Rng) -> Vec<u8> {
 
 /// One of each token: every keyword, quote and parentheses, a number within every limit, one over 4,096, one over
 /// 4,294,967,295, letters that are no keyword, and a byte that is no token of the grammar.
-pub const ALPHABET: [&str; 31] = [
+pub const ALPHABET: [&str; 33] = [
     "\"",
     "(",
     ")",
@@ -506,6 +579,8 @@ pub const ALPHABET: [&str; 31] = [
     "end",
     "entire",
     "content",
+    "occurs",
+    "times",
     "x",
     ",",
 ];
@@ -585,8 +660,8 @@ mod tests {
     #[test]
     fn all_rows_are_made() {
         assert_eq!(rows(0).count(), 1);
-        assert_eq!(rows(2).count(), 1 + 31 + 31 * 31);
+        assert_eq!(rows(2).count(), 1 + 33 + 33 * 33);
         // nothing goes on behind all but a quote, a parenthesis and an ftnot
-        assert_eq!(rows_that_go_on(2).count(), 1 + 31 + 3 * 31);
+        assert_eq!(rows_that_go_on(2).count(), 1 + 33 + 3 * 33);
     }
 }

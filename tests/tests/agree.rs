@@ -8,33 +8,47 @@ mod proved;
 mod words;
 
 use proved::Proved;
-use second_engine::{hunt, Engine};
+use second_engine::{hunt, hunt_occurs, Engine};
 use std::time::Instant;
 
 fn engine() -> impl Engine {
     Proved
 }
 
-/// Cases of a seed agree: 100,000 in both tests below in release, fewer without optimisation; or as the environment says:
+/// Looks for a case of a seed on which an engine fails.
+type Hunt = fn(&dyn Engine, u64, usize) -> Result<(), String>;
+
+/// Half of the cases of a seed agree: so many in release, fewer without optimisation; or as the environment says:
 /// `CASES=1000000 SEED=7 cargo test ...`.
-fn agree(test: u64) {
+fn agree(hunt: Hunt, name: &str, all: u64, half: u64) {
     let number = |variable: &str| std::env::var(variable).ok().and_then(|text| text.parse().ok());
-    let count = number("CASES").unwrap_or(if cfg!(debug_assertions) { 5_000 } else { 100_000 }) / 2;
-    let seed = number("SEED").unwrap_or(1) * 2 + test;
+    let count = number("CASES").unwrap_or(if cfg!(debug_assertions) { all / 20 } else { all }) / 2;
+    let seed = number("SEED").unwrap_or(1) * 2 + half;
     let begun = Instant::now();
     if let Err(wrong) = hunt(&engine(), seed, count as usize) {
         panic!("{wrong}");
     }
-    println!("seed {seed}: {count} cases agree, {:?}", begun.elapsed());
+    println!("seed {seed}: {count} {name} agree, {:?}", begun.elapsed());
 }
 
 #[test]
 fn random_cases() {
-    agree(0);
+    agree(hunt, "cases", 100_000, 0);
 }
 
 /// As many more: the two run side by side.
 #[test]
 fn more_random_cases() {
-    agree(1);
+    agree(hunt, "cases", 100_000, 1);
+}
+
+/// Occurs in every place where it may stand: 200,000 cases in this test and the next.
+#[test]
+fn random_cases_with_an_occurs() {
+    agree(hunt_occurs, "cases with an occurs", 200_000, 0);
+}
+
+#[test]
+fn more_random_cases_with_an_occurs() {
+    agree(hunt_occurs, "cases with an occurs", 200_000, 1);
 }

@@ -29,7 +29,7 @@ fn any_length(rng: &mut Rng) -> usize {
 
 /// Any bytes at all, or only those of which a text may be made.
 fn bytes(rng: &mut Rng) -> Vec<u8> {
-    let some = b"\"\"()  0123456789abcdefinortw";
+    let some = b"\"\"()  0123456789abcdefimnorstuw";
     let all = rng.chance(1, 2);
     (0..any_length(rng)).map(|_| if all { rng.below(256) as u8 } else { rng.pick(some) }).collect()
 }
@@ -55,9 +55,10 @@ fn tokens(rng: &mut Rng) -> Vec<u8> {
     joined(rng, &words)
 }
 
-/// A search that is right, of the codes of a random case.
+/// A search that is right, of the codes of a random case, at times of one that has an occurs.
 fn right(rng: &mut Rng, seed: u64, index: usize) -> Vec<u8> {
-    match selection::read_shape(&gen::case(seed, index).selection) {
+    let case = if rng.chance(1, 4) { gen::occurs_case(seed, index) } else { gen::case(seed, index) };
+    match selection::read_shape(&case.selection) {
         Ok(tree) => {
             let words = typed_gen::spelled(rng, &tree);
             joined(rng, &words)

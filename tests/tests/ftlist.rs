@@ -30,6 +30,18 @@ fn the_papers_text() {
     assert_eq!(printed(&text::bytes(&six_tokens(), &selection)), wanted);
 }
 
+/// A line for each choice of an occurs, the empty one among them; and its refusal.
+#[test]
+fn occurs() {
+    let section = plain(&[5, 5]);
+    let found = agrees(&text::bytes(&section, &word(5).occurs_at_least(0).numbers()), "at least 0 of 2");
+    assert_eq!(found, "yes 4 4\n.\n+1-1 q1 c\n+2-2 q1 c\n+1-1 q1 c +2-2 q1 c\n");
+    let found = agrees(&text::bytes(&section, &word(5).occurs(0, 0).and(word(6)).numbers()), "and nothing");
+    assert_eq!(found, "no 0 0\n");
+    let found = agrees(&text::bytes(&section, &word(5).not().occurs_at_least(0).numbers()), "over a not");
+    assert_eq!(found, "refused 12 4\n");
+}
+
 /// "Over 65,536 bytes, or a count not divisible by 4, prints `refused 1 0`".
 #[test]
 fn long_inputs() {

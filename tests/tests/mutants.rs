@@ -5,25 +5,39 @@
 use second_engine::engine::{check, RuleBook};
 use second_engine::rules::{self, agree, join, span_distance, units, Str};
 use second_engine::section::{self, Section};
-use second_engine::selection::{self, Rule, Tree, Unit};
+use second_engine::selection::{self, Code, Occurs, Rule, Tree, Unit};
 use second_engine::shrink::{as_rust, shrink, shrink_typed, typed_as_rust};
-use second_engine::sizes::{Limits, Size};
-use second_engine::typed::{self, Act, Filter, Move, Operator, Pair, Reader, Sign, Sort, State, Token};
+use second_engine::sizes::{self, Limits, Size};
+use second_engine::typed::{self, Act, Form, Move, Operator, Pair, Reader, Sign, Sort, State, Token};
 use second_engine::{
-    cases, compare, compare_typed, engine, hunt_typed, typed_cases, AllMatches, Engine, Listing, Match, Quick, Refusal,
-    SecondEngine, TypedCase, BUFFER, WORK,
+    cases, compare, compare_typed, engine, hunt_typed, occurs_cases, typed_cases, AllMatches, Case, Engine, Listing,
+    Match, Quick, Refusal, SecondEngine, TypedCase, BUFFER, WORK,
 };
 use std::slice::from_ref;
 
 /// Within how many cases each mistake must be found.
 const MOST: usize = 100_000;
 
+/// Within how many that have an occurs each mistake about it must be found.
+const MOST_OCCURS: usize = 10_000;
+
 #[test]
 fn every_mistake_is_found() {
-    let mut late = vec![];
     println!("cases  mistake");
-    for (name, mutant) in all() {
-        let found = cases(1, MOST).position(|case| compare(&*mutant, &case).is_err());
+    all_are_found(all(), || cases(1, MOST));
+}
+
+#[test]
+fn every_mistake_about_occurs_is_found() {
+    println!("cases with an occurs  mistake");
+    all_are_found(all_about_occurs(), || occurs_cases(1, MOST_OCCURS));
+}
+
+/// Some case finds each of the mistakes.
+fn all_are_found<C: Iterator<Item = Case>>(mutants: Vec<(&str, Box<dyn Engine>)>, cases: impl Fn() -> C) {
+    let mut late = vec![];
+    for (name, mutant) in mutants {
+        let found = cases().position(|case| compare(&*mutant, &case).is_err());
         match found {
             Some(index) => println!("{:6} {name}", index + 1),
             None => {
@@ -42,7 +56,7 @@ fn found_cases_shrink() {
     // without optimisation, some of them are enough
     let some = if cfg!(debug_assertions) { 10 } else { 1 };
     for (name, mutant) in all().into_iter().step_by(some) {
-        let fails = |case: &second_engine::Case| compare(&*mutant, case).is_err();
+        let fails = |case: &Case| compare(&*mutant, case).is_err();
         let Some(case) = cases(2, 3_000).find(|case| fails(case)) else { continue };
         let small = shrink(&case, &fails);
         assert!(fails(&small), "{name}");
@@ -72,13 +86,31 @@ fn a_hunt_ends_with_a_test() {
 #[test]
 fn shrunk_cases_are_small() {
     let merged = with(|book| book.window = window_merged);
-    let fails = |case: &second_engine::Case| compare(&merged, case).is_err();
+    let fails = |case: &Case| compare(&merged, case).is_err();
     let case = cases(5, MOST).find(|case| fails(case)).unwrap();
     let small = shrink(&case, &fails);
     // one token, its word, a window of two
     assert_eq!(small.section, [1, 0, 0]);
     assert_eq!(small.selection, [3, 0, 1, 7, 0, 1, 2]);
     assert_eq!((small.work_len, small.buffer), (WORK, vec![0; BUFFER]));
+}
+
+/// So are those of an occurs.
+#[test]
+fn shrunk_occurs_are_small() {
+    let shrunk = |mutant: SecondEngine| {
+        let fails = |case: &Case| compare(&mutant, case).is_err();
+        let case = occurs_cases(5, MOST_OCCURS).find(|case| fails(case)).unwrap();
+        shrink(&case, &fails)
+    };
+    // two tokens, their word, at least 0
+    let reversed = shrunk(with(|book| book.at_least = at_least_reversed));
+    assert_eq!(reversed.section, [2, 0, 0, 0, 0]);
+    assert_eq!(reversed.selection, [3, 0, 1, 17, 0, 1, 0]);
+    // one token, its word, from 0 to 0
+    let without_not = shrunk(with(|book| book.from_to = |list, a, _| rules::at_least(list, a)));
+    assert_eq!(without_not.section, [1, 0, 0]);
+    assert_eq!(without_not.selection, [3, 0, 1, 16, 0, 1, 0]);
 }
 
 /// Engines with one mistake each, by name.
@@ -91,6 +123,16 @@ fn all() -> Vec<(&'static str, Box<dyn Engine>)> {
     mutants_of_sizes(&mut list);
     mutants_of_calls(&mut list);
     mutants_of_checks(&mut list);
+    list.0.extend(all_about_occurs());
+    list.0
+}
+
+fn all_about_occurs() -> Vec<(&'static str, Box<dyn Engine>)> {
+    let mut list = Mutants(vec![]);
+    mutants_of_at_least(&mut list);
+    mutants_of_from_to(&mut list);
+    mutants_of_occurs_calls(&mut list);
+    mutants_of_occurs_checks(&mut list);
     list.0
 }
 
@@ -738,13 +780,389 @@ fn mutants_of_sizes(list: &mut Mutants) {
             let matches = list.iter().fold(1u32, |product, m| product.wrapping_mul(m.strings() as u32));
             let size = Size { matches: matches.into(), strings: matches.wrapping_mul(list.len() as u32).into() };
             // only the answer is wanted, not the list: a wrapped product has no list that could be made
-            if size == second_engine::sizes::not(list) {
+            if size == sizes::not(list) {
                 size
             } else {
                 Size { matches: 0, strings: 0 }
             }
         }
     });
+}
+
+// Occurs
+
+/// The right choices, in another order.
+fn at_least_by<K: Ord>(list: &[Match], a: u32, key: impl Fn(&[u32]) -> K) -> AllMatches {
+    let mut choices = rules::at_least(list, a);
+    choices.sort_by_key(|m| key(&m.includes.iter().map(|s| s.start).collect::<Vec<u32>>()));
+    choices
+}
+
+/// Equal sizes in the other order.
+fn at_least_reversed(list: &[Match], a: u32) -> AllMatches {
+    at_least_by(list, a, |starts| (starts.len(), std::cmp::Reverse(starts.to_vec())))
+}
+
+fn mutants_of_at_least(list: &mut Mutants) {
+    list.book("at least: largest first", |book| {
+        book.at_least = |list, a| at_least_by(list, a, |starts| (usize::MAX - starts.len(), starts.to_vec()))
+    });
+    list.book("at least: equal sizes in the other order", |book| book.at_least = at_least_reversed);
+    list.book("at least: equal sizes by their last difference", |book| {
+        book.at_least = |list, a| {
+            let backwards = |starts: &[u32]| starts.iter().rev().copied().collect::<Vec<u32>>();
+            at_least_by(list, a, |starts| (starts.len(), backwards(starts)))
+        }
+    });
+    list.book("at least: by position, whatever the size", |book| {
+        book.at_least = |list, a| at_least_by(list, a, <[u32]>::to_vec)
+    });
+    list.book("at least: the empty choice left out", |book| book.at_least = |list, a| rules::at_least(list, a.max(1)));
+    list.book("at least: the empty choice last", |book| {
+        book.at_least = |list, a| at_least_by(list, a, |starts| (starts.is_empty(), starts.len(), starts.to_vec()))
+    });
+    list.book("at least: read as exactly", |book| {
+        book.at_least = |list, a| kept(&rules::at_least(list, a), |m| m.includes.len() == a as usize)
+    });
+    list.book("at least: read as more than", |book| book.at_least = |list, a| rules::at_least(list, a + 1));
+    list.book("at least: of more than there are all", |book| {
+        book.at_least = |list, a| rules::at_least(list, a.min(list.len() as u32))
+    });
+    list.book("at least: the finds themselves, if they are enough", |book| {
+        book.at_least = |list, a| if list.len() >= a as usize { list.to_vec() } else { vec![] }
+    });
+    list.book("at least: neighbours alone are chosen", |book| {
+        book.at_least = |list, a| {
+            let rank = |s: &Str| list.iter().position(|m| m.includes[0] == *s);
+            let next = |pair: &[Str]| rank(&pair[0]).map(|at| at + 1) == rank(&pair[1]);
+            kept(&rules::at_least(list, a), |m| m.includes.windows(2).all(next))
+        }
+    });
+    list.book("at least: no choice of finds that overlap", |book| {
+        book.at_least =
+            |list, a| kept(&rules::at_least(list, a), |m| m.includes.windows(2).all(|pair| pair[0].end < pair[1].start))
+    });
+    list.book("at least: joined as by a window", |book| {
+        book.at_least = |list, a| {
+            let joined = |m: Match| Match { includes: join(&m.includes).into_iter().collect(), ..m };
+            rules::at_least(list, a).into_iter().map(joined).collect()
+        }
+    });
+    list.book("at least: the last chosen ahead", |book| {
+        book.at_least = |list, a| {
+            let mut choices = rules::at_least(list, a);
+            choices.iter_mut().for_each(|m| m.includes.reverse());
+            choices
+        }
+    });
+    list.book("at least: choices that wrap round in 32 bits", |book| {
+        book.size_of_at_least = |finds, a| match sizes::at_least(finds, a) {
+            size if size.matches > u128::from(u32::MAX) => Size { matches: 0, strings: 0 },
+            size => size,
+        };
+        // only the answer is wanted: so many choices can't be made
+        book.at_least = |list, a| match sizes::at_least(list.len(), a).matches {
+            0..=4_096 => rules::at_least(list, a),
+            _ => vec![],
+        }
+    });
+}
+
+fn mutants_of_from_to(list: &mut Mutants) {
+    list.book("from to: without its not", |book| book.from_to = |list, a, _| rules::at_least(list, a));
+    list.book("from to: the not of at least b", |book| {
+        book.from_to = |list, a, b| rules::and(&rules::at_least(list, a), &rules::not(&rules::at_least(list, b)))
+    });
+    list.book("from to: the not of at least b + 2", |book| {
+        book.from_to = |list, a, b| rules::and(&rules::at_least(list, a), &rules::not(&rules::at_least(list, b + 2)))
+    });
+    list.book("from to: the not of just b + 1", |book| {
+        book.from_to = |list, a, b| {
+            let just = kept(&rules::at_least(list, b + 1), |m| m.includes.len() == b as usize + 1);
+            rules::and(&rules::at_least(list, a), &rules::not(&just))
+        }
+    });
+    list.book("from to: the choices of a to b, nothing left out", |book| {
+        book.from_to = |list, a, b| kept(&rules::at_least(list, a), |m| m.includes.len() <= b as usize)
+    });
+    list.book("from to: the choices of a to b, the others left out", |book| {
+        book.from_to = |list, a, b| kept(&rules::from_to(list, a, b), |m| m.includes.len() <= b as usize)
+    });
+    list.book("from to: just a", |book| {
+        book.from_to = |list, a, b| kept(&rules::from_to(list, a, b), |m| m.includes.len() == a as usize)
+    });
+    list.book("from to: the not on the left", |book| {
+        book.from_to = |list, a, b| rules::and(&rules::not(&rules::at_least(list, b + 1)), &rules::at_least(list, a))
+    });
+    list.book("from to: largest first", |book| {
+        book.from_to = |list, a, b| {
+            let mut largest = rules::from_to(list, a, b);
+            largest.sort_by_key(|m| usize::MAX - m.includes.len());
+            largest
+        }
+    });
+    list.book("from to: a string left out twice stays once", |book| {
+        book.from_to = |list, a, b| {
+            excludes(rules::from_to(list, a, b), |excludes| {
+                let mut seen = vec![];
+                excludes.retain(|e| {
+                    !seen.contains(e) && {
+                        seen.push(*e);
+                        true
+                    }
+                });
+            })
+        }
+    });
+    list.book("from to: empty where there are more than b", |book| {
+        book.from_to = |list, a, b| if list.len() > b as usize { vec![] } else { rules::at_least(list, a) }
+    });
+    list.book("from to: the empty choice left out", |book| {
+        book.from_to = |list, a, b| rules::from_to(list, a.max(1), b.max(1))
+    });
+    list.book("from to: only at least a measured", |book| {
+        book.size_of_from_to = |finds, a, _| sizes::at_least(finds, a);
+        book.from_to = |list, a, b| match sizes::from_to(list.len(), a, b).matches {
+            0..=4_096 => rules::from_to(list, a, b),
+            _ => rules::at_least(list, a),
+        }
+    });
+}
+
+/// What a walk does with an occurs itself, and the right one with all else.
+type WalkOccurs = fn(&Section, &Tree, Occurs) -> Result<(bool, usize), Refusal>;
+
+fn walk_occurs(at: WalkOccurs, section: &Section, tree: &Tree) -> Result<(bool, usize), Refusal> {
+    let decisive = tree.rule == Rule::Or;
+    match (&tree.rule, &tree.below[..]) {
+        (Rule::Occurs(occurs), _) => at(section, tree, *occurs),
+        (Rule::Not, [side]) => walk_occurs(at, section, side).map(|(yes, codes)| (!yes, 1 + codes)),
+        (Rule::Or | Rule::And, [left, right]) => match walk_occurs(at, section, left)? {
+            (yes, codes) if yes == decisive => Ok((yes, 1 + codes)),
+            (_, codes) => walk_occurs(at, section, right).map(|(yes, more)| (yes, 1 + codes + more)),
+        },
+        _ => RuleBook::paper().walk(section, tree),
+    }
+}
+
+/// How many finds the phrase under an occurs has.
+fn finds(section: &Section, occurs: &Tree) -> usize {
+    let Rule::Phrase { words, query } = &occurs.below[0].rule else { panic!("an occurs is over a phrase") };
+    rules::phrase(section, words, *query).len()
+}
+
+/// Yes or no by the number of finds alone.
+fn by_counting(section: &Section, tree: &Tree, occurs: Occurs) -> bool {
+    let finds = finds(section, tree) as u32;
+    match occurs {
+        Occurs::AtLeast(a) => finds >= a,
+        Occurs::FromTo(a, b) => (a..=b).contains(&finds),
+    }
+}
+
+fn mutants_of_occurs_calls(list: &mut Mutants) {
+    list.quick("quick: an occurs by counting, nothing measured", |section, selection, work| {
+        walked(section, selection, work, |section, tree| {
+            walk_occurs(|section, tree, occurs| Ok((by_counting(section, tree, occurs), 2)), section, tree)
+        })
+    });
+    list.quick("quick: an occurs by counting, the phrase measured", |section, selection, work| {
+        walked(section, selection, work, |section, tree| {
+            let counted: WalkOccurs = |section, tree, occurs| {
+                RuleBook::paper().build(section, &tree.below[0])?;
+                Ok((by_counting(section, tree, occurs), 2))
+            };
+            walk_occurs(counted, section, tree)
+        })
+    });
+    list.quick("quick: the phrase of an occurs isn't measured", |section, selection, work| {
+        walked(section, selection, work, |section, tree| {
+            let at_the_occurs: WalkOccurs = |section, tree, _| match finds(section, tree) {
+                0..=256 => RuleBook::paper().walk(section, tree),
+                _ => Err(Refusal::new(9, tree.place)),
+            };
+            walk_occurs(at_the_occurs, section, tree)
+        })
+    });
+    list.quick("quick: the phrase of an occurs isn't counted", |section, selection, work| {
+        walked(section, selection, work, |section, tree| {
+            let one: WalkOccurs = |section, tree, _| Ok((RuleBook::paper().walk(section, tree)?.0, 1));
+            walk_occurs(one, section, tree)
+        })
+    });
+    list.quick("quick: an occurs is yes if its list isn't empty", |section, selection, work| {
+        walked(section, selection, work, |section, tree| {
+            let filled: WalkOccurs = |section, tree, _| Ok((!RuleBook::paper().build(section, tree)?.is_empty(), 2));
+            walk_occurs(filled, section, tree)
+        })
+    });
+    list.listing("listing: the phrase of an occurs isn't measured", |section, selection, work, buffer| {
+        match engine::listing(section, selection, work, buffer) {
+            Listing::Refused { number: 9, place } => {
+                let above = kinds_and_operands(selection).find(|(at, _, _)| *at == place as usize + 1);
+                let below = selection[place as usize] == 1 && above.is_some_and(|(_, kind, _)| is_occurs(kind));
+                Listing::Refused { number: 9, place: place + u32::from(below) }
+            }
+            other => other,
+        }
+    });
+}
+
+/// The selection with other kinds, and operands that fit them, where its length is right.
+fn with_codes(selection: &[u32], change: impl Fn(Code, Option<u32>) -> Code) -> Vec<u32> {
+    let m = selection.first().map_or(0, |&m| m as usize);
+    if selection.len() != 1 + 2 * m {
+        return selection.to_vec();
+    }
+    let code = |at: usize| Code { kind: selection[at], operand: selection[at + m] };
+    let before = |at: usize| (at > 1).then(|| selection[at - 1]);
+    let codes: Vec<Code> = (1..=m).map(|at| change(code(at), before(at))).collect();
+    selection::numbers(&codes)
+}
+
+fn is_occurs(kind: u32) -> bool {
+    [16, 17].contains(&kind)
+}
+
+/// Every occurs that isn't over a phrase as a code that takes its place: a not for kind 16, a filter for kind 17.
+fn without_twelve(selection: &[u32]) -> Vec<u32> {
+    with_codes(selection, |code, before| match code.kind {
+        16 if before != Some(1) => Code { kind: 4, operand: 0 },
+        17 if before != Some(1) => Code { kind: 6, operand: 0 },
+        _ => code,
+    })
+}
+
+/// The occurs of a selection that aren't over a phrase.
+fn not_over_a_phrase(selection: &[u32]) -> Vec<usize> {
+    let over = |at: usize| at > 1 && selection[at - 1] == 1;
+    kinds_and_operands(selection).filter(|(at, kind, _)| is_occurs(*kind) && !over(*at)).map(|(at, _, _)| at).collect()
+}
+
+fn mutants_of_occurs_checks(list: &mut Mutants) {
+    list.refusing("checks: kind 16 unknown", |section, selection, _, _| unknown(section, selection, 16));
+    list.refusing("checks: kind 17 unknown", |section, selection, _, _| unknown(section, selection, 17));
+    list.repairing_selection("checks: kind 18 known", |selection| {
+        with_codes(selection, |code, _| if code.kind == 18 { Code { kind: 6, operand: 0 } } else { code })
+    });
+    list.repairing_selection("checks: at least 4,096 accepted", |selection| {
+        with_codes(selection, |code, _| match (code.kind, code.operand) {
+            (17, 4_096) => Code { operand: 4_095, ..code },
+            _ => code,
+        })
+    });
+    list.refusing("checks: at least 4,095 refused", |section, selection, _, _| {
+        refused_operand(section, selection, |kind, operand| kind == 17 && operand == 4_095)
+    });
+    list.refusing("checks: at least 0 refused", |section, selection, _, _| {
+        refused_operand(section, selection, |kind, operand| kind == 17 && operand == 0)
+    });
+    list.repairing_selection("checks: at least by 16 bits", |selection| {
+        with_codes(selection, |code, _| match code.kind {
+            17 => Code { operand: code.operand & 0xFFFF, ..code },
+            _ => code,
+        })
+    });
+    list.repairing_selection("checks: occurs to 4,096 accepted", |selection| {
+        with_codes(selection, |code, _| match (code.kind, code.operand >> 16, code.operand & 0xFFFF) {
+            (16, 0..=4_095, 4_096) => Code { operand: code.operand - 1, ..code },
+            _ => code,
+        })
+    });
+    list.refusing("checks: occurs to 4,095 refused", |section, selection, _, _| {
+        refused_operand(section, selection, |kind, operand| kind == 16 && operand & 0xFFFF == 4_095)
+    });
+    list.repairing_selection("checks: occurs a > b accepted", |selection| {
+        with_codes(selection, |code, _| match (code.kind, code.operand >> 16, code.operand & 0xFFFF) {
+            (16, a @ 0..=4_095, b) if a > b => Code { operand: b << 16 | b, ..code },
+            _ => code,
+        })
+    });
+    list.refusing("checks: occurs a = b refused", |section, selection, _, _| {
+        refused_operand(section, selection, |kind, operand| kind == 16 && operand >> 16 == operand & 0xFFFF)
+    });
+    list.repairing_selection("checks: 12 not found", |selection| match selection::read(selection) {
+        Err(Refusal { number: 12, .. }) => without_twelve(selection),
+        _ => selection.to_vec(),
+    });
+    list.repairing_selection("checks: an occurs over an occurs accepted", |selection| {
+        with_codes(selection, |code, before| match before {
+            Some(16 | 17) if is_occurs(code.kind) => Code { kind: 6, operand: 0 },
+            _ => code,
+        })
+    });
+    list.repairing_selection("checks: an occurs over a not accepted", |selection| {
+        with_codes(selection, |code, before| match before {
+            Some(4) if is_occurs(code.kind) => Code { kind: 6, operand: 0 },
+            _ => code,
+        })
+    });
+    list.refusing("checks: an occurs over a phrase of one word only", |section, selection, _, _| {
+        if let Some((1..=6 | 12, _)) = refusal(section, selection) {
+            return None;
+        }
+        let m = selection[0] as usize;
+        let long = |at: usize| selection[at - 1] == 1 && selection[at - 1 + m] > 1;
+        kinds_and_operands(selection).find(|(at, kind, _)| is_occurs(*kind) && long(*at)).map(|(at, _, _)| (12, at))
+    });
+    list.refusing("checks: 12 at the last such code", |section, selection, _, _| match refusal(section, selection) {
+        Some((12, _)) => not_over_a_phrase(selection).last().map(|at| (12, *at)),
+        _ => None,
+    });
+    list.refusing("checks: 12 at the code below", |section, selection, _, _| match refusal(section, selection) {
+        Some((12, place)) => Some((12, place - 1)),
+        _ => None,
+    });
+    list.refusing("checks: 12 tried after 7", |section, selection, _, _| match refusal(section, selection) {
+        Some((12, _)) => refusal(section, &without_twelve(selection)).filter(|(number, _)| *number == 7),
+        _ => None,
+    });
+    list.refusing("checks: 12 tried after 8", |section, selection, work, buffer| match refusal(section, selection) {
+        Some((12, _)) if refusal(section, &without_twelve(selection)).is_none() => {
+            (work < WORK || buffer.is_some_and(|length| length < BUFFER)).then_some((8, 0))
+        }
+        _ => None,
+    });
+    list.refusing("checks: 12 tried before 6", |section, selection, _, _| match refusal(section, selection) {
+        Some((6, _)) => not_over_a_phrase(selection).first().map(|at| (12, *at)),
+        _ => None,
+    });
+    list.refusing("checks: 12 tried before 5", |section, selection, _, _| match refusal(section, selection) {
+        Some((5, _)) => not_over_a_phrase(selection).first().map(|at| (12, *at)),
+        _ => None,
+    });
+    list.repairing_selection("checks: kind 16 is no not", |selection| match selection::read(selection) {
+        Err(Refusal { number: 7, .. }) => with_codes(selection, |code, _| match code.kind {
+            16 => Code { kind: 17, operand: 0 },
+            _ => code,
+        }),
+        _ => selection.to_vec(),
+    });
+    list.refusing("checks: kind 17 is a not", |section, selection, _, _| {
+        let as_a_range = |code: Code, _| if code.kind == 17 { Code { kind: 16, operand: 4_095 } } else { code };
+        match refusal(section, selection) {
+            None => refusal(section, &with_codes(selection, as_a_range)),
+            _ => None,
+        }
+    });
+}
+
+/// Refusal 4 of a kind, if no other comes before it.
+fn unknown(section: &[u32], selection: &[u32], unknown: u32) -> Option<(u32, usize)> {
+    let found = |kind: u32| kind == unknown || kind >= 18;
+    match refusal(section, selection) {
+        Some((1..=3, _)) => None,
+        _ => kinds_and_operands(selection).find(|(_, kind, _)| found(*kind)).map(|(at, _, _)| (4, at)),
+    }
+}
+
+/// Refusal 5 of an operand that the table has, if no other comes before it.
+fn refused_operand(section: &[u32], selection: &[u32], of: fn(u32, u32) -> bool) -> Option<(u32, usize)> {
+    let wrong = |kind, operand| of(kind, operand) || !selection::operand_in_table(Code { kind, operand });
+    match refusal(section, selection) {
+        Some((1..=4, _)) => None,
+        _ => kinds_and_operands(selection).find(|(_, kind, operand)| wrong(*kind, *operand)).map(|(at, _, _)| (5, at)),
+    }
 }
 
 // The calls
@@ -1051,7 +1469,7 @@ fn mutants_of_checks(list: &mut Mutants) {
     list.refusing("checks: 4 and 5 in one scan", |section, selection, _, _| {
         let (4 | 5, _) = refusal(section, selection)? else { return None };
         kinds_and_operands(selection).find_map(|(at, kind, operand)| match kind {
-            16.. => Some((4, at)),
+            18.. => Some((4, at)),
             _ => (!selection::operand_in_table(selection::Code { kind, operand })).then_some((5, at)),
         })
     });
@@ -1068,7 +1486,7 @@ fn mutants_of_checks(list: &mut Mutants) {
         let m = selection.first().map_or(0, |&m| m as usize);
         if selection.len() == 1 + 2 * m {
             for at in 1..=m {
-                if selection[at] >= 9 {
+                if (9..=15).contains(&selection[at]) {
                     repaired[at + m] = 0;
                 }
             }
@@ -1137,7 +1555,10 @@ fn mutants_of_checks(list: &mut Mutants) {
     });
     list.refusing("checks: the place of the not, not of the mild not", |section, selection, _, _| {
         match refusal(section, selection) {
-            Some((7, _)) => kinds_and_operands(selection).find(|(_, kind, _)| *kind == 4).map(|(at, _, _)| (7, at)),
+            Some((7, _)) => {
+                let not = |kind: u32| [4, 16].contains(&kind);
+                kinds_and_operands(selection).find(|(_, kind, _)| not(*kind)).map(|(at, _, _)| (7, at))
+            }
             _ => None,
         }
     });
@@ -1336,19 +1757,19 @@ impl Mutants {
 fn all_typed() -> Vec<(&'static str, Box<dyn Engine>)> {
     let mut list = Mutants(vec![]);
     mutants_of_grammar(&mut list);
+    mutants_of_typed_occurs(&mut list);
     mutants_of_tokens(&mut list);
     mutants_of_text_errors(&mut list);
     mutants_of_typed_calls(&mut list);
     list.0
 }
 
-/// The reader with another operand for a filter.
+/// The reader with another operand for a filter or an occurs.
 fn other_operand(reader: &mut Reader, typed: &str, operand: fn(&[u32]) -> u32) {
     for step in &mut reader.moves {
-        if let Act::Filter(filter) = step.act {
-            if filter.typed == typed {
-                step.act = Act::Filter(Filter { operand, ..filter });
-            }
+        match &mut step.act {
+            Act::Filter(form) | Act::Occurs(form) if form.typed == typed => form.operand = operand,
+            _ => {}
         }
     }
 }
@@ -1389,11 +1810,11 @@ fn mutants_of_grammar(list: &mut Mutants) {
     });
     list.reader("typed: a ninth word is read", |reader| {
         reader.moves.push(Move::new(State::Phrase(8), Sign::Number, State::Phrase(9), Act::Word));
-        reader.moves.push(Move::new(State::Phrase(9), Sign::Quote, State::Behind, Act::Phrase));
+        reader.moves.push(Move::new(State::Phrase(9), Sign::Quote, State::Quoted, Act::Phrase));
     });
     list.reader("typed: seven words at most", |reader| reader.moves.retain(|step| step.to != State::Phrase(8)));
     list.reader("typed: an empty phrase", |reader| {
-        reader.moves.push(Move::new(State::Phrase(0), Sign::Quote, State::Behind, Act::Phrase));
+        reader.moves.push(Move::new(State::Phrase(0), Sign::Quote, State::Quoted, Act::Phrase));
     });
     list.reader("typed: at least to 4,096", |reader| {
         other_operand(reader, "distance at least N words", |n| n[0] * 65_536 + 4_096)
@@ -1407,8 +1828,77 @@ fn mutants_of_grammar(list: &mut Mutants) {
         other_operand(reader, "distance from N to N words", |n| n[0].min(n[1]) * 65_536 + n[0].max(n[1]))
     });
     list.reader("typed: the last word of a window may be missing", |reader| {
-        let short = Act::Filter(Filter { typed: "window N", kind: 7, operand: |n| n[0] });
+        let short = Act::Filter(Form { typed: "window N", kind: 7, operand: |n| n[0] });
         reader.moves.push(Move::new(State::Inside("window N"), Sign::End, State::Done, short));
+    });
+}
+
+fn mutants_of_typed_occurs(list: &mut Mutants) {
+    let occurs = |reader: &mut Reader, change: fn(&mut Move)| {
+        reader.moves.iter_mut().filter(|step| matches!(step.act, Act::Occurs(_))).for_each(change)
+    };
+    list.reader("typed: no occurs", |reader| reader.moves.retain(|step| step.sign != Sign::Keyword("occurs")));
+    list.reader("typed: occurs twice", |reader| occurs(reader, |step| step.to = State::Quoted));
+    list.reader("typed: an occurs ends its selection", |reader| occurs(reader, |step| step.to = State::Filtered));
+    list.reader("typed: occurs over all before it", |reader| {
+        occurs(reader, |step| {
+            if let Act::Occurs(form) = step.act {
+                step.act = Act::Filter(form);
+            }
+        })
+    });
+    list.reader("typed: occurs behind a parenthesis", |reader| {
+        let closing = reader.moves.iter_mut().filter(|step| step.sign == Sign::Close);
+        closing.for_each(|step| step.to = State::Quoted)
+    });
+    list.reader("typed: occurs behind a filter", |reader| {
+        let begins = Move::new(State::Filtered, Sign::Keyword("occurs"), State::Inside("occurs"), Act::Pass);
+        reader.moves.push(begins);
+    });
+    list.reader("typed: no filter behind an occurs", |reader| {
+        reader.moves.retain(|step| step.from != State::Behind || step.to != State::Filtered)
+    });
+    list.reader("typed: occurs at least to 4,095", |reader| {
+        occurs(reader, |step| {
+            if let Act::Occurs(Form { kind: 17, .. }) = step.act {
+                let range = |n: &[u32]| n[0] * 65_536 + 4_095;
+                step.act = Act::Occurs(Form { typed: "occurs at least N times", kind: 16, operand: range });
+            }
+        })
+    });
+    list.reader("typed: occurs at most is kind 17", |reader| {
+        occurs(reader, |step| match &mut step.act {
+            Act::Occurs(form) if form.typed == "occurs at most N times" => form.kind = 17,
+            _ => {}
+        })
+    });
+    list.reader("typed: occurs at most from 1", |reader| {
+        other_operand(reader, "occurs at most N times", |n| 65_536 + n[0])
+    });
+    list.reader("typed: occurs exactly from 0", |reader| other_operand(reader, "occurs exactly N times", |n| n[0]));
+    list.reader("typed: occurs from and to exchanged", |reader| {
+        other_operand(reader, "occurs from N to N times", |n| n[1] * 65_536 + n[0])
+    });
+    list.reader("typed: occurs from and to put in order", |reader| {
+        other_operand(reader, "occurs from N to N times", |n| n[0].min(n[1]) * 65_536 + n[0].max(n[1]))
+    });
+    list.reader("typed: times may be missing", |reader| {
+        let short = Act::Filter(Form { typed: "occurs at least N", kind: 17, operand: |n| n[0] });
+        reader.moves.push(Move::new(State::Inside("occurs at least N"), Sign::End, State::Done, short));
+    });
+    list.reader("typed: words for times", |reader| {
+        let act = Act::Occurs(Form { typed: "occurs at least N words", kind: 17, operand: |n| n[0] });
+        let words = Sign::Keyword("words");
+        reader.moves.push(Move::new(State::Inside("occurs at least N"), words, State::Behind, act));
+    });
+    list.reader("typed: times for words", |reader| {
+        let act = Act::Filter(Form { typed: "window N times", kind: 7, operand: |n| n[0] });
+        let times = Sign::Keyword("times");
+        reader.moves.push(Move::new(State::Inside("window N"), times, State::Filtered, act));
+    });
+    list.reader("typed: a number alone is exactly", |reader| {
+        let (begun, counted) = (State::Inside("occurs"), State::Inside("occurs exactly N"));
+        reader.moves.push(Move::new(begun, Sign::Number, counted, Act::Number));
     });
 }
 

@@ -1,8 +1,11 @@
 //! Random cases: what they hold, and that the second engine agrees with itself and with the unlimited lists on them.
 
 use second_engine::gen::{self, Case};
-use second_engine::selection::{self, Rule, Tree};
-use second_engine::{cases, engine, hunt, section, text, Listing, Quick, SecondEngine, BUFFER, WORK};
+use second_engine::section::Section;
+use second_engine::selection::{self, Occurs, Rule, Tree};
+use second_engine::{
+    cases, engine, hunt, hunt_occurs, occurs_cases, rules, section, text, Listing, Quick, SecondEngine, BUFFER, WORK,
+};
 use std::collections::BTreeMap;
 use std::time::Instant;
 
@@ -24,6 +27,16 @@ fn the_second_engine_agrees_with_itself() {
     println!("{count} cases in {:?}", begun.elapsed());
 }
 
+/// The same on cases that have an occurs.
+#[test]
+fn the_second_engine_agrees_with_itself_on_occurs() {
+    let (count, begun) = (how_many() / 5, Instant::now());
+    if let Err(wrong) = hunt_occurs(&SecondEngine::new(), number("SEED").unwrap_or(1), count) {
+        panic!("{wrong}");
+    }
+    println!("{count} cases with an occurs in {:?}", begun.elapsed());
+}
+
 /// A case depends on its seed and its index alone.
 #[test]
 fn cases_can_be_made_again() {
@@ -33,16 +46,44 @@ fn cases_can_be_made_again() {
     assert!(first[299] == gen::case(7, 299));
     let other: Vec<Case> = cases(8, 300).collect();
     assert!(first != other);
+    let occurs: Vec<Case> = occurs_cases(7, 300).collect();
+    assert!(occurs == occurs_cases(7, 300).collect::<Vec<_>>());
+    assert!(occurs[299] == gen::occurs_case(7, 299));
+    assert!(occurs != occurs_cases(8, 300).collect::<Vec<_>>());
+}
+
+/// How often what was met.
+type Met = BTreeMap<String, usize>;
+
+/// All that is needed was met once in 10,000 cases at least.
+fn often_enough(met: &Met, needed: Vec<String>, count: usize) {
+    for (what, times) in met {
+        println!("{times:7}  {what}");
+    }
+    assert!(count >= 20_000, "{count} cases are too few to judge by");
+    for what in needed {
+        let times = met.get(&what).copied().unwrap_or(0);
+        assert!(times * 10_000 >= count, "met only {times} times in {count}: {what}");
+    }
+}
+
+/// Does the selection have this kind anywhere, accepted or not?
+fn has_kind(selection: &[u32], wanted: impl Fn(&u32) -> bool) -> bool {
+    let m = selection.first().map_or(0, |&m| m as usize);
+    selection.get(1..=m).is_some_and(|kinds| kinds.iter().any(wanted))
 }
 
 /// Counts what the cases are about: every answer, refusal, kind and limit must be met, and often enough.
 #[test]
 #[cfg_attr(debug_assertions, ignore = "needs 100,000 cases")]
 fn cases_meet_everything() {
-    let mut met: BTreeMap<String, usize> = BTreeMap::new();
+    let mut met = Met::new();
     let mut meet = |what: String| *met.entry(what).or_insert(0) += 1;
     let count = how_many() / 5;
     for case in cases(2, count) {
+        if has_kind(&case.selection, |kind| [16, 17].contains(kind)) {
+            meet("an occurs".into());
+        }
         let mut buffer = case.buffer.clone();
         match second_engine::listing(&case.section, &case.selection, case.work_len, &mut buffer) {
             Listing::Refused { number, .. } => meet(format!("listing refused {number}")),
@@ -97,14 +138,13 @@ fn cases_meet_everything() {
         meet(format!("work {}", length(case.work_len, WORK)));
         meet(format!("buffer {}", length(case.buffer.len(), BUFFER)));
     }
-    for (what, times) in &met {
-        println!("{times:7}  {what}");
-    }
 
-    let mut needed: Vec<String> = (1..=9).map(|number| format!("listing refused {number}")).collect();
-    needed.extend((1..=9).map(|number| format!("quick refused {number}")));
-    needed.extend((1..=15).map(|kind| format!("kind {kind:2} without excludes")).filter(|what| !what.contains(" 4 ")));
-    needed.extend((2..=15).filter(|kind| *kind != 5).map(|kind| format!("kind {kind:2} with excludes")));
+    let mut needed: Vec<String> = REFUSALS.iter().map(|number| format!("listing refused {number}")).collect();
+    needed.extend(REFUSALS.iter().map(|number| format!("quick refused {number}")));
+    needed.extend((1..=17).map(|kind| format!("kind {kind:2} without excludes")).filter(|what| !what.contains(" 4 ")));
+    needed.extend((2..=16).filter(|kind| *kind != 5).map(|kind| format!("kind {kind:2} with excludes")));
+    needed.extend([16, 17].map(|kind| format!("kind {kind} empty")));
+    needed.extend([16, 17].map(|kind| format!("kind {kind} too large or unknown")));
     needed.extend((1..=8).map(|lists| format!("waiting {lists}")));
     let others = [
         "listed yes",
@@ -129,10 +169,91 @@ fn cases_meet_everything() {
         "buffer one more",
     ];
     needed.extend(others.map(String::from));
-    assert!(count >= 20_000, "{count} cases are too few to judge by");
-    for what in needed {
-        let times = met.get(&what).copied().unwrap_or(0);
-        assert!(times * 10_000 >= count, "met only {times} times in {count}: {what}");
+    often_enough(&met, needed, count);
+    // "each choice joined as and would": a phrase's matches have no excludes
+    assert!(!met.contains_key("kind 17 with excludes"));
+    let share = met["an occurs"] as f64 / count as f64;
+    assert!((0.2..0.3).contains(&share), "an occurs in {share} of all cases");
+}
+
+/// All refusals of the two calls.
+const REFUSALS: [u32; 10] = [1, 2, 3, 4, 5, 6, 7, 8, 9, 12];
+
+/// Counts where the occurs of those cases stand that all have one, over how many finds, and with which numbers.
+#[test]
+#[cfg_attr(debug_assertions, ignore = "needs 100,000 cases")]
+fn occurs_cases_meet_everything() {
+    let mut met = Met::new();
+    let mut meet = |what: String| *met.entry(what).or_insert(0) += 1;
+    let count = how_many() / 5;
+    for case in occurs_cases(2, count) {
+        // damage may have changed the kind or the size
+        if has_kind(&case.selection, |kind| [16, 17].contains(kind)) {
+            meet("an occurs".into());
+        }
+        let mut buffer = case.buffer.clone();
+        match second_engine::listing(&case.section, &case.selection, case.work_len, &mut buffer) {
+            Listing::Refused { number, .. } => meet(format!("listing refused {number}")),
+            Listing::Listed { yes, .. } => meet(format!("listed {yes}")),
+        }
+        match second_engine::quick(&case.section, &case.selection, case.work_len) {
+            Quick::Refused { number, .. } => meet(format!("quick refused {number}")),
+            Quick::Answered { yes, .. } => meet(format!("quick {yes}")),
+        }
+        if let (Ok(section), Ok(tree)) = (section::read(&case.section), selection::read(&case.selection)) {
+            about_occurs(&section, &tree, "alone", &mut meet);
+        }
+    }
+
+    let mut needed: Vec<String> = REFUSALS.iter().map(|number| format!("listing refused {number}")).collect();
+    needed.extend(REFUSALS.iter().map(|number| format!("quick refused {number}")));
+    for call in ["listed", "quick"] {
+        needed.extend([true, false].map(|yes| format!("{call} {yes}")));
+    }
+    for kind in [16, 17] {
+        let sides = if kind == 16 { vec![2, 3] } else { vec![2, 3, 5] };
+        needed.extend(sides.iter().map(|above| format!("kind {kind} on the left of kind {above}")));
+        needed.extend(sides.iter().map(|above| format!("kind {kind} on the right of kind {above}")));
+        needed.extend([4].into_iter().chain(6..=15).map(|above| format!("kind {kind} under kind {above}")));
+        needed.push(format!("kind {kind} alone"));
+        let finds = [0, 1, 2, 3, 7, 8, 22, 23, 255, 256, 257];
+        needed.extend(finds.map(|finds| format!("kind {kind} over {finds} finds")));
+        needed
+            .extend(["0", "below the finds", "the finds", "over the finds"].map(|a| format!("kind {kind}: a is {a}")));
+    }
+    needed.extend(["below the finds", "the finds", "over the finds"].map(|b| format!("kind 16: b is {b}")));
+    often_enough(&met, needed, count);
+    assert!(met["an occurs"] * 100 >= count * 95, "an occurs in {} of {count} cases", met["an occurs"]);
+}
+
+/// Every occurs of a tree: where it stands, and its numbers beside the finds of its phrase.
+fn about_occurs(section: &Section, tree: &Tree, place: &str, meet: &mut impl FnMut(String)) {
+    let kind = tree.rule.codes().last().expect("a rule has a code").kind;
+    for (index, side) in tree.below.iter().enumerate() {
+        let place = match (tree.below.len(), index) {
+            (2, 0) => format!("on the left of kind {kind}"),
+            (2, _) => format!("on the right of kind {kind}"),
+            _ => format!("under kind {kind}"),
+        };
+        about_occurs(section, side, &place, meet);
+    }
+    let Rule::Occurs(occurs) = tree.rule else { return };
+    let Rule::Phrase { words, query } = &tree.below[0].rule else { panic!("an occurs is over a phrase") };
+    let finds = rules::phrase(section, words, *query).len() as u32;
+    let beside = |number: u32| match number.cmp(&finds) {
+        _ if number == 0 => "0",
+        std::cmp::Ordering::Less => "below the finds",
+        std::cmp::Ordering::Equal => "the finds",
+        std::cmp::Ordering::Greater => "over the finds",
+    };
+    meet(format!("kind {kind} {place}"));
+    meet(format!("kind {kind} over {finds} finds"));
+    match occurs {
+        Occurs::AtLeast(a) => meet(format!("kind 17: a is {}", beside(a))),
+        Occurs::FromTo(a, b) => {
+            meet(format!("kind 16: a is {}", beside(a)));
+            meet(format!("kind 16: b is {}", beside(b)));
+        }
     }
 }
 

@@ -26,7 +26,7 @@ const GIVEN: [&str; 6] = ["words", "sentences", "paragraphs", "codes", "typed", 
 const NOISE: u32 = 0xEEEE_EEEE;
 
 /// Refusals of the calls.
-const REFUSALS: std::ops::RangeInclusive<u32> = 1..=11;
+const REFUSALS: std::ops::RangeInclusive<u32> = 1..=12;
 
 /// An example of the page: its line, and what follows each name.
 struct Example {
@@ -394,9 +394,9 @@ fn every_example() {
 #[test]
 fn every_rule_and_refusal_has_an_example() {
     let (examples, kinds) = (examples(), kinds());
-    assert!(kinds.iter().map(|(kind, _)| *kind).eq(1..=15), "{kinds:?}");
+    assert!(kinds.iter().map(|(kind, _)| *kind).eq(1..=17), "{kinds:?}");
     assert!(examples.len() >= kinds.len() + REFUSALS.count(), "{} examples", examples.len());
-    for kind in 0..=15 {
+    for kind in 0..=17 {
         assert!(examples.iter().any(|example| example.kinds_listed().contains(&kind)), "kind {kind}");
     }
     for number in REFUSALS {
@@ -424,7 +424,8 @@ fn the_limits_are_stated() {
     assert_eq!(limit("bytes of a typed search"), MOST_BYTES);
     assert_eq!(limit("a word number in it"), MOST_WORD as usize);
     assert_eq!(limit("another number in it"), MOST_NUMBER as usize);
-    for (what, kind) in [("a window's N", 7), ("a distance's a and b", 8)] {
+    let operands = [("a window's N", 7), ("a distance's a and b", 8), ("an occurs' a and b", 16), ("an occurs' a", 17)];
+    for (what, kind) in operands {
         let fits = |operand: usize| operand_in_table(Code { kind, operand: operand as u32 });
         assert!(fits(limit(what)) && !fits(limit(what) + 1), "{what}");
     }

@@ -4,6 +4,7 @@ mod examples;
 mod words;
 
 use examples::*;
+use second_engine::sizes::Size;
 use second_engine::{engine as second, text, Engine, Listing, SecondEngine};
 
 fn engine() -> impl Engine {
@@ -72,4 +73,28 @@ fn astronomical() {
     let lists = second::unlimited_lists(&some, &not.numbers()).unwrap();
     assert_eq!(lists.last().unwrap().size.unwrap().matches, 1 << 120);
     assert_eq!(lists.last().unwrap().size.unwrap().strings, 120 << 120);
+}
+
+/// So are the choices of an occurs, of phrases that the calls don't build as well.
+#[test]
+fn astronomical_occurs() {
+    let size = |finds: usize, selection: Selection| {
+        let lists = second::unlimited_lists(&plain(&vec![5; finds]), &selection.numbers()).unwrap();
+        let Size { matches, strings } = lists[1].size.unwrap();
+        (matches, strings, lists[1].list.is_some())
+    };
+    let top = u128::MAX;
+    assert_eq!(size(256, word(5).occurs_at_least(0)), (top, top, false));
+    assert_eq!(size(120, word(5).occurs_at_least(0)), (1 << 120, 60 << 120, false));
+    assert_eq!(size(4_096, word(5).occurs_at_least(1)), (top, top, false));
+    assert_eq!(size(4_096, word(5).occurs_at_least(4_095)), (4_097, 4_096 * 4_096, false));
+    assert_eq!(size(4_095, word(5).occurs_at_least(4_095)), (1, 4_095, true));
+    assert_eq!(size(4_094, word(5).occurs_at_least(4_095)), (0, 0, true));
+    assert_eq!(size(256, word(5).occurs(0, 0)), (top, top, false));
+    assert_eq!(size(256, word(5).occurs(256, 4_095)), (1, 256, true));
+    assert_eq!(size(256, word(5).occurs(257, 257)), (0, 0, true));
+    // over the limits, and still made
+    assert_eq!(size(8, word(5).occurs_at_least(0)), (256, 1_024, true));
+    assert_eq!(size(3, word(5).occurs(1, 1)), (168, 960, true));
+    assert_eq!(size(140, word(5).occurs_at_least(139)), (141, 140 * 139 + 140, true));
 }

@@ -8,8 +8,8 @@ mod proved;
 mod words;
 
 use proved::exported;
-use second_engine::typed::{FILTERS, MOST_BYTES, SELECTION};
-use second_engine::{cases, BUFFER, WORK};
+use second_engine::typed::{FILTERS, MOST_BYTES, OCCURS, SELECTION};
+use second_engine::{cases, occurs_cases, BUFFER, WORK};
 use std::arch::asm;
 use words::examples::examples;
 use words::header::stated;
@@ -100,9 +100,13 @@ impl Most {
     }
 }
 
-/// What the walk builds or looks for: a phrase, every filter over one word and over two, a mild not.
+/// What the walk builds or looks for: a phrase, an occurs, every filter over one word and over two, a mild not.
 fn leaves() -> Vec<Selection> {
     let mut leaves = vec![word(10), phrase(&[10, 20]), word(10).mild_not(phrase(&[10, 20]))];
+    for a in 0..=3 {
+        leaves.push(word(10).occurs_at_least(a));
+        leaves.extend((a..=3).map(|b| word(10).occurs(a, b)));
+    }
     for kind in 6..=15 {
         let operand = [6, 2][usize::from(kind != 7)] * u32::from(kind == 7 || kind == 8);
         leaves.push(word(10).then(kind, operand));
@@ -110,6 +114,17 @@ fn leaves() -> Vec<Selection> {
         leaves.push(word(10).and(word(20).not()).then(kind, operand));
     }
     leaves
+}
+
+/// Occurs whose lists are at the limits, or just over them, with the finds that they are over.
+fn occurs_of_many() -> Vec<(Selection, usize)> {
+    let mut list = vec![];
+    for (finds, least) in [(7, 0), (8, 0), (8, 5), (22, 21), (23, 22), (256, 255), (256, 256), (256, 257), (257, 257)] {
+        list.push((word(10).occurs_at_least(least), finds));
+        list.push((word(10).occurs(least, 4_095), finds));
+    }
+    list.extend([(2, 1), (5, 4), (7, 6), (256, 255)].map(|(finds, most)| (word(10).occurs(most, most), finds)));
+    list
 }
 
 /// A leaf under as many codes as a selection has room for.
@@ -142,7 +157,13 @@ fn each_call_stays_within_the_stack_that_the_header_states() {
             most.of(&mut stack, &plain(&[]), &selection.numbers());
         }
     }
-    for case in cases(1, if cfg!(debug_assertions) { 1_000 } else { 20_000 }) {
+    for (leaf, finds) in occurs_of_many() {
+        for selection in [deepest(&leaf, |part| part.not()), deepest(&leaf, |part| part.not().or(word(10)))] {
+            most.of(&mut stack, &plain(&vec![10; finds]), &selection.numbers());
+        }
+    }
+    let count = if cfg!(debug_assertions) { 1_000 } else { 20_000 };
+    for case in cases(1, count).chain(occurs_cases(1, count)) {
         most.of(&mut stack, &case.section, &case.selection);
     }
     held(512, [("LISTING", most.listing), ("QUICK", most.quick), ("SNIPPET", most.snippet)]);
@@ -206,7 +227,7 @@ fn filled(open: &str, inside: &str, close: &str) -> String {
     open.repeat(depth) + inside + &close.repeat(depth)
 }
 
-/// What may stand in the deepest parenthesis, or can't: every filter and what begins it among them.
+/// What may stand in the deepest parenthesis, or can't: every filter and occurs and what begins it among them.
 fn insides() -> Vec<String> {
     let mut list: Vec<String> =
         ["", ")", "x", "1", "\"", "\"1", "\"1\"", "\"4294967295\"", "\"4294967296\"", "ftnot", "ftnot\"1\""]
@@ -217,8 +238,8 @@ fn insides() -> Vec<String> {
     let after_a_phrase =
         ["x", "ftor", "ftand", "not", "not in", "ftor\"2\"", "ftand\"2\"", "not in\"2\"", "window 4097"];
     list.extend(after_a_phrase.map(|rest| format!("\"1\"{rest}")));
-    for filter in FILTERS {
-        let words: Vec<&str> = filter.typed.split(' ').map(|word| if word == "N" { "4096" } else { word }).collect();
+    for form in FILTERS.into_iter().chain(OCCURS) {
+        let words: Vec<&str> = form.typed.split(' ').map(|word| if word == "N" { "4096" } else { word }).collect();
         list.extend((1..=words.len()).map(|count| format!("\"1\"{}", words[..count].join(" "))));
     }
     list
@@ -235,6 +256,7 @@ fn deepest_texts() -> Vec<String> {
     }
     for (open, close) in [("(", ")"), ("ftnot(", ")"), ("(", "ordered)"), ("(", "at end)"), ("(", "window 9 words)")] {
         list.push(filled(open, "\"1\"", close));
+        list.push(filled(open, "\"1\"occurs at most 9 times", close));
     }
     for left in operators {
         list.push(filled(&format!("\"1\"{left}("), "\"1\"", ""));

@@ -1,5 +1,5 @@
-//! Typed searches (request F-1) on the proved engine: its answers at every edge, and its agreement with the second engine on
-//! every text that is tried.
+//! Typed searches (request F-1, with F-3's occurs) on the proved engine: its answers at every edge, and its agreement with the
+//! second engine on every text that is tried.
 
 mod grammar;
 mod proved;
@@ -116,6 +116,13 @@ fn every_form() {
             ("\"1\" at end", &with(14, 0)),
             ("\"1\" entire content", &with(15, 0)),
             ("\"1\" ordered window 3 words at end", &[(0, 1), (1, 1), (6, 0), (7, 3), (14, 0)]),
+            ("\"1\" occurs exactly 3 times", &with(16, 3 * 65_536 + 3)),
+            ("\"1\" occurs at least 3 times", &with(17, 3)),
+            ("\"1\"occurs at least0times", &with(17, 0)),
+            ("\"1\" occurs at most 3 times", &with(16, 3)),
+            ("\"1\" occurs from 3 to 5 times", &with(16, 3 * 65_536 + 5)),
+            ("( \"1\" occurs exactly 0 times )", &with(16, 0)),
+            ("\"1 2\" occurs at least 4095 times at end", &[(0, 1), (0, 2), (1, 2), (17, 4_095), (14, 0)]),
         ],
     );
 }
@@ -149,6 +156,14 @@ fn what_binds_more() {
         ("\"1\" ftor \"2\" ftand \"3\" ordered", "w w w 3 2 6"),
         ("\"1\" ftand (\"2\" ordered)", "w w 6 3"),
         ("\"1\" ftor \"2\" ftand \"3\" not in \"4\" not in \"5\" ftand \"6\" ftor \"7\"", "w w w w 5 w 5 3 w 3 2 w 2"),
+        // an occurs belongs to its phrase
+        ("ftnot \"1\" occurs at least 2 times", "w 17 4"),
+        ("\"1\" ftor \"2\" occurs exactly 2 times", "w w 16 2"),
+        ("\"1\" occurs at most 2 times ftor \"2\"", "w 16 w 2"),
+        ("\"1\" ftand \"2\" occurs at least 2 times ftand \"3\"", "w w 17 3 w 3"),
+        ("\"1\" not in \"2\" occurs at least 2 times not in \"3\"", "w w 17 5 w 5"),
+        ("\"1\" occurs at least 2 times ordered window 2 words", "w 17 6 7"),
+        ("ftnot (\"1\" occurs from 1 to 2 times ftand ftnot \"2\") at start", "w 16 w 4 3 4 13"),
     ];
     for (text, wanted) in texts {
         assert_eq!(kinds(engine, text), wanted, "{text}");
@@ -214,6 +229,31 @@ fn what_the_grammar_does_not_allow() {
             ("\"a\"", 10, 2),
             ("\"W\"", 10, 2),
             ("\"1\" window N words", 10, 12),
+            // an occurs stands directly behind a phrase, once
+            ("(\"1\") occurs at least 1 times", 10, 7),
+            ("\"1\" occurs at least 1 times occurs at least 1 times", 10, 29),
+            ("\"1\" ordered occurs at least 1 times", 10, 13),
+            ("ftnot occurs at least 1 times", 10, 7),
+            ("occurs", 10, 1),
+            ("\"1 occurs", 10, 4),
+            ("\"1\" ftand occurs", 10, 11),
+            ("\"1\" times", 10, 5),
+            ("\"1\" occurs", 10, 11),
+            ("\"1\" occurs at", 10, 14),
+            ("\"1\" occurs at end", 10, 15),
+            ("\"1\" occurs 1 times", 10, 12),
+            ("\"1\" occurs \"1\" times", 10, 12),
+            ("\"1\" occurs least 1 times", 10, 12),
+            ("\"1\" occurs at least times", 10, 21),
+            ("\"1\" occurs at least 1", 10, 22),
+            ("\"1\" occurs at least 1 words", 10, 23),
+            ("\"1\" occurs at least 1 time", 10, 23),
+            ("\"1\" occurs at least 1 timess", 10, 23),
+            ("\"1\" occurs exactly 1 to 2 times", 10, 22),
+            ("\"1\" occurs from 1 times", 10, 19),
+            ("\"1\" occurs from 1 to times", 10, 22),
+            ("\"1\" occur at least 1 times", 10, 5),
+            ("\"1\" window 3 times", 10, 14),
             ("\"1 2 3 4 5 6 7 8 9\"", 10, 18),
             ("\"1 2 3 4 5 6 7 8 4294967296\"", 10, 18),
             ("4097", 10, 1),
@@ -240,8 +280,8 @@ fn numbers_at_their_edges() {
         assert_eq!(word(&"1".repeat(digits)), refused(11, 2));
         assert_eq!(word(&format!("1{}", "0".repeat(digits))), refused(11, 2));
     }
-    for form in ["window N words", "distance exactly N words", "distance at least N words", "distance at most N words"]
-    {
+    let forms = typed::FILTERS.iter().chain(&typed::OCCURS).map(|form| form.typed);
+    for form in forms.filter(|form| form.matches('N').count() == 1) {
         let text = |digits: &str| format!("\"1\" {}", form.replace('N', digits));
         let place = text("N").find('N').unwrap() + 1;
         for digits in ["0", "1", "4095", "4096", "0004096", "000000000000000000000000000000004096"] {
@@ -257,6 +297,9 @@ fn numbers_at_their_edges() {
             ("\"1\" distance from 4097 to 4097 words", 11, 19),
             ("\"1\" distance from 1 to 4097 words", 11, 24),
             ("\"1\" distance from 4097", 11, 19),
+            ("\"1\" occurs from 4097 to 4097 times", 11, 17),
+            ("\"1\" occurs from 1 to 4097 times", 11, 22),
+            ("\"1\" occurs from 4097", 11, 17),
             // "whichever token comes first"
             ("\"1\" window 4097", 11, 12),
             ("\"1\" window 4097 4097", 11, 12),
@@ -301,6 +344,18 @@ fn what_only_the_codes_are_refused_for() {
         ("\"1\" distance from 0 to 4096 words", 5, 3),
         ("\"1\" not in ftnot \"2\"", 7, 6),
         ("ftnot \"1\" not in \"2\"", 7, 6),
+        ("\"1\" occurs at least 4095 times", 0, 0),
+        ("\"1\" occurs at least 4096 times", 5, 3),
+        ("\"1\" occurs at most 4095 times", 0, 0),
+        ("\"1\" occurs at most 4096 times", 5, 3),
+        ("\"1\" occurs exactly 4095 times", 0, 0),
+        ("\"1\" occurs exactly 4096 times", 5, 3),
+        ("\"1\" occurs from 3 to 3 times", 0, 0),
+        ("\"1\" occurs from 3 to 2 times", 5, 3),
+        ("\"1\" occurs from 0 to 4096 times", 5, 3),
+        ("\"1\" occurs at most 1 times not in \"2\"", 7, 6),
+        ("\"1\" not in \"2\" occurs exactly 1 times", 7, 6),
+        ("\"1\" not in \"2\" occurs at least 1 times", 0, 0),
         // nine lists would wait
         ("\"1\" ftor (\"2\" ftor (\"3\" ftor (\"4\" ftor (\"5\" ftor (\"6\" ftor (\"7\" ftor \"8\"))))))", 0, 0),
         ("\"1\" ftor (\"2\" ftor (\"3\" ftor (\"4\" ftor (\"5\" ftor (\"6\" ftor (\"7\" ftor (\"8\" ftor \"9\")))))))", 6, 18),
@@ -443,6 +498,10 @@ fn a_typed_search_finds() {
     assert_eq!(engine.typed_quick(&section, not, &mut [NOISE; WORK]), Quick::Answered { yes: false, codes: 4 });
     let same = b"\"10\" ftand ftnot \"40\" same sentence";
     assert_eq!(engine.typed_quick(&section, same, &mut [NOISE; WORK]), Quick::Answered { yes: true, codes: 5 });
+    let twice = b"\"10\" occurs at least 2 times";
+    assert_eq!(engine.typed_quick(&section, twice, &mut [NOISE; WORK]), Quick::Answered { yes: true, codes: 2 });
+    let once = b"\"10\" occurs exactly 1 times";
+    assert_eq!(engine.typed_quick(&section, once, &mut [NOISE; WORK]), Quick::Answered { yes: false, codes: 2 });
 }
 
 // Every text of some sort
@@ -455,7 +514,8 @@ fn some_texts() -> Vec<Vec<u8>> {
         b"\"1 2 3 4 5 6 7 8\" window 4096 words".to_vec(),
         b"\"4294967295\" distance from 4095 to 4096 words".to_vec(),
     ];
-    list.extend(typed::FILTERS.iter().map(|filter| format!("\"1\" {}", filter.typed.replace('N', "3")).into_bytes()));
+    let forms = typed::FILTERS.iter().chain(&typed::OCCURS);
+    list.extend(forms.map(|form| format!("\"1\" {}", form.typed.replace('N', "3")).into_bytes()));
     for (index, case) in gen::cases(41, 1_000).enumerate() {
         let Ok(tree) = selection::read_shape(&case.selection) else { continue };
         let mut rng = Rng::new(42, index as u64);
@@ -506,9 +566,19 @@ fn every_row_of_tokens() {
 /// its beginnings agree.
 #[test]
 fn every_sentence() {
-    let (mut many, begun) = (Many::default(), Instant::now());
     let most = if cfg!(debug_assertions) { 8 } else { 12 };
-    let grammar = Grammar::up_to(most);
+    every_one_agrees(Grammar::up_to(most), most);
+}
+
+/// And so have longer ones about occurs.
+#[test]
+fn every_sentence_about_occurs() {
+    let most = if cfg!(debug_assertions) { 12 } else { 16 };
+    every_one_agrees(Grammar::about_occurs(most), most);
+}
+
+fn every_one_agrees(grammar: Grammar, most: usize) {
+    let (mut many, begun) = (Many::default(), Instant::now());
     for sentence in grammar.sentences() {
         let (text, codes) = typed_out(sentence);
         let mut selection = [NOISE; SELECTION];
@@ -608,10 +678,10 @@ fn typed_cases_meet_everything() {
     for (what, times) in &met {
         println!("{times:7}  {what}");
     }
-    let mut needed: Vec<String> = (0..=15).map(|kind| format!("kind {kind}")).collect();
+    let mut needed: Vec<String> = (0..=17).map(|kind| format!("kind {kind}")).collect();
     needed.extend((60..=70).map(|codes| format!("codes {codes}")));
     needed.extend((2_047..=2_048).map(|length| format!("length {length}")));
-    // a text can't have kinds that document 01 doesn't know
+    // a text can't have kinds that are unknown, and its occurs are over phrases
     for number in [1, 2, 3, 5, 6, 7, 8, 9] {
         needed.push(format!("quick refused {number}"));
         needed.push(format!("listing refused {number}"));

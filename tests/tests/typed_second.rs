@@ -6,10 +6,10 @@
 
 mod grammar;
 
-use grammar::{filters, is_number, typed_out, Derived, Grammar, Tokens};
+use grammar::{filters, is_number, times, typed_out, Derived, Grammar, Tokens};
 use second_engine::typed::{self, begins_a_selection};
 use second_engine::typed_gen::{rows, without_blanks, ALPHABET};
-use second_engine::{typed_cases, Refusal};
+use second_engine::{typed_cases, Quick, Refusal, WORK};
 use std::collections::{HashMap, HashSet};
 use std::sync::OnceLock;
 
@@ -17,7 +17,17 @@ use std::sync::OnceLock;
 #[test]
 fn every_sentence_is_read() {
     let most = if cfg!(debug_assertions) { 9 } else { 12 };
-    let grammar = Grammar::up_to(most);
+    every_one_is_read(Grammar::up_to(most), most);
+}
+
+/// And so is every longer one of those about occurs.
+#[test]
+fn every_sentence_about_occurs_is_read() {
+    let most = if cfg!(debug_assertions) { 12 } else { 16 };
+    every_one_is_read(Grammar::about_occurs(most), most);
+}
+
+fn every_one_is_read(grammar: Grammar, most: usize) {
     let mut all: HashMap<&Tokens, &Derived> = HashMap::new();
     let mut count = 0;
     for sentence in grammar.sentences() {
@@ -34,7 +44,8 @@ fn every_sentence_is_read() {
 }
 
 /// What begins a selection, in up to so many tokens. A beginning of p tokens has an end of at most p + 3 more: its
-/// parentheses are closed by as many, and at most a phrase, a `not in` with one or the words of a filter are due before.
+/// parentheses are closed by as many, and at most a phrase, a `not in` with one or the words of a filter or an occurs are due
+/// before.
 fn beginnings(tokens: usize) -> HashSet<Tokens> {
     let grammar = Grammar::up_to(2 * tokens + 3);
     let mut list = HashSet::new();
@@ -119,6 +130,102 @@ fn every_short_row_of_tokens() {
     println!("{count} rows of tokens");
 }
 
+// Occurs
+
+/// Every form of an occurs, alone and behind each operator: it belongs to its phrase.
+#[test]
+fn an_occurs_belongs_to_its_phrase() {
+    let (one, least) = ([(0, 1), (1, 1)], (17, 2));
+    let texts: [(&str, &[(u32, u32)]); 14] = [
+        ("\"1\" occurs exactly 3 times", &[(0, 1), (1, 1), (16, 3 * 65_536 + 3)]),
+        ("\"1\" occurs at least 3 times", &[(0, 1), (1, 1), (17, 3)]),
+        ("\"1\" occurs at most 3 times", &[(0, 1), (1, 1), (16, 3)]),
+        ("\"1\" occurs from 3 to 5 times", &[(0, 1), (1, 1), (16, 3 * 65_536 + 5)]),
+        ("\"1\"occurs at most0times", &[(0, 1), (1, 1), (16, 0)]),
+        ("\"1 2\" occurs at least 0 times", &[(0, 1), (0, 2), (1, 2), (17, 0)]),
+        ("ftnot \"1\" occurs at least 2 times", &[one[0], one[1], least, (4, 0)]),
+        ("\"1\" ftand \"1\" occurs at least 2 times", &[one[0], one[1], one[0], one[1], least, (3, 0)]),
+        ("\"1\" occurs at least 2 times ftor \"1\"", &[one[0], one[1], least, one[0], one[1], (2, 0)]),
+        ("\"1\" not in \"1\" occurs at least 2 times", &[one[0], one[1], one[0], one[1], least, (5, 0)]),
+        ("\"1\" occurs at least 2 times ordered", &[one[0], one[1], least, (6, 0)]),
+        ("(\"1\" occurs at least 2 times)", &[one[0], one[1], least]),
+        ("ftnot (\"1\" occurs at least 2 times at end)", &[one[0], one[1], least, (14, 0), (4, 0)]),
+        ("\"1\" occurs at least 2 times distance at least 2 words", &[one[0], one[1], least, (8, 2 * 65_536 + 4_095)]),
+    ];
+    for (text, codes) in texts {
+        assert_eq!(typed::read(text.as_bytes()), Ok(codes.to_vec()), "{text}");
+    }
+}
+
+/// "Errors .. 10 where the grammar doesn't allow it (or length + 1), else 11 for .. another number over 4,096".
+#[test]
+fn errors_of_occurs() {
+    let texts = [
+        // not twice, not behind a parenthesis, not behind a filter, not before its phrase
+        ("\"1\" occurs at least 1 times occurs at least 1 times", 10, 29),
+        ("(\"1\") occurs at least 1 times", 10, 7),
+        ("\"1\" ordered occurs at least 1 times", 10, 13),
+        ("occurs at least 1 times \"1\"", 10, 1),
+        ("ftnot occurs at least 1 times", 10, 7),
+        // each of its tokens
+        ("\"1\" occurs", 10, 11),
+        ("\"1\" occurs 3 times", 10, 12),
+        ("\"1\" occurs times", 10, 12),
+        ("\"1\" occurs at", 10, 14),
+        ("\"1\" occurs at start", 10, 15),
+        ("\"1\" occurs at least times", 10, 21),
+        ("\"1\" occurs at least 1", 10, 22),
+        ("\"1\" occurs at least 1 ", 10, 23),
+        ("\"1\" occurs at least 1 words", 10, 23),
+        ("\"1\" occurs at least 1 time", 10, 23),
+        ("\"1\" occurs exactly 1 to 2 times", 10, 22),
+        ("\"1\" occurs from 1 times", 10, 19),
+        ("\"1\" occurs from 1 to times", 10, 22),
+        ("\"1\" occurs least 1 times", 10, 12),
+        ("\"1\" times", 10, 5),
+        ("\"1\" window 3 times", 10, 14),
+        ("\"1\" distance at least 3 times", 10, 25),
+        ("\"1\" Occurs at least 1 times", 10, 5),
+        // numbers
+        ("\"1\" occurs at least 4097 times", 11, 21),
+        ("\"1\" occurs at most 4097", 11, 20),
+        ("\"1\" occurs exactly 99999999999999999999 x", 11, 20),
+        ("\"1\" occurs from 4097 to 4097 times", 11, 17),
+        ("\"1\" occurs from 4096 to 4097 times", 11, 25),
+        ("\"1\" occurs least 4097 times", 10, 12),
+    ];
+    for (text, number, place) in texts {
+        assert_eq!(typed::read(text.as_bytes()), Err(Refusal::new(number, place)), "{text}");
+    }
+}
+
+/// (Reading: 4,096 passes the reader everywhere and may then meet refusal 5; `from 3 to 2` is 5.)
+#[test]
+fn codes_of_an_occurs_are_refused() {
+    let texts = [
+        ("\"1\" occurs at least 4095 times", None),
+        ("\"1\" occurs at least 4096 times", Some((5, 3))),
+        ("\"1\" occurs at most 4095 times", None),
+        ("\"1\" occurs at most 4096 times", Some((5, 3))),
+        ("\"1\" occurs exactly 4095 times", None),
+        ("\"1\" occurs exactly 4096 times", Some((5, 3))),
+        ("\"1\" occurs from 3 to 3 times", None),
+        ("\"1\" occurs from 3 to 2 times", Some((5, 3))),
+        ("\"1\" occurs from 4096 to 4096 times", Some((5, 3))),
+        ("\"1\" occurs exactly 1 times not in \"2\"", Some((7, 6))),
+        ("\"1\" not in \"2\" occurs at most 1 times", Some((7, 6))),
+        ("\"1\" not in \"2\" occurs at least 1 times", None),
+    ];
+    for (text, refused) in texts {
+        let refused = refused.map(|(number, place)| Quick::Refused { number, place });
+        let answer = typed::typed_quick(&[0], text.as_bytes(), WORK);
+        assert!(
+            refused.map_or(matches!(answer, Quick::Answered { .. }), |wanted| answer == wanted),
+            "{text}: {answer:?}"
+        );
+    }
+}
+
 // Long texts
 
 /// What is still to come, the next symbol last: a token, or a rule of the grammar.
@@ -135,6 +242,7 @@ enum Symbol {
     MoreMildNot,
     UnaryNot,
     Primary,
+    Times,
     /// At most so many words and the quote, or the quote at once if one word came.
     Words(usize),
 }
@@ -158,7 +266,13 @@ fn choices(rule: Symbol) -> Vec<Vec<Symbol>> {
         MildNot => vec![vec![UnaryNot, MoreMildNot]],
         MoreMildNot => vec![vec![], vec![Token("not"), Token("in"), UnaryNot, MoreMildNot]],
         UnaryNot => vec![vec![Primary], vec![Token("ftnot"), Primary]],
-        Primary => vec![vec![Token("\""), Token("W"), Words(7)], vec![Token("("), Selection, Token(")")]],
+        Primary => vec![vec![Token("\""), Token("W"), Words(7), Times], vec![Token("("), Selection, Token(")")]],
+        Times => {
+            static TIMES: OnceLock<Vec<Vec<Symbol>>> = OnceLock::new();
+            let occurs = |one: Derived| one.tokens.into_iter().map(Token).collect();
+            let all = || [vec![]].into_iter().chain(times().into_iter().map(occurs)).collect();
+            TIMES.get_or_init(all).clone()
+        }
         Words(0) => vec![vec![Token("\"")]],
         Words(more) => vec![vec![Token("\"")], vec![Token("W"), Words(more - 1)]],
     }
@@ -259,7 +373,7 @@ fn errors_of_random_texts() {
 #[test]
 fn errors_of_long_texts() {
     for depth in [1, 100, 1_000, 1_022, 1_023, 1_024] {
-        for inside in ["\"1\"", "\"1\" ordered", "", "ftnot"] {
+        for inside in ["\"1\"", "\"1\" ordered", "\"1\" occurs at most 1 times", "", "ftnot"] {
             for close in [depth - 1, depth, depth + 1] {
                 check_text((String::new() + &"(".repeat(depth) + inside + &")".repeat(close)).as_bytes());
             }

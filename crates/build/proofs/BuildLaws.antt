@@ -3,7 +3,7 @@
 use Prim.Native.Nat.{ℕ, suc, _+_, _-_, _≤_, _<_}
 use native.Mathlib.Omega.{arith}
 use mathlib.Core.Path.{_≡_, refl, sym, ap, ap₂, _∙_, subst}
-use mathlib.Core.Bool.{true, _&&_}
+use mathlib.Core.Bool.{true, false, _&&_}
 use mathlib.Core.List.{List, [], _∷_, map}
 use mathlib.Core.Option.{Option, some, none, Option·map, orElse}
 use lib.Dec.{eqb, ltb}
@@ -14,7 +14,7 @@ use Rattle.model.specs.declared.Code.the-variants.{Phrase}
 use Rattle.model.specs.Accepted.{maxPhrases}
 use Rattle.model.specs.AllMatches.{allMatches}
 use Rattle.model.specs.AllStrings.{RanksUpTo}
-use Rattle.model.specs.Checks.{refusal}
+use Rattle.model.specs.Checks.{occursOverOther, refusal}
 use Rattle.model.specs.Kinds.{Shape, shapeOf, arity, shapeAt}
 use Rattle.model.specs.Limits.{maxWaiting}
 use Rattle.model.specs.Lists.{Every, first}
@@ -38,8 +38,8 @@ use Rattle.store.proofs.StackLaws.{stack-last}
 use Rattle.build.specs.declared.Part.the-variants as part
 use Rattle.build.specs.PartList.{PartList}
 use Rattle.build.specs.State.{Buildable, Waits, WaitsAt, AfterCode}
-use Rattle.build.proofs.RanksLaws.{part-formed, ranks-state, phrases-below, rank-read, rank-state}
-use Rattle.build.proofs.WordsLaws.{Loose, loose-state, phrase-words, window-size}
+use Rattle.build.proofs.WaitingTreesLaws.{part-formed, ranks-state, phrases-state, phrases-below, rank-read, rank-state}
+use Rattle.build.proofs.WordsLaws.{Loose, loose-state, phrase-words, window-size, times-rise}
 
 module _ {section sel mem₀ : List ℕ} {lo hi rank : ℕ} (w : Buildable section sel mem₀ lo hi rank) where
   -- what waits after the first n codes of the part
@@ -108,6 +108,12 @@ module _ {section sel mem₀ : List ℕ} {lo hi rank : ℕ} (w : Buildable secti
           subst (λ (x : Shape). Every (RanksUpTo maxPhrases) (read x (waitsAfter (g .n)) .trees)) (sym shape-next)
           (ranks-state sel (w .in-selection) hi (w .part) (w .up-to) lo (w .lo-is) (suc (g .n)) inside)
 
+      phrases-here : Every (λ t. occursOverOther t ≡ false) (read (shapeOf code) (waitsAfter (g .n)) .trees)
+      unfolding stateAt
+      phrases-here =
+          subst (λ (x : Shape). Every (λ t. occursOverOther t ≡ false) (read x (waitsAfter (g .n)) .trees)) (sym shape-next)
+          (phrases-state sel (w .in-selection) hi (w .part) (w .up-to) lo (w .lo-is) (suc (g .n)) inside)
+
       -- it fits where it stands
       pub waits-facts : Waits section mem (shapeOf code) (waitsAfter (g .n)) c' next lists
       waits-facts =
@@ -121,6 +127,7 @@ module _ {section sel mem₀ : List ℕ} {lo hi rank : ℕ} (w : Buildable secti
             few-trees = fits-next (g .n) inside .few-trees;
             few-words = fits-next (g .n) inside .few-words;
             ranks = ranks-here;
+            over-phrases = phrases-here;
             room = omega (arith, w .room, g .long);
           }
 
@@ -131,6 +138,7 @@ module _ {section sel mem₀ : List ℕ} {lo hi rank : ℕ} (w : Buildable secti
             waits = waits-facts;
             words = words-here;
             window = λ n q. window-size sel (w .in-selection) c' (omega arith) (omega (arith, w .up-to)) n (sym e ∙ q);
+            times = λ a b q. times-rise sel (w .in-selection) c' (omega arith) (omega (arith, w .up-to)) a b (sym e ∙ q);
           }
 
       module _ {mem' : List ℕ} {built : Built} (f : (v : WaitsAt section sel mem code c' next lists) → AfterCode (sectionOf section) (shapeOf code) (v .state) c' mem' built) where

@@ -7,15 +7,17 @@ use mathlib.Core.List.{List, [], _∷_, map}
 use mathlib.Core.Option.{some, Option·map}
 use lib.Dec.{eqb, ltb}
 use lib.ListN.{length, length-map}
-use borrow.Author.Tests.{ltb-true}
+use borrow.Author.Tests.{ltb-true, not-false}
 use Rattle.model.specs.declared.Pair.{Pair}
+use Rattle.model.specs.declared.Times.{Times}
 use Rattle.model.specs.Accepted.{maxPhrases}
-use Rattle.model.specs.AllMatches.{allMatches, pairList, changeList}
+use Rattle.model.specs.AllMatches.{allMatches, pairList, changeList, occursList}
 use Rattle.model.specs.AllStrings.{EveryPhrase, RanksUpTo, AllList}
-use Rattle.model.specs.Kinds.{Change, Shape, aWord, aPhrase, aPair, aChange}
+use Rattle.model.specs.Checks.{isPhrase}
+use Rattle.model.specs.Kinds.{Change, occurring, Shape, aWord, aPhrase, aPair, aChange}
 use Rattle.model.specs.Limits.{maxWaiting}
 use Rattle.model.specs.Lists.{Every, first}
-use Rattle.model.specs.Matches.{Match, tooLong}
+use Rattle.model.specs.Matches.{Str, Match, tooLong}
 use Rattle.model.specs.Parts.{state}
 use Rattle.model.specs.Rules.{phraseList}
 use Rattle.model.specs.Section.{Section, sectionOf}
@@ -25,11 +27,13 @@ use Rattle.model.specs.Walk.{firstTooLong}
 use Rattle.store.specs.declared.Built.{Built}
 use Rattle.store.specs.declared.Built.the-variants.{Made}
 use Rattle.store.specs.ValidStr.{ValidStr}
-use Rattle.model.proofs.TestsLaws.{both-true}
+use Rattle.model.proofs.TestsLaws.{both-true, false-true}
 use Rattle.model.proofs.WaitingLaws.{fit-of}
 use Rattle.store.proofs.ValidStrLaws.{valid-matches}
 use Rattle.store.proofs.SlotsLaws.{answer-made, answer-long}
-use Rattle.build.specs.Steps.{NoneTaken, OneTaken, TwoTaken, Pushed}
+use Rattle.occurs.specs.Finds.{find, findsOf}
+use Rattle.occurs.proofs.FindsLaws.{phrase-finds}
+use Rattle.build.specs.Steps.{NoneTaken, OneTaken, FindsTaken, TwoTaken, Pushed}
 use Rattle.build.specs.State.{Waits, After, AfterCode}
 
 -- ---- firstTooLong of one tree
@@ -48,6 +52,13 @@ grown {s} t ts p a =
       valid = λ m n e. first-one s t false (answer-made (allMatches s t) (sym e ∙ a .answered) .fits);
       stack = a .waits;
     }
+
+-- a phrase's list is its finds
+phrase-list : (s : Section) (t : Tree) → isPhrase t ≡ true → (finds : List Str) × (allMatches s t ≡ map find finds)
+unfolding allMatches
+phrase-list s (phrase c rank words) e = (findsOf s rank words, phrase-finds s rank words)
+phrase-list s (pair k c t u) e = false-true e
+phrase-list s (change k c t) e = false-true e
 
 -- the tree of a phrase
 abbrev leaf : State → Tree
@@ -198,6 +209,45 @@ module _ {section mem : List ℕ} {place rank lists : ℕ} where
         → AfterCode (sectionOf section) shape s place mem' built
     change-after {mem'} {built} f =
         subst (λ (x : Shape). AfterCode (sectionOf section) x s place mem' built) (sym e) (change-after' k (s .words) (s .place) (s .rank) (s .trees) as-change f)
+
+  -- ---- an occurs: the last list is a phrase's
+
+  module _ (k : Times) (ws : List ℕ) (p r : ℕ) where
+    module _ (t : Tree) (ts : List Tree) (w : Waits section mem (aChange (occurring k)) (state (t ∷ ts) ws p r) place rank lists) where
+      over-phrase : isPhrase t ≡ true
+      unfolding Every read changeLast
+      over-phrase = not-false (isPhrase t) (w .over-phrases .0)
+
+      unfoldable last-finds : FindsTaken (occursList k) mem lists
+      unfolding one-taken
+      last-finds =
+          let f = phrase-list (sectionOf section) t over-phrase in
+          record { taken = one-taken (occurring k) ws p r t ts w; finds = f .0; finds-are = f .1 }
+
+      finds-after : {mem' : List ℕ} {built : Built} → ((v : FindsTaken (occursList k) mem lists) → Pushed (occursList k (v .taken .list)) (v .taken .rest) mem' built)
+          → AfterCode (sectionOf section) (aChange (occurring k)) (state (t ∷ ts) ws p r) place mem' built
+      unfolding last-finds one-taken read changeLast topTree placeOf allMatches
+      finds-after f = grown (change (occurring k) p t) ts (w .place-is) (f last-finds)
+
+    occurs-taken' : (ts : List Tree) → Waits section mem (aChange (occurring k)) (state ts ws p r) place rank lists → FindsTaken (occursList k) mem lists
+    occurs-taken' [] w = absurd (omega (arith, fit-of (aChange (occurring k)) 0 (length ws) (w .here) .finds))
+    occurs-taken' (t ∷ ts) w = last-finds t ts w
+
+    occurs-after' : {mem' : List ℕ} {built : Built} (ts : List Tree) → Waits section mem (aChange (occurring k)) (state ts ws p r) place rank lists
+        → ((v : FindsTaken (occursList k) mem lists) → Pushed (occursList k (v .taken .list)) (v .taken .rest) mem' built)
+        → AfterCode (sectionOf section) (aChange (occurring k)) (state ts ws p r) place mem' built
+    occurs-after' [] w f = absurd (omega (arith, fit-of (aChange (occurring k)) 0 (length ws) (w .here) .finds))
+    occurs-after' (t ∷ ts) w f = finds-after t ts w f
+
+  module _ {shape : Shape} {s : State} (k : Times) (e : shape ≡ aChange (occurring k)) (w : Waits section mem shape s place rank lists) where
+    pub occurs-taken : FindsTaken (occursList k) mem lists
+    occurs-taken = occurs-taken' k (s .words) (s .place) (s .rank) (s .trees) (as-change (occurring k) e w)
+
+    pub occurs-after : {mem' : List ℕ} {built : Built} → ((v : FindsTaken (occursList k) mem lists) → Pushed (occursList k (v .taken .list)) (v .taken .rest) mem' built)
+        → AfterCode (sectionOf section) shape s place mem' built
+    occurs-after {mem'} {built} f =
+        subst (λ (x : Shape). AfterCode (sectionOf section) x s place mem' built) (sym e)
+        (occurs-after' k (s .words) (s .place) (s .rank) (s .trees) (as-change (occurring k) e w) f)
 
   -- ---- aWord
 

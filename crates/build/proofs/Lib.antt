@@ -1,5 +1,5 @@
 pub mod StepsLaws
 pub mod CodesLaws
 pub mod WordsLaws
-pub mod RanksLaws
+pub mod WaitingTreesLaws
 pub mod BuildLaws

@@ -2,13 +2,14 @@
 use Prim.Native.Nat.{ℕ, _+_, _-_, _*_, _≤_, _<_}
 use native.Mathlib.Omega.{arith}
 use mathlib.Core.Path.{_≡_, sym, ap, _∙_, subst}
-use mathlib.Core.List.{List, _∷_, flatMap}
+use mathlib.Core.List.{List, _∷_, map, flatMap}
 use lib.ListN.{length}
 use lib.Seq.{sets}
 use Rattle.model.specs.declared.Filter.{Filter}
 use Rattle.model.specs.declared.Filter.the-variants.{Window}
 use Rattle.model.specs.declared.Pair.{Pair}
-use Rattle.model.specs.AllMatches.{filterList, pairList}
+use Rattle.model.specs.declared.Times.{Times}
+use Rattle.model.specs.AllMatches.{filterList, occursList, pairList}
 use Rattle.model.specs.AllStrings.{AllList}
 use Rattle.model.specs.Limits.{maxWaiting, workLength}
 use Rattle.model.specs.Matches.{Match}
@@ -27,7 +28,8 @@ use Rattle.store.proofs.StackLaws.{stack-last, stack-rest, stack-push, stack-bu
 use Rattle.filter_rules.specs.declared.Rule.{Rule}
 use Rattle.filter_rules.specs.declared.Rule.the-variants.{Window as ByWindow}
 use Rattle.filter_rules.specs.Keepers.{filterOf}
-use Rattle.build.specs.Steps.{NoneTaken, OneTaken, TwoTaken, InScratch, Pushed}
+use Rattle.occurs.specs.Finds.{find, FindsAt}
+use Rattle.build.specs.Steps.{NoneTaken, OneTaken, FindsTaken, TwoTaken, InScratch, Pushed}
 
 -- a list that a rule has put after the rest waits there
 pub pushed : {mem mem' : List ℕ} {built : Built} (ms : List Match) (rest : List (List Match)) → length rest < maxWaiting → workLength ≤ length mem
@@ -80,25 +82,45 @@ module _ {rule : List Match → List Match} {mem : List ℕ} {lists : ℕ} (w : 
   pub one-under : SlotBelow (length mem) ((lists - 1) * slotSize) scratch
   one-under = record { below = omega (arith, w .few); room = omega (arith, w .room) }
 
+  unfoldable pub one-outcome : {mem' : List ℕ} {built : Built} → Outcome (rule (w .list)) mem mem' scratch built → InScratch mem' ((lists - 1) * slotSize) built
+  one-outcome o =
+      record {
+        list = rule (w .list);
+        rest = w .rest;
+        before = mem;
+        outcome = o;
+        stack = stack-rest mem (w .list) (w .rest) (w .stack);
+        place = omega (arith, w .count);
+        few = omega (arith, w .count, w .few);
+        room = w .room;
+        valid = w .valid;
+      }
+
   module _ {mem' : List ℕ} {built : Built} (o : (v : SlotAt mem ((lists - 1) * slotSize)) → Outcome (rule (v .list)) mem mem' scratch built) where
     unfoldable pub one-in-scratch : InScratch mem' ((lists - 1) * slotSize) built
     unfolding one-slot
-    one-in-scratch =
-        record {
-          list = rule (w .list);
-          rest = w .rest;
-          before = mem;
-          outcome = o one-slot;
-          stack = stack-rest mem (w .list) (w .rest) (w .stack);
-          place = omega (arith, w .count);
-          few = omega (arith, w .count, w .few);
-          room = w .room;
-          valid = w .valid;
-        }
+    one-in-scratch = one-outcome (o one-slot)
 
     pub one-moved : {mem'' : List ℕ} {b : Built} → ((v : InScratch mem' ((lists - 1) * slotSize) built) → Pushed (v .list) (v .rest) mem'' b) → Pushed (rule (w .list)) (w .rest) mem'' b
-    unfolding one-in-scratch
+    unfolding one-in-scratch one-outcome
     one-moved f = f one-in-scratch
+
+-- ---- a rule that takes the last list, a phrase's
+
+module _ {rule : List Match → List Match} {mem : List ℕ} {lists : ℕ} (w : FindsTaken rule mem lists) where
+  unfoldable pub finds-slot : FindsAt mem ((lists - 1) * slotSize)
+  unfolding one-slot
+  finds-slot = record { finds = w .finds; slot = subst (SlotHolds mem ((lists - 1) * slotSize)) (w .finds-are) (one-slot (w .taken) .slot) }
+
+  module _ {mem' : List ℕ} {built : Built} (o : (v : FindsAt mem ((lists - 1) * slotSize)) → Outcome (rule (map find (v .finds))) mem mem' scratch built) where
+    unfoldable pub finds-in-scratch : InScratch mem' ((lists - 1) * slotSize) built
+    unfolding finds-slot
+    finds-in-scratch = one-outcome (w .taken) (subst (λ (ms : List Match). Outcome (rule ms) mem mem' scratch built) (sym (w .finds-are)) (o finds-slot))
+
+    pub finds-moved : {mem'' : List ℕ} {b : Built} → ((v : InScratch mem' ((lists - 1) * slotSize) built) → Pushed (v .list) (v .rest) mem'' b)
+        → Pushed (rule (w .taken .list)) (w .taken .rest) mem'' b
+    unfolding finds-in-scratch one-outcome
+    finds-moved f = f finds-in-scratch
 
 -- ---- a rule that takes the last two
 
@@ -188,3 +210,9 @@ module _ {f : Filter} {rule : Rule} (e : f ≡ filterOf rule) where
     pub by-window : {n : ℕ} → rule ≡ ByWindow n → Outcome (flatMap (window n) ms) mem mem' at built → Outcome (filterList s f ms) mem mem' at built
     unfolding filterList
     by-window t o = by-rule t o
+
+-- ---- an occurs by its numbers
+
+pub by-times : {k j : Times} → k ≡ j → (ms : List Match) {mem mem' : List ℕ} {at : ℕ} {built : Built} → Outcome (occursList j ms) mem mem' at built
+    → Outcome (occursList k ms) mem mem' at built
+by-times e ms {mem} {mem'} {at} {built} o = subst (λ (i : Times). Outcome (occursList i ms) mem mem' at built) (sym e) o

@@ -1,6 +1,6 @@
 -- The words that wait are the operands just before the next code: a word's code adds its own, and after every other code none waits. So those of a
 -- phrase are a part of the selection.
-use Prim.Native.Nat.{ℕ, zero, suc, _+_, _-_, _≤_, _<_}
+use Prim.Native.Nat.{ℕ, zero, suc, _+_, _-_, _/_, _%_, _≤_, _<_}
 use native.Mathlib.Omega.{arith}
 use mathlib.Core.Path.{_≡_, refl, sym, ap, ap₂, _∙_, subst}
 use mathlib.Core.Bool.{true, false}
@@ -9,15 +9,16 @@ use lib.Dec.{leb}
 use lib.ListN.{length, take, drop, getD, length-append}
 use lib.Seq.{drop-cons}
 use borrow.Author.Tests.{leb-true}
-use Rattle.model.specs.declared.Code.the-variants.{Phrase, Filter as Filtered}
+use Rattle.model.specs.declared.Code.the-variants.{Phrase, Filter as Filtered, Occurs}
 use Rattle.model.specs.declared.Filter.the-variants.{Window}
+use Rattle.model.specs.declared.Times.the-variants.{FromTo}
 use Rattle.model.specs.Accepted.{AcceptedSelection}
-use Rattle.model.specs.Checks.{operandFits, filterOperandFits}
+use Rattle.model.specs.Checks.{operandFits, filterOperandFits, timesOperandFits}
 use Rattle.model.specs.Kinds.{Shape, aWord, aPhrase, aPair, aChange, isWord, shapeAt}
-use Rattle.model.specs.Limits.{maxWindow}
+use Rattle.model.specs.Limits.{maxWindow, maxTimes, radix}
 use Rattle.model.specs.Parts.{stateAt}
 use Rattle.model.specs.Section.{size}
-use Rattle.model.specs.Selection.{codeAt, kindAt, operandAt, kindOf, operandOf}
+use Rattle.model.specs.Selection.{codeAt, kindAt, operandAt, kindOf, operandOf, codeOf}
 use Rattle.model.specs.Trees.{State, read}
 use Rattle.model.specs.Waiting.{fits}
 use Rattle.model.proofs.BuildLaws.{Fits}
@@ -50,6 +51,18 @@ module _ (sel : List ℕ) (a : AcceptedSelection sel) (c : ℕ) (from-one : 1 �
       let f : operandFits 7 n ≡ true = ap₂ operandFits k o ∙ a .operands c from-one up-to in
       let b = both-true (leb 1 n) (leb n maxWindow) f in
       record { from-one = leb-true 1 n (b .0); up-to = leb-true n maxWindow (b .1) }
+
+  pub times-rise : (least most : ℕ) → codeAt sel c ≡ Occurs (FromTo least most) → least ≤ most
+  unfolding operandFits timesOperandFits
+  times-rise least most e =
+      let o = operandAt sel c in
+      let k : 16 ≡ kindAt sel c = ap kindOf (sym e) ∙ kind-code (kindAt sel c) o (a .known c from-one up-to) in
+      let same : Occurs (FromTo (o / radix) (o % radix)) ≡ Occurs (FromTo least most) = ap (λ (n : ℕ). codeOf n o) k ∙ e in
+      let l : o / radix ≡ least = cc in
+      let m : o % radix ≡ most = cc in
+      let f : operandFits 16 o ≡ true = ap (λ (n : ℕ). operandFits n o) k ∙ a .operands c from-one up-to in
+      let up = leb-true (o / radix) (o % radix) (both-true (leb (o / radix) (o % radix)) (leb (o % radix) maxTimes) f .0) in
+      omega (arith, up, l, m)
 
   pub phrase-words : (k : ℕ) (ws : List ℕ) → codeAt sel c ≡ Phrase k → length ws ≡ k → Loose sel c ws → phraseWords sel c ≡ ws
   phrase-words k ws e l w =

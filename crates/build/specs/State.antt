@@ -1,16 +1,18 @@
 -- What a part is built from, and what waits before and after each of its codes.
 use Prim.Native.Nat.{ℕ, _≤_}
-use mathlib.Core.Bool.{true}
+use mathlib.Core.Bool.{true, false}
 use mathlib.Core.List.{List, map}
 use mathlib.Core.Option.{some, none}
 use mathlib.Core.Path.{_≡_}
 use lib.ListN.{length}
 use Rattle.model.specs.declared.Code.{Code}
-use Rattle.model.specs.declared.Code.the-variants.{Phrase, Filter as Filtered}
+use Rattle.model.specs.declared.Code.the-variants.{Phrase, Filter as Filtered, Occurs}
 use Rattle.model.specs.declared.Filter.the-variants.{Window}
+use Rattle.model.specs.declared.Times.the-variants.{FromTo}
 use Rattle.model.specs.Accepted.{AcceptedSection, AcceptedSelection, maxPhrases}
 use Rattle.model.specs.AllMatches.{allMatches}
 use Rattle.model.specs.AllStrings.{RanksUpTo}
+use Rattle.model.specs.Checks.{occursOverOther}
 use Rattle.model.specs.Kinds.{Shape, shapeOf, shapeAt}
 use Rattle.model.specs.Limits.{maxWaiting, workLength}
 use Rattle.model.specs.Lists.{Every}
@@ -46,14 +48,16 @@ pub record Waits (section mem : List ℕ) (shape : Shape) (s : State) (place ran
   pub few-trees : length (s .trees) ≤ maxWaiting
   pub few-words : length (s .words) ≤ maxWaiting
   pub ranks : Every (RanksUpTo maxPhrases) (read shape s .trees)
+  pub over-phrases : Every (λ t. occursOverOther t ≡ false) (read shape s .trees)
   pub room : workLength ≤ length mem
 
--- a phrase's words are those that wait, and a window's number is in range
+-- a phrase's words are those that wait, a window's number is in range, and an occurs from a to b has a up to b
 pub record WaitsAt (section selection mem : List ℕ) (code : Code) (place rank lists : ℕ) : Type 0 where
   pub state : State
   pub waits : Waits section mem (shapeOf code) state place rank lists
   pub words : (k : ℕ) → code ≡ Phrase k → phraseWords selection place ≡ state .words
   pub window : (n : ℕ) → code ≡ Filtered (Window n) → WindowSize n
+  pub times : (a b : ℕ) → code ≡ Occurs (FromTo a b) → a ≤ b
 
 -- After the code: either the list of the part that it ends is too long, or the lists of the trees that then wait lie in memory.
 pub record After (s : Section) (new trees : List Tree) (place : ℕ) (mem : List ℕ) (built : Built) : Type 0 where

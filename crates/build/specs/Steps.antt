@@ -1,11 +1,11 @@
 -- What the steps of building require of the lists that wait, and what they leave: the rule's list in place of those that it takes.
 use Prim.Native.Nat.{ℕ, _+_, _≤_, _<_}
-use mathlib.Core.List.{List, _∷_}
+use mathlib.Core.List.{List, _∷_, map}
 use mathlib.Core.Path.{_≡_}
 use lib.ListN.{length}
 use Rattle.model.specs.AllStrings.{AllList}
 use Rattle.model.specs.Limits.{maxWaiting, workLength}
-use Rattle.model.specs.Matches.{Match}
+use Rattle.model.specs.Matches.{Str, Match}
 use Rattle.store.specs.declared.Built.{Built}
 use Rattle.store.specs.declared.Built.the-variants.{Made}
 use Rattle.store.specs.Built.{builtOf}
@@ -13,6 +13,7 @@ use Rattle.store.specs.ValidStr.{ValidStr}
 use Rattle.store.specs.Layout.{scratch, slotAt}
 use Rattle.store.specs.Outcome.{Outcome}
 use Rattle.store.specs.Stack.{Stack}
+use Rattle.occurs.specs.Finds.{find}
 
 -- so many lists wait, and there is a slot for one more, the given one
 pub record NoneTaken (new : List Match) (mem : List ℕ) (lists : ℕ) : Type 0 where
@@ -32,6 +33,12 @@ pub record OneTaken (rule : List Match → List Match) (mem : List ℕ) (lists :
   pub few : lists ≤ maxWaiting
   pub room : workLength ≤ length mem
   pub valid : AllList ValidStr (rule list)
+
+-- so many lists wait, and a rule takes the last, a phrase's
+pub record FindsTaken (rule : List Match → List Match) (mem : List ℕ) (lists : ℕ) : Type 0 where
+  pub taken : OneTaken rule mem lists
+  pub finds : List Str
+  pub finds-are : taken .list ≡ map find finds
 
 -- so many lists wait, and a rule takes the last two
 pub record TwoTaken (rule : List Match → List Match → List Match) (mem : List ℕ) (lists : ℕ) : Type 0 where

@@ -3,13 +3,16 @@ use filter_rules::Rule;
 use model::Code;
 use model::Filter;
 use model::Pair;
+use model::Times;
 use store::Built;
+ghost use mathlib.Core.List.{map};
 ghost use mathlib.Core.Path.{_≡_};
 ghost use Prim.Native.Nat.{ℕ, _≤_};
 ghost use lib.ListN.{length};
 ghost use Rattle.model.specs.declared.Filter.the-variants.{Window};
+ghost use Rattle.model.specs.declared.Times.the-variants.{FromTo};
 ghost use Rattle.model.specs.Accepted.{AcceptedSection, maxPhrases};
-ghost use Rattle.model.specs.AllMatches.{filterList, pairList};
+ghost use Rattle.model.specs.AllMatches.{filterList, occursList, pairList};
 ghost use Rattle.model.specs.Kinds.{shapeOf};
 ghost use Rattle.model.specs.Limits.{maxWaiting};
 ghost use Rattle.model.specs.Rules.{andList, mildNotList, notList, orList, phraseList};
@@ -19,8 +22,9 @@ ghost use Rattle.store.specs.Outcome.{Outcome};
 ghost use Rattle.store.specs.Indices.{SlotBelow};
 ghost use Rattle.store.specs.Slot.{SlotAt};
 ghost use Rattle.window.specs.Inside.{WindowSize};
+ghost use Rattle.occurs.specs.Finds.{find, FindsAt};
 ghost use Rattle.build.specs.State.{AfterCode, WaitsAt};
-ghost use Rattle.build.specs.Steps.{Pushed, InScratch, NoneTaken, OneTaken, TwoTaken};
+ghost use Rattle.build.specs.Steps.{Pushed, InScratch, NoneTaken, OneTaken, FindsTaken, TwoTaken};
 
 // Copies a list that was built in the slot for that down to `at`, unless it is too long.
 fn move_from_scratch(mem: &mut [u32], built: Built, at: usize) -> Built
@@ -127,6 +131,36 @@ fn build_filter(section: &[u32], filter: Filter, mem: &mut [u32], lists: usize) 
     move_from_scratch(mem, built, src)
 }
 
+// What an occurs makes of the finds in the slot at src, in the slot to build in.
+fn occurring(times: Times, mem: &mut [u32], src: usize) -> Built
+    requires { ⌜ ((a b : ℕ) → times ≡ FromTo a b → a ≤ b) ⌝ }
+    requires { ⌜ FindsAt (now mem) src ⌝ }
+    requires { ⌜ SlotBelow (length (now mem)) src scratch ⌝ }
+    ensures { λ r.
+        ⌜ ((w : FindsAt (now (mem .entry)) src)
+        → Outcome (occursList times (map find (w .finds))) (now (mem .entry)) (now (mem .exit)) scratch r) ⌝ }
+{
+    match times {
+        Times::FromTo { least, most } => {
+            occurs::from_to_list(mem, src, least, most, store::SCRATCH)
+        }
+        Times::AtLeast(least) => occurs::at_least_list(mem, src, least, store::SCRATCH),
+    }
+}
+
+// An occurs, of the last list, which is a phrase's.
+fn build_occurs(times: Times, mem: &mut [u32], lists: usize) -> Built
+    requires { ⌜ ((a b : ℕ) → times ≡ FromTo a b → a ≤ b) ⌝ }
+    requires { ⌜ FindsTaken (occursList times) (now mem) lists ⌝ }
+    ensures { λ r.
+        ⌜ ((w : FindsTaken (occursList times) (now (mem .entry)) lists)
+        → Pushed (occursList times (w .taken .list)) (w .taken .rest) (now (mem .exit)) r) ⌝ }
+{
+    let src = (lists - 1) * store::SLOT;
+    let built = occurring(times, mem, src);
+    move_from_scratch(mem, built, src)
+}
+
 // The list of the code at a place, from the lists that wait before it. A word has none.
 pub fn build_code(
     section: &[u32],
@@ -154,5 +188,6 @@ pub fn build_code(
         Code::Combine(pair) => build_pair(pair, mem, lists),
         Code::Not => build_not(mem, lists),
         Code::Filter(filter) => build_filter(section, filter, mem, lists),
+        Code::Occurs(times) => build_occurs(times, mem, lists),
     }
 }

@@ -1,4 +1,4 @@
-// The checks of both inputs, with the lengths of the lent memory: refusals 1 to 8, or the selection's m. A call takes the answer apart with `let .. else`.
+// The checks of both inputs, with the lengths of the lent memory: refusals 1 to 8 and 12, or the selection's m. A call takes the answer apart with `let .. else`.
 use model::BUFFER_LENGTH;
 use model::Checked;
 use model::Refusal;
@@ -24,7 +24,7 @@ pub fn refusal_of(checked: Checked) -> Refusal
     }
 }
 
-// Refusals 1 to 7.
+// Refusals 1 to 7 and 12.
 pub fn check_inputs(section: &[u32], selection: &[u32]) -> Checked
     ensures { λ r. ⌜ r ≡ checkedOf (size (now (selection .entry))) (inputRefusal (now (section .entry)) (now (selection .entry))) ⌝ }
 {

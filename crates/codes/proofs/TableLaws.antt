@@ -10,7 +10,7 @@ use Rattle.model.specs.Section.{size}
 use Rattle.model.specs.Selection.{kindAt, operandAt}
 
 abbrev pub isUnknown : List ℕ → ℕ → Bool
-isUnknown selection c = leb 16 (kindAt selection c)
+isUnknown selection c = leb 18 (kindAt selection c)
 
 abbrev pub isOutside : List ℕ → ℕ → Bool
 isOutside selection c = not (operandFits (kindAt selection c) (operandAt selection c))

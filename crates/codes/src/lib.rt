@@ -5,10 +5,11 @@ use model::Code;
 use model::Filter;
 use model::Pair;
 use model::RADIX;
+use model::Times;
 ghost use mathlib.Core.Path.{_≡_};
-ghost use Rattle.model.specs.Kinds.{aPair, arity, isWord, shapeOf};
-ghost use Rattle.model.specs.Parts.{isMildNot, isNotCode, partsEnded, phrasesEnded};
-ghost use Rattle.model.specs.Selection.{codeAt, codeOf, combinationOf, filterOf};
+ghost use Rattle.model.specs.Kinds.{aPair, arity, countsAsNot, isWord, occurring, shapeOf};
+ghost use Rattle.model.specs.Parts.{isMildNot, isNotCode, isOccursCode, isPhraseCode, partsEnded, phrasesEnded};
+ghost use Rattle.model.specs.Selection.{codeAt, codeOf, combinationOf, filterOf, timesOf};
 
 // "2 to 5 combine"
 fn combination_of(kind: u32) -> Code
@@ -43,7 +44,20 @@ fn filter_of(kind: u32, operand: u32) -> Filter
     }
 }
 
-// "Kinds 0 and 1 are words, 2 to 5 combine, 6 to 15 filter, 16 and up are unknown."
+// F-3: "kind 16, occurs from a to b (operand as kind 8), and kind 17, occurs at least a"
+fn times_of(kind: u32, operand: u32) -> Times
+    ensures { λ r. ⌜ r ≡ timesOf kind operand ⌝ }
+{
+    match kind {
+        16 => Times::FromTo {
+            least: operand / RADIX,
+            most: operand % RADIX,
+        },
+        _ => Times::AtLeast(operand),
+    }
+}
+
+// "Kinds 0 and 1 are words, 2 to 5 combine, 6 to 15 filter"; F-3: "18 and up are unknown"
 fn code_of(kind: u32, operand: u32) -> Code
     ensures { λ r. ⌜ r ≡ codeOf kind operand ⌝ }
 {
@@ -52,6 +66,7 @@ fn code_of(kind: u32, operand: u32) -> Code
         1 => Code::Phrase(operand),
         2..=5 => combination_of(kind),
         6..=15 => Code::Filter(filter_of(kind, operand)),
+        16..=17 => Code::Occurs(times_of(kind, operand)),
         // refused before its code is asked for: an entire content stands for it
         _ => Code::Filter(Filter::EntireContent),
     }
@@ -75,6 +90,7 @@ pub fn is_word(code: Code) -> bool
         Code::Combine(_) => false,
         Code::Not => false,
         Code::Filter(_) => false,
+        Code::Occurs(_) => false,
     }
 }
 
@@ -88,6 +104,7 @@ pub fn lists_taken(code: Code) -> usize
         Code::Combine(_) => 2,
         Code::Not => 1,
         Code::Filter(_) => 1,
+        Code::Occurs(_) => 1,
     }
 }
 
@@ -114,6 +131,43 @@ pub fn phrases_ended(code: Code) -> u32
     1
 }
 
+pub fn is_phrase(code: Code) -> bool
+    ensures { λ r. ⌜ r ≡ isPhraseCode (shapeOf code) ⌝ }
+{
+    match code {
+        Code::Word(_) => false,
+        Code::Phrase(_) => true,
+        Code::Combine(_) => false,
+        Code::Not => false,
+        Code::Filter(_) => false,
+        Code::Occurs(_) => false,
+    }
+}
+
+pub fn is_occurs(code: Code) -> bool
+    ensures { λ r. ⌜ r ≡ isOccursCode (shapeOf code) ⌝ }
+{
+    match code {
+        Code::Word(_) => false,
+        Code::Phrase(_) => false,
+        Code::Combine(_) => false,
+        Code::Not => false,
+        Code::Filter(_) => false,
+        Code::Occurs(_) => true,
+    }
+}
+
+// "Document 01's rule against a not under a mild not now counts kind 16 too"
+fn counts_as_not(times: Times) -> bool
+    ensures { λ r. ⌜ r ≡ countsAsNot (occurring times) ⌝ }
+{
+    match times {
+        Times::FromTo { .. } => true,
+        Times::AtLeast(_) => false,
+    }
+}
+
+// What refusal 7 counts as a not.
 pub fn is_not(code: Code) -> bool
     ensures { λ r. ⌜ r ≡ isNotCode (shapeOf code) ⌝ }
 {
@@ -123,6 +177,7 @@ pub fn is_not(code: Code) -> bool
         Code::Combine(_) => false,
         Code::Not => true,
         Code::Filter(_) => false,
+        Code::Occurs(times) => counts_as_not(times),
     }
 }
 
@@ -145,5 +200,6 @@ pub fn is_mild_not(code: Code) -> bool
         Code::Combine(pair) => is_mild(pair),
         Code::Not => false,
         Code::Filter(_) => false,
+        Code::Occurs(_) => false,
     }
 }

@@ -1,6 +1,7 @@
-// Kinds and operands against document 01's table.
+// Kinds and operands against document 01's table, and F-3's two rows.
 use model::Fault;
 use model::MAX_DISTANCE;
+use model::MAX_TIMES;
 use model::MAX_WAITING;
 use model::MAX_WINDOW;
 use model::RADIX;
@@ -8,16 +9,17 @@ ghost use mathlib.Core.Bool.{_&&_};
 ghost use mathlib.Core.Path.{_≡_};
 ghost use lib.Dec.{leb};
 ghost use Rattle.model.specs.Answers.{faultOf};
-ghost use Rattle.model.specs.Checks.{filterOperandFits, operandFits, unknownKind, wrongOperand};
+ghost use Rattle.model.specs.Checks.{filterOperandFits, operandFits, timesOperandFits, unknownKind, wrongOperand};
 
-// "16 and up are unknown"
+// F-3: "18 and up are unknown"
 fn is_unknown(kind: u32) -> bool
-    ensures { λ r. ⌜ r ≡ leb 16 kind ⌝ }
+    ensures { λ r. ⌜ r ≡ leb 18 kind ⌝ }
 {
     match kind {
         0 | 1 => false,
         2..=5 => false,
         6..=15 => false,
+        16..=17 => false,
         _ => true,
     }
 }
@@ -42,6 +44,16 @@ fn filter_operand_fits(kind: u32, operand: u32) -> bool
     }
 }
 
+// The operands of the two occurs.
+fn times_operand_fits(kind: u32, operand: u32) -> bool
+    ensures { λ r. ⌜ r ≡ timesOperandFits kind operand ⌝ }
+{
+    match kind {
+        16 => is_within(operand / RADIX, operand % RADIX, MAX_TIMES),
+        _ => operand <= MAX_TIMES,
+    }
+}
+
 // "operand outside the table", told by the kind
 fn operand_fits(kind: u32, operand: u32) -> bool
     ensures { λ r. ⌜ r ≡ operandFits kind operand ⌝ }
@@ -51,6 +63,7 @@ fn operand_fits(kind: u32, operand: u32) -> bool
         1 => is_within(1, operand, MAX_WAITING),
         2..=5 => operand == 0,
         6..=15 => filter_operand_fits(kind, operand),
+        16..=17 => times_operand_fits(kind, operand),
         // unknown, and refused before its operand is asked for
         _ => true,
     }

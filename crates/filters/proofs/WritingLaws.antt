@@ -29,7 +29,7 @@ use Rattle.store.specs.Put.{Put}
 use Rattle.store.specs.Slot.{SlotHolds}
 use Rattle.store.proofs.DecodeLaws.{includes-held, excludes-held, length-held, includes-hold, excludes-hold, includes-within, includes-length, str-back}
 use Rattle.store.proofs.EachLaws.{flatMap-small}
-use Rattle.store.proofs.LayoutLaws.{length-strsOf, length-match, matches-kept}
+use Rattle.store.proofs.LayoutLaws.{length-strsOf, strsOf-flatMap, length-match, matches-kept}
 use Rattle.store.proofs.MemoryLaws.{part-apart, getD-head, holds-tail}
 use Rattle.store.proofs.PutLaws.{holds-below, length-put, put-none, put-copy, closing-match, closed-match, put-kept, put-dropped}
 use Rattle.store.proofs.RowsLaws.{Rows, rows-start, rows-room, rows-step, rows-finish, flatMap-keep}
@@ -102,11 +102,6 @@ module _ (joins : Bool) {mem : List ℕ} {b : Bounds} {q : ℕ} (w : RoomAt (inc
 -- an exclude's numbers, if it stays beside these includes
 abbrev stayed : Keeping → List Str → Str → List ℕ
 stayed f is e = cond (f .stays is e) (spanOf e ∷ tagOf 1 e ∷ []) []
-
-strsOf-flatMap : (sort : ℕ) (ss : List Str) → strsOf sort ss ≡ flatMap (λ s. spanOf s ∷ tagOf sort s ∷ []) ss
-unfolding strsOf flatMap
-strsOf-flatMap sort [] = refl
-strsOf-flatMap sort (s ∷ ss) = ap (λ xs. spanOf s ∷ tagOf sort s ∷ xs) (strsOf-flatMap sort ss)
 
 excludes-rows : (f : Keeping) (m : Match) → excludesNumbers f m ≡ flatMap (stayed f (m .includes)) (m .excludes)
 excludes-rows f m = strsOf-flatMap 1 (keep (f .stays (m .includes)) (m .excludes)) ∙ flatMap-keep _ (f .stays (m .includes)) (m .excludes)

@@ -1,7 +1,6 @@
--- The rules of a filter by the first symbol, the codes that their numbers make, and the loop over filters.
-use Prim.Native.Nat.{ℕ, zero, suc, _+_, _*_, _-_, _≤_, _<_}
+-- The rules of a filter by the first symbol, and the loop over filters.
+use Prim.Native.Nat.{ℕ, zero, suc, _+_, _-_, _<_}
 use native.Mathlib.Omega.{arith}
-use native.Mathlib.Nat.{mul-le-mul}
 use mathlib.Core.Path.{_≡_, refl, sym, ap, _∙_}
 use mathlib.Core.Bool.{Bool, true, false, _&&_}
 use mathlib.Core.List.{List, [], _∷_, _++_, append-nil}
@@ -10,28 +9,16 @@ use lib.Dec.{leb}
 use lib.ListN.{take}
 use Rattle.model.specs.declared.Code.{Code}
 use Rattle.model.specs.declared.Code.the-variants.{Filter as Filtered}
-use Rattle.model.specs.declared.Filter.the-variants.{Ordered, Window, Distance, SameSentence, SameParagraph, DifferentSentence, DifferentParagraph, AtStart, AtEnd, EntireContent}
-use Rattle.model.specs.Limits.{maxDistance, maxNumber}
-use Rattle.grammar.specs.Stream.{Stream, placeIn, restOf, valueIn, streamAt}
-use Rattle.grammar.specs.Symbols.{k-ordered, k-window, k-distance, k-same, k-different, k-at, k-entire, k-start, k-end, k-sentence, k-paragraph, k-content, k-exactly, k-from, k-to, k-least, k-most, k-words, s-number, symbolIn}
-use Rattle.grammar.specs.Grammar.{failed, read, Rule, prefixed, _then_, refused, expect, coded, measured, distanceFrom, distanceAt, distance, either, startsFilter, filter, filters}
+use Rattle.model.specs.declared.Filter.the-variants.{Ordered, Window, SameSentence, SameParagraph, DifferentSentence, DifferentParagraph, AtStart, AtEnd, EntireContent}
+use Rattle.grammar.specs.Stream.{Stream, restOf, streamAt}
+use Rattle.grammar.specs.Symbols.{k-ordered, k-window, k-distance, k-same, k-different, k-at, k-entire, k-start, k-end, k-sentence, k-paragraph, k-content, k-words, symbolIn}
+use Rattle.grammar.specs.Grammar.{read, prefixed, _then_, refused, coded, measured, distance, either, startsFilter, filter, filters}
 use Rattle.grammar.proofs.JoiningLaws.{prefixed-prefixed}
-use Rattle.scanner.specs.Scanned.{capped}
 use Rattle.flat_rules.specs.Steps.{Step, reached, stopped}
-use Rattle.flat_rules.specs.Answers.{Makes, Wrote, Ready, NoLess, Says, Answers, WentMany, AnswersMany}
+use Rattle.flat_rules.specs.Answers.{Wrote, Ready, NoLess, Says, Answers, WentMany, AnswersMany}
 use Rattle.flat_rules.proofs.AnswersLaws.{prefixed-none, failed-is, read-codes, read-further, ready-next, then-failed, then-read, wrote-append, wrote-none}
-use Rattle.flat_rules.proofs.TokensLaws.{number-none, number-over, number-read}
 
--- ---- a symbol and its code
-
-module _ (k : ℕ) (c : Code) (ts : Stream) where
-  pub coded-yes : symbolIn ts ≡ k → coded k c ts ≡ read (c ∷ []) (restOf ts)
-  unfolding coded _then_ prefixed
-  coded-yes h = rw (eq-eqb _ _ h)
-
-  pub coded-no : {symbol : ℕ} → symbolIn ts ≡ symbol → ¬ (symbol ≡ k) → coded k c ts ≡ refused ts
-  unfolding coded _then_
-  coded-no h n = rw (h, ne-eqb _ _ n)
+-- ---- by a symbol
 
 module _ (j : ℕ) (c : Code) (k : ℕ) (d : Code) (ts : Stream) where
   pub either-first : symbolIn ts ≡ j → either j c k d ts ≡ read (c ∷ []) (restOf ts)
@@ -42,98 +29,12 @@ module _ (j : ℕ) (c : Code) (k : ℕ) (d : Code) (ts : Stream) where
   unfolding either
   either-second h n = rw (ne-eqb _ _ (λ z. n (sym h ∙ z)))
 
--- ---- the codes that a number makes
-
-pub product-small : (v t p : ℕ) → v ≤ 4096 → t ≤ 65537 → p ≤ 268435456 → v * t + p ≤ 536875008
-product-small v t p a b c = omega (arith, mul-le-mul a b)
-
-pub makes-window : Makes (λ n. Filtered (Window n)) 7 1 0
-makes-window = record { makes = λ n h. record { kind-is = refl; operand-is = omega arith } }
-
-pub makes-exactly : Makes (λ n. Filtered (Distance n n)) 8 65537 0
-makes-exactly = record { makes = λ n h. record { kind-is = refl; operand-is = omega arith } }
-
-pub makes-least : Makes (λ n. Filtered (Distance n maxDistance)) 8 65536 4095
-makes-least = record { makes = λ n h. record { kind-is = refl; operand-is = omega arith } }
-
-pub makes-most : Makes (λ n. Filtered (Distance 0 n)) 8 1 0
-makes-most = record { makes = λ n h. record { kind-is = refl; operand-is = omega arith } }
-
-pub makes-from : (a : ℕ) → Makes (λ n. Filtered (Distance a n)) 8 1 (a * 65536)
-makes-from a = record { makes = λ n h. record { kind-is = refl; operand-is = omega arith } }
-
--- ---- by a number
-
--- after a number that makes a code
-unfoldable worded : (ℕ → Code) → ℕ → Rule
-worded f n rest = coded k-words (f n) rest
-
--- after the first number of `from a to b words`
-unfoldable pub toward : ℕ → Rule
-toward a rest = expect k-to rest then measured (λ b. Filtered (Distance a b))
-
-module _ (ts : Stream) {symbol : ℕ} (h : symbolIn ts ≡ symbol) where
-  pub measured-none : (f : ℕ → Code) → ¬ (symbol ≡ s-number) → measured f ts ≡ refused ts
-  unfolding measured worded
-  measured-none f n = number-none maxNumber (worded f) ts h n
-
-  pub from-none : ¬ (symbol ≡ s-number) → distanceFrom ts ≡ refused ts
-  unfolding distanceFrom toward
-  from-none n = number-none maxNumber toward ts h n
-
-  pub toward-none : (a : ℕ) → ¬ (symbol ≡ k-to) → toward a ts ≡ refused ts
-  unfolding toward _then_
-  toward-none a n = rw (h, ne-eqb _ _ n)
-
-  module _ {v : ℕ} (w : v ≡ capped (valueIn ts)) (n : symbol ≡ s-number) where
-    pub measured-over : (f : ℕ → Code) → maxNumber < v → measured f ts ≡ failed 11 (placeIn ts)
-    unfolding measured worded
-    measured-over f o = number-over maxNumber (worded f) ts h w n o
-
-    pub measured-read : (f : ℕ → Code) → v ≤ maxNumber → measured f ts ≡ coded k-words (f v) (restOf ts)
-    unfolding measured worded
-    measured-read f o = number-read maxNumber (worded f) ts h w n o (omega arith)
-
-    pub from-over : maxNumber < v → distanceFrom ts ≡ failed 11 (placeIn ts)
-    unfolding distanceFrom toward
-    from-over o = number-over maxNumber toward ts h w n o
-
-    pub from-read : v ≤ maxNumber → distanceFrom ts ≡ toward v (restOf ts)
-    unfolding distanceFrom toward
-    from-read o = number-read maxNumber toward ts h w n o (omega arith)
-
--- ---- by a symbol
-
 module _ (ts : Stream) where
-  pub toward-second : (a : ℕ) → symbolIn ts ≡ k-to → toward a ts ≡ measured (λ b. Filtered (Distance a b)) (restOf ts)
-  unfolding toward _then_
-  toward-second a h = rw h (prefixed-none _)
-
-  pub at-least : symbolIn ts ≡ k-least → distanceAt ts ≡ measured (λ a. Filtered (Distance a maxDistance)) (restOf ts)
-  unfolding distanceAt
-  at-least h = rw h
-
-  pub at-most : symbolIn ts ≡ k-most → distanceAt ts ≡ measured (λ b. Filtered (Distance 0 b)) (restOf ts)
-  unfolding distanceAt _then_
-  at-most h = rw h (prefixed-none _)
-
-  pub range-exactly : symbolIn ts ≡ k-exactly → distance ts ≡ measured (λ n. Filtered (Distance n n)) (restOf ts)
-  unfolding distance
-  range-exactly h = rw h
-
-  pub range-from : symbolIn ts ≡ k-from → distance ts ≡ distanceFrom (restOf ts)
-  unfolding distance
-  range-from h = rw h
-
-  pub range-at : symbolIn ts ≡ k-at → distance ts ≡ distanceAt (restOf ts)
-  unfolding distance _then_
-  range-at h = rw h (prefixed-none _)
-
   pub filter-ordered : symbolIn ts ≡ k-ordered → filter ts ≡ read (Filtered Ordered ∷ []) (restOf ts)
   unfolding filter
   filter-ordered h = rw h
 
-  pub filter-window : symbolIn ts ≡ k-window → filter ts ≡ measured (λ n. Filtered (Window n)) (restOf ts)
+  pub filter-window : symbolIn ts ≡ k-window → filter ts ≡ measured k-words (λ n. Filtered (Window n)) (restOf ts)
   unfolding filter
   filter-window h = rw h
 
@@ -157,20 +58,11 @@ module _ (ts : Stream) where
   unfolding filter _then_
   filter-entire h = rw h (prefixed-none _)
 
--- any other symbol
-module _ (ts : Stream) {symbol : ℕ} (h : symbolIn ts ≡ symbol) where
-  pub at-none : ¬ (symbol ≡ k-least) → ¬ (symbol ≡ k-most) → distanceAt ts ≡ refused ts
-  unfolding distanceAt _then_
-  at-none a b = rw (h, ne-eqb _ _ a, ne-eqb _ _ b)
-
-  pub range-none : ¬ (symbol ≡ k-exactly) → ¬ (symbol ≡ k-from) → ¬ (symbol ≡ k-at) → distance ts ≡ refused ts
-  unfolding distance _then_
-  range-none a b c = rw (h, ne-eqb _ _ a, ne-eqb _ _ b, ne-eqb _ _ c)
-
-  pub filter-none : ¬ (symbol ≡ k-ordered) → ¬ (symbol ≡ k-window) → ¬ (symbol ≡ k-distance) → ¬ (symbol ≡ k-same) → ¬ (symbol ≡ k-different) → ¬ (symbol ≡ k-at)
-      → ¬ (symbol ≡ k-entire) → filter ts ≡ refused ts
+  -- any other symbol
+  pub filter-none : {symbol : ℕ} → symbolIn ts ≡ symbol → ¬ (symbol ≡ k-ordered) → ¬ (symbol ≡ k-window) → ¬ (symbol ≡ k-distance) → ¬ (symbol ≡ k-same)
+      → ¬ (symbol ≡ k-different) → ¬ (symbol ≡ k-at) → ¬ (symbol ≡ k-entire) → filter ts ≡ refused ts
   unfolding filter _then_
-  filter-none a b c d e f g = rw (h, ne-eqb _ _ a, ne-eqb _ _ b, ne-eqb _ _ c, ne-eqb _ _ d, ne-eqb _ _ e, ne-eqb _ _ f, ne-eqb _ _ g)
+  filter-none h a b c d e f g = rw (h, ne-eqb _ _ a, ne-eqb _ _ b, ne-eqb _ _ c, ne-eqb _ _ d, ne-eqb _ _ e, ne-eqb _ _ f, ne-eqb _ _ g)
 
 -- ---- filters: a loop, from where it begins to where it is
 

@@ -2,5 +2,6 @@
 pub mod AnswersLaws
 pub mod StepsLaws
 pub mod TokensLaws
+pub mod RangesLaws
 pub mod FiltersLaws
 pub mod PhrasesLaws

@@ -1,4 +1,4 @@
--- The words of a phrase: how its rule goes by the first token, and the loop over the words.
+-- The words of a phrase: how its rule goes by the first token, and the loop over the words. Then its times, by the token after them.
 use Prim.Native.Nat.{ℕ, zero, suc, _+_, _-_, _≤_, _<_}
 use native.Mathlib.Omega.{arith}
 use mathlib.Core.Path.{_≡_, refl, sym, ap, _∙_}
@@ -13,13 +13,13 @@ use Rattle.model.specs.declared.Code.the-variants.{Word, Phrase}
 use Rattle.model.specs.Limits.{maxWords, maxWord}
 use Rattle.model.specs.Tokens.{numberFrom}
 use Rattle.grammar.specs.Stream.{Stream, placeIn, restOf, valueIn, streamAt}
-use Rattle.grammar.specs.Symbols.{s-number, s-quote, symbolIn}
-use Rattle.grammar.specs.Grammar.{failed, read, Rule, prefixed, _then_, refused, number, words}
+use Rattle.grammar.specs.Symbols.{k-occurs, s-number, s-quote, symbolIn}
+use Rattle.grammar.specs.Grammar.{failed, read, Rule, prefixed, _then_, refused, number, times, words, anyTimes, phrase}
 use Rattle.grammar.proofs.JoiningLaws.{prefixed-prefixed}
 use Rattle.scanner.specs.Scanned.{Scanned, bytesFrom, capped, startOf, endOf, symbolAt}
-use Rattle.flat_rules.specs.Steps.{Step}
+use Rattle.flat_rules.specs.Steps.{Step, reached, stopped}
 use Rattle.flat_rules.specs.Answers.{Wrote, Ready, NoLess, Answers}
-use Rattle.flat_rules.proofs.AnswersLaws.{answers-prefixed, prefixed-none, ready-after, some-further, symbol-here, wrote-append, wrote-none}
+use Rattle.flat_rules.proofs.AnswersLaws.{answers-as, answers-failed, answers-known, answers-prefixed, answers-read, end-further, failed-is, prefixed-none, read-codes, read-further, ready-after, ready-next, some-further, symbol-here, then-failed, then-none, then-read, wrote-append, wrote-none}
 use Rattle.flat_rules.proofs.TokensLaws.{number-none, number-over, number-read, rest-here, value-here}
 
 -- ---- the rule by its first token
@@ -104,3 +104,45 @@ module _ {bytes entry exit : List ℕ} {size at count p n k : ℕ} (inv : Phrasi
         is = inv .is ∙ ap (prefixed (inv .codes)) one ∙ prefixed-prefixed (inv .codes) word _;
         wrote = wrote-append (inv .wrote) u;
       }
+
+-- ---- the times after the words
+
+module _ (ts : Stream) where
+  times-some : symbolIn ts ≡ k-occurs → anyTimes ts ≡ times (restOf ts)
+  unfolding anyTimes
+  times-some h = rw h
+
+  times-none : {symbol : ℕ} → symbolIn ts ≡ symbol → ¬ (symbol ≡ k-occurs) → anyTimes ts ≡ read [] ts
+  unfolding anyTimes
+  times-none h n = rw (h, ne-eqb _ _ n)
+
+-- the answer of the words is an error, or they are read up to q
+module _ {bytes entry exit : List ℕ} {size at count : ℕ} {r : Step} where
+  pub phrase-fails : {x y : ℕ} → r ≡ stopped x y → Answers (λ _. words maxWords 0) bytes size at entry exit count r → Answers (λ _. phrase) bytes size at entry exit count r
+  unfolding phrase
+  phrase-fails e a = answers-as e (answers-failed (λ n l. then-failed anyTimes (failed-is (answers-known e a) n l)))
+
+  module _ {q m : ℕ} (g : r ≡ reached q m) (a : Answers (λ _. words maxWords 0) bytes size at entry exit count r) where
+    read-words : Answers (λ _. words maxWords 0) bytes size at entry exit count (reached q m)
+    read-words = answers-known g a
+
+    pub words-ready : Ready bytes size at count → Ready bytes size q m
+    words-ready h = ready-next h (read-further read-words)
+
+    module _ {t symbol : ℕ} (s : Scanned bytes size q t) (e : symbol ≡ symbolAt t) where
+      pub phrase-alone : ¬ (symbol ≡ k-occurs) → Answers (λ _. phrase) bytes size at entry exit count r
+      unfolding phrase
+      phrase-alone n =
+          let w = read-codes read-words size (omega arith) in
+          answers-as g (answers-read (w .codes) (read-further read-words) (λ k l. then-none anyTimes (w .is) (times-none _ (symbol-here s e) n)) (w .wrote))
+
+      pub phrase-times : {exit' : List ℕ} {end : ℕ} {r' : Step} → symbol ≡ k-occurs → end ≡ endOf t → Answers (λ _. times) bytes size end exit exit' m r'
+          → Answers (λ _. phrase) bytes size at entry exit' count r'
+      unfolding phrase
+      phrase-times {r' = r'} h p b =
+          let w = read-codes read-words size (omega arith) in
+          let f = read-further read-words in
+          let on = end-further s p in
+          answers-prefixed (w .codes) r'
+          (λ k l. then-read anyTimes (w .is) ∙ ap (prefixed (w .codes)) (times-some _ (symbol-here s e ∙ h) ∙ ap times (rest-here s p)))
+          (w .wrote) (omega (arith, f .on, on)) (omega (arith, f .few, on)) b

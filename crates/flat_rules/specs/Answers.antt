@@ -5,7 +5,7 @@ use mathlib.Core.List.{List, [], _∷_, flatMap}
 use lib.ListN.{length, take}
 use lib.Seq.{sets}
 use Rattle.model.specs.declared.Code.{Code}
-use Rattle.model.specs.Limits.{maxCodes, maxNumber}
+use Rattle.model.specs.Limits.{maxCodes, maxNumber, radix}
 use Rattle.model.specs.Selection.{kindOf, operandOf}
 use Rattle.grammar.specs.Stream.{streamAt}
 use Rattle.grammar.specs.Grammar.{Outcome, failed, read, Rule}
@@ -29,9 +29,13 @@ pub record CodeIs (c : Code) (kind operand : ℕ) : Type 0 where
   pub kind-is : kindOf c ≡ kind
   pub operand-is : operandOf c ≡ operand
 
--- the code that each number n makes, of this kind and the operand n × times + plus
-pub record Makes (f : ℕ → Code) (kind times plus : ℕ) : Type 0 where
-  pub makes : (n : ℕ) → n ≤ maxNumber → CodeIs (f n) kind (n * times + plus)
+-- the code that each number n makes, of this kind and the operand n × by + plus
+pub record Makes (f : ℕ → Code) (kind by plus : ℕ) : Type 0 where
+  pub makes : (n : ℕ) → n ≤ maxNumber → CodeIs (f n) kind (n * by + plus)
+
+-- the code that each two numbers a and b make, of this kind and the operand a × 65,536 + b
+pub record MakesBoth (f : ℕ → ℕ → Code) (kind : ℕ) : Type 0 where
+  pub makes : (a b : ℕ) → CodeIs (f a b) kind (a * radix + b)
 
 -- ready to read from a position on: no more codes than bytes
 pub record Ready (bytes : List ℕ) (size at count : ℕ) : Type 0 where

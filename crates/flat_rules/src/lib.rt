@@ -1,5 +1,5 @@
-// The rules of the grammar in which no parenthesis stands: the words of a phrase, and the filters. Each reads the text from a position on and writes the
-// codes after the first `count`, two numbers each.
+// The rules of the grammar in which no parenthesis stands: a phrase with its times, and the filters. Each reads the text from a position on and writes
+// the codes after the first `count`, two numbers each.
 pub mod steps; // what a rule answers, in one number
 
 use model::MAX_CODES;
@@ -16,10 +16,10 @@ ghost use Prim.Native.Nat.{ℕ, _+_, _≤_, _<_};
 ghost use lib.Dec.{leb};
 ghost use Rattle.model.specs.declared.Code.{Code};
 ghost use Rattle.model.specs.Limits.{maxText, maxWords};
-ghost use Rattle.grammar.specs.Grammar.{coded as codedRule, distance as distanceRule, distanceAt, distanceFrom, either as eitherRule, filter as filterRule, filters as filtersRule, measured as measuredRule, words as wordsRule};
-ghost use Rattle.grammar.specs.Symbols.{k-entire, k-ordered};
+ghost use Rattle.grammar.specs.Grammar.{coded as codedRule, either as eitherRule, filter as filterRule, filters as filtersRule, measured as measuredRule, phrase as phraseRule, range as rangeRule, rangeAt, rangeFrom, words as wordsRule};
+ghost use Rattle.grammar.specs.Symbols.{k-entire, k-ordered, otherWord};
 ghost use Rattle.flat_rules.specs.Steps.{stepOf};
-ghost use Rattle.flat_rules.specs.Answers.{Answers, AnswersMany, CodeIs, Makes, Ready, Wrote};
+ghost use Rattle.flat_rules.specs.Answers.{Answers, AnswersMany, CodeIs, Makes, MakesBoth, Ready, Wrote};
 
 // One code more. The first 64 are written, those past them are counted.
 pub fn push(codes: &mut [u32; 128], count: u32, kind: u32, operand: u32) -> u32
@@ -35,7 +35,7 @@ pub fn push(codes: &mut [u32; 128], count: u32, kind: u32, operand: u32) -> u32
 }
 
 // The words of a phrase, "one to eight word numbers", and the closing quote.
-pub fn words(text: &[u8; 2048], size: usize, at: u32, codes: &mut [u32; 128], count: u32) -> u64
+fn words(text: &[u8; 2048], size: usize, at: u32, codes: &mut [u32; 128], count: u32) -> u64
     requires { ⌜ Ready (now text) size at count ⌝ }
     ensures { λ r. ⌜ Answers (λ _. wordsRule maxWords 0) (now (text .entry)) size at (now (codes .entry)) (now (codes .exit)) count (stepOf r) ⌝ }
 {
@@ -79,7 +79,7 @@ fn coded(
     operand: u32,
 ) -> u64
     requires { ⌜ Ready (now text) size at count ⌝ }
-    requires { ⌜ symbol < 24 ⌝ }
+    requires { ⌜ symbol < otherWord ⌝ }
     ensures { λ r. ⌜ ((c : Code) → CodeIs c kind operand → Answers (λ _. codedRule symbol c) (now (text .entry)) size at (now (codes .entry)) (now (codes .exit)) count (stepOf r)) ⌝ }
 {
     let t = scanner::token_at(text, size, at);
@@ -101,7 +101,7 @@ fn either(
     kind: u32,
 ) -> u64
     requires { ⌜ Ready (now text) size at count ⌝ }
-    requires { ⌜ (first < 23) × (kind < 15) ⌝ }
+    requires { ⌜ (first + 1 < otherWord) × (kind < 15) ⌝ }
     ensures { λ r. ⌜ ((c d : Code) → CodeIs c kind 0 → CodeIs d (kind + 1) 0 → Answers (λ _. eitherRule first c (first + 1) d) (now (text .entry)) size at (now (codes .entry)) (now (codes .exit)) count (stepOf r)) ⌝ }
 {
     let t = scanner::token_at(text, size, at);
@@ -112,20 +112,21 @@ fn either(
     coded(text, size, at, codes, count, first + 1, kind + 1, 0)
 }
 
-// A number n and `words`; the operand is n × times + plus.
+// A number n and a last word; the operand is n × by + plus.
 fn measured(
     text: &[u8; 2048],
     size: usize,
     at: u32,
     codes: &mut [u32; 128],
     count: u32,
+    last: u32,
     kind: u32,
-    times: u32,
+    by: u32,
     plus: u32,
 ) -> u64
     requires { ⌜ Ready (now text) size at count ⌝ }
-    requires { ⌜ (times ≤ 65537) × (plus ≤ 268435456) ⌝ }
-    ensures { λ r. ⌜ ((f : ℕ → Code) → Makes f kind times plus → Answers (λ _. measuredRule f) (now (text .entry)) size at (now (codes .entry)) (now (codes .exit)) count (stepOf r)) ⌝ }
+    requires { ⌜ (last < otherWord) × (by ≤ 65537) × (plus ≤ 268435456) ⌝ }
+    ensures { λ r. ⌜ ((f : ℕ → Code) → Makes f kind by plus → Answers (λ _. measuredRule last f) (now (text .entry)) size at (now (codes .entry)) (now (codes .exit)) count (stepOf r)) ⌝ }
 {
     let t = scanner::token_at(text, size, at);
     if scanner::symbol_of(t) != symbols::NUMBER {
@@ -135,23 +136,24 @@ fn measured(
     if v > MAX_NUMBER {
         return steps::error_at(11, t);
     }
-    let operand = v as u32 * times + plus;
-    coded(
-        text,
-        size,
-        scanner::end_of(t),
-        codes,
-        count,
-        symbols::WORDS,
-        kind,
-        operand,
-    )
+    let operand = v as u32 * by + plus;
+    let end = scanner::end_of(t);
+    coded(text, size, end, codes, count, last, kind, operand)
 }
 
-// `from a to b words`, after `from`.
-fn distance_from(text: &[u8; 2048], size: usize, at: u32, codes: &mut [u32; 128], count: u32) -> u64
+// `from a to b` and a last word, after `from`.
+fn range_from(
+    text: &[u8; 2048],
+    size: usize,
+    at: u32,
+    codes: &mut [u32; 128],
+    count: u32,
+    last: u32,
+    kind: u32,
+) -> u64
     requires { ⌜ Ready (now text) size at count ⌝ }
-    ensures { λ r. ⌜ Answers (λ _. distanceFrom) (now (text .entry)) size at (now (codes .entry)) (now (codes .exit)) count (stepOf r) ⌝ }
+    requires { ⌜ last < otherWord ⌝ }
+    ensures { λ r. ⌜ ((g : ℕ → ℕ → Code) → MakesBoth g kind → Answers (λ _. rangeFrom last g) (now (text .entry)) size at (now (codes .entry)) (now (codes .exit)) count (stepOf r)) ⌝ }
 {
     let t = scanner::token_at(text, size, at);
     if scanner::symbol_of(t) != symbols::NUMBER {
@@ -165,61 +167,90 @@ fn distance_from(text: &[u8; 2048], size: usize, at: u32, codes: &mut [u32; 128]
     if scanner::symbol_of(to) != symbols::TO {
         return steps::error_at(10, to);
     }
-    measured(
-        text,
-        size,
-        scanner::end_of(to),
-        codes,
-        count,
-        8,
-        1,
-        v as u32 * RADIX,
-    )
+    let end = scanner::end_of(to);
+    let first = v as u32 * RADIX;
+    measured(text, size, end, codes, count, last, kind, 1, first)
 }
 
-// `at least a words`, `at most b words`, after `at`.
-fn distance_at(text: &[u8; 2048], size: usize, at: u32, codes: &mut [u32; 128], count: u32) -> u64
+// `at least a` or `at most b`, and a last word, after `at`.
+fn range_at(
+    text: &[u8; 2048],
+    size: usize,
+    at: u32,
+    codes: &mut [u32; 128],
+    count: u32,
+    last: u32,
+    kind: u32,
+    least: u32,
+    by: u32,
+    plus: u32,
+) -> u64
     requires { ⌜ Ready (now text) size at count ⌝ }
-    ensures { λ r. ⌜ Answers (λ _. distanceAt) (now (text .entry)) size at (now (codes .entry)) (now (codes .exit)) count (stepOf r) ⌝ }
+    requires { ⌜ (last < otherWord) × (by ≤ 65537) × (plus ≤ 268435456) ⌝ }
+    ensures { λ r. ⌜ ((f : ℕ → Code) (g : ℕ → ℕ → Code) → Makes f least by plus → MakesBoth g kind → Answers (λ _. rangeAt last f g) (now (text .entry)) size at (now (codes .entry)) (now (codes .exit)) count (stepOf r)) ⌝ }
 {
     let t = scanner::token_at(text, size, at);
     let symbol = scanner::symbol_of(t);
+    let end = scanner::end_of(t);
     if symbol == symbols::LEAST {
-        return measured(
-            text,
-            size,
-            scanner::end_of(t),
-            codes,
-            count,
-            8,
-            RADIX,
-            MAX_DISTANCE,
-        );
+        return measured(text, size, end, codes, count, last, least, by, plus);
     }
     if symbol != symbols::MOST {
         return steps::error_at(10, t);
     }
-    measured(text, size, scanner::end_of(t), codes, count, 8, 1, 0)
+    measured(text, size, end, codes, count, last, kind, 1, 0)
 }
 
-// After `distance`: "`exactly`, `at least` (to 4,095), `at most` (from 0) or `from .. to`".
-fn distance(text: &[u8; 2048], size: usize, at: u32, codes: &mut [u32; 128], count: u32) -> u64
+// "`exactly`, `at least` .., `at most` (from 0) or `from .. to`", and a last word. `at least a` is of the kind `least`, its operand a × by + plus; the
+// other ranges, from a to b, are of the kind `kind` and the operand a × 65,536 + b.
+fn range(
+    text: &[u8; 2048],
+    size: usize,
+    at: u32,
+    codes: &mut [u32; 128],
+    count: u32,
+    last: u32,
+    kind: u32,
+    least: u32,
+    by: u32,
+    plus: u32,
+) -> u64
     requires { ⌜ Ready (now text) size at count ⌝ }
-    ensures { λ r. ⌜ Answers (λ _. distanceRule) (now (text .entry)) size at (now (codes .entry)) (now (codes .exit)) count (stepOf r) ⌝ }
+    requires { ⌜ (last < otherWord) × (by ≤ 65537) × (plus ≤ 268435456) ⌝ }
+    ensures { λ r. ⌜ ((f : ℕ → Code) (g : ℕ → ℕ → Code) → Makes f least by plus → MakesBoth g kind → Answers (λ _. rangeRule last f g) (now (text .entry)) size at (now (codes .entry)) (now (codes .exit)) count (stepOf r)) ⌝ }
 {
     let t = scanner::token_at(text, size, at);
     let symbol = scanner::symbol_of(t);
     let end = scanner::end_of(t);
     if symbol == symbols::EXACTLY {
-        return measured(text, size, end, codes, count, 8, RADIX + 1, 0);
+        return measured(text, size, end, codes, count, last, kind, RADIX + 1, 0);
     }
     if symbol == symbols::FROM {
-        return distance_from(text, size, end, codes, count);
+        return range_from(text, size, end, codes, count, last, kind);
     }
     if symbol != symbols::AT {
         return steps::error_at(10, t);
     }
-    distance_at(text, size, end, codes, count)
+    range_at(text, size, end, codes, count, last, kind, least, by, plus)
+}
+
+// FTWords FTTimes?, after the opening quote. "Typed, `occurs` with one of the four ranges and `times` follows a phrase; `at least` is kind 17."
+pub fn phrase(text: &[u8; 2048], size: usize, at: u32, codes: &mut [u32; 128], count: u32) -> u64
+    requires { ⌜ Ready (now text) size at count ⌝ }
+    ensures { λ r. ⌜ Answers (λ _. phraseRule) (now (text .entry)) size at (now (codes .entry)) (now (codes .exit)) count (stepOf r) ⌝ }
+{
+    let step = words(text, size, at, codes, count);
+    if steps::is_failed(step) {
+        return step;
+    }
+    let q = steps::at_of(step);
+    let n = steps::count_of(step);
+    let t = scanner::token_at(text, size, q);
+    if scanner::symbol_of(t) != symbols::OCCURS {
+        return step;
+    }
+    let end = scanner::end_of(t);
+    range(text, size, end, codes, n, symbols::TIMES, 16, 17, 1, 0)
 }
 
 // FTPosFilter, by its first word.
@@ -235,8 +266,20 @@ fn filter(text: &[u8; 2048], size: usize, at: u32, codes: &mut [u32; 128], count
             let m = push(codes, count, 6, 0);
             steps::read(end, m)
         }
-        symbols::WINDOW => measured(text, size, end, codes, count, 7, 1, 0),
-        symbols::DISTANCE => distance(text, size, end, codes, count),
+        symbols::WINDOW => measured(text, size, end, codes, count, symbols::WORDS, 7, 1, 0),
+        // "`at least` (to 4,095)"
+        symbols::DISTANCE => range(
+            text,
+            size,
+            end,
+            codes,
+            count,
+            symbols::WORDS,
+            8,
+            8,
+            RADIX,
+            MAX_DISTANCE,
+        ),
         symbols::SAME => either(text, size, end, codes, count, symbols::SENTENCE, 9),
         symbols::DIFFERENT => either(text, size, end, codes, count, symbols::SENTENCE, 11),
         symbols::AT => either(text, size, end, codes, count, symbols::START, 13),

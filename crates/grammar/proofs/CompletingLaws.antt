@@ -8,31 +8,30 @@ use borrow.Author.Tests.{eq-eqb, ne-eqb, leb-true}
 use lib.Dec.{eqb, leb}
 use lib.ListN.{length, length-append}
 use Rattle.model.specs.declared.Code.{Code}
-use Rattle.model.specs.declared.Code.the-variants.{Phrase, Combine, Not, Filter as Filtered}
+use Rattle.model.specs.declared.Code.the-variants.{Phrase, Combine, Not, Filter as Filtered, Occurs}
 use Rattle.model.specs.declared.Filter.{Filter}
 use Rattle.model.specs.declared.Pair.the-variants.{Or, And, MildNot}
+use Rattle.model.specs.declared.Times.{Times}
 use Rattle.model.specs.Limits.{maxWords}
-use Rattle.model.specs.Productions.{Sign, Keyword, Words, no-word, word-more, FTPosFilter, ordered, window, distance-exactly, distance-least, distance-most, distance-from, same-sentence, same-paragraph, different-sentence, different-paragraph, at-start, at-end, entire-content, FTSelection, selection-or, selection-filter, or-and, or-more, and-mild, and-more, mild-unary, mild-more, unary-primary, unary-not, FTPrimary, phrase, nested}
+use Rattle.model.specs.Productions.{Sign, Keyword, Words, no-word, word-more, FTWords, quoted, FTTimes, times-exactly, times-least, times-most, times-from, FTPosFilter, ordered, window, distance-exactly, distance-least, distance-most, distance-from, same-sentence, same-paragraph, different-sentence, different-paragraph, at-start, at-end, entire-content, FTSelection, selection-or, selection-filter, or-and, or-more, and-mild, and-more, mild-unary, mild-more, unary-primary, unary-not, FTPrimary, phrase, phrase-times, nested}
 use Rattle.model.specs.Tokens.{Token, quote, opening, closing}
 use Rattle.grammar.specs.Stream.{Stream, ends, token, valueIn}
-use Rattle.grammar.specs.Symbols.{k-ftor, k-ftand, k-ftnot, k-not, k-in, k-ordered, k-entire, sameBytes, numberAmong, symbolOf, symbolIn}
-use Rattle.grammar.specs.Grammar.{Outcome, read, Rule, prefixed, _then_, expect, words, coded, measured, distanceFrom, distanceAt, distance, either, startsFilter, filter, filters, row, notIn, ftPrimary, ftUnaryNot, ftMildNot, ftAnd, ftOr, ftSelection}
+use Rattle.grammar.specs.Symbols.{k-ftor, k-ftand, k-ftnot, k-not, k-in, k-ordered, k-entire, k-occurs, k-words, k-times, sameBytes, numberAmong, symbolOf, symbolIn}
+use Rattle.grammar.specs.Grammar.{Outcome, read, Rule, prefixed, _then_, expect, coded, measured, words, anyTimes, phrase as phraseRule, either, startsFilter, filter, filters, row, notIn, ftPrimary, ftUnaryNot, ftMildNot, ftAnd, ftOr, ftSelection}
 use Rattle.grammar.proofs.JoiningLaws.{_⊕_, size, join-append, size-join, prefixed-prefixed}
+use Rattle.grammar.proofs.RangesLaws.{exactly, from-to, ranging, at-least, at-most, levelled, range-complete}
 use Rattle.grammar.proofs.SymbolsLaws.{keyword-symbol, sign-symbol, number-symbol, number-within}
 
 -- ---- filters
 
 filter-complete : {us : List Token} {f : Filter} (rest : Stream) → FTPosFilter us f → filter (us ⊕ rest) ≡ read (Filtered f ∷ []) rest
-unfolding _⊕_ filter distance distanceAt distanceFrom either coded measured numberAmong sameBytes valueIn _then_ prefixed
+unfolding _⊕_ filter either coded measured numberAmong sameBytes valueIn _then_ prefixed
 filter-complete rest (ordered a) = rw (keyword-symbol a)
 filter-complete rest (window a n z) = rw (keyword-symbol a, number-symbol n, number-within n, keyword-symbol z)
-filter-complete rest (distance-exactly a b n z) = rw (keyword-symbol a, keyword-symbol b, number-symbol n, number-within n, keyword-symbol z)
-filter-complete rest (distance-least a b c n z) =
-    rw (keyword-symbol a, keyword-symbol b, keyword-symbol c, number-symbol n, number-within n, keyword-symbol z)
-filter-complete rest (distance-most a b c n z) =
-    rw (keyword-symbol a, keyword-symbol b, keyword-symbol c, number-symbol n, number-within n, keyword-symbol z)
-filter-complete rest (distance-from a b m c n z) =
-    rw (keyword-symbol a, keyword-symbol b, number-symbol m, number-within m, keyword-symbol c, number-symbol n, number-within n, keyword-symbol z)
+filter-complete rest (distance-exactly a b n z) = rw (keyword-symbol a) (range-complete k-words refl rest (exactly b n z))
+filter-complete rest (distance-least a b c n z) = rw (keyword-symbol a) (range-complete k-words refl rest (levelled b (at-least c n z)))
+filter-complete rest (distance-most a b c n z) = rw (keyword-symbol a) (range-complete k-words refl rest (levelled b (at-most c n z)))
+filter-complete rest (distance-from a b m c n z) = rw (keyword-symbol a) (range-complete k-words refl rest (ranging b (from-to m c n z)))
 filter-complete rest (same-sentence a b) = rw (keyword-symbol a, keyword-symbol b)
 filter-complete rest (same-paragraph a b) = rw (keyword-symbol a, keyword-symbol b)
 filter-complete rest (different-sentence a b) = rw (keyword-symbol a, keyword-symbol b)
@@ -81,6 +80,17 @@ words-complete (suc left) k rest s h l (word-more {k = j} n d) =
     let e : k + 1 + j ≡ k + suc j = omega arith in
     let later = words-complete left (k + 1) rest s (omega arith) (omega arith) d in
     rw (number-symbol n, number-within n, later, e)
+
+times-complete : {us : List Token} {k : Times} (rest : Stream) → FTTimes us k → anyTimes (us ⊕ rest) ≡ read (Occurs k ∷ []) rest
+unfolding _⊕_ anyTimes numberAmong sameBytes
+times-complete rest (times-exactly a b n z) = rw (keyword-symbol a) (range-complete k-times refl rest (exactly b n z))
+times-complete rest (times-least a b c n z) = rw (keyword-symbol a) (range-complete k-times refl rest (levelled b (at-least c n z)))
+times-complete rest (times-most a b c n z) = rw (keyword-symbol a) (range-complete k-times refl rest (levelled b (at-most c n z)))
+times-complete rest (times-from a b m c n z) = rw (keyword-symbol a) (range-complete k-times refl rest (ranging b (from-to m c n z)))
+
+times-none : (rest : Stream) → eqb (symbolIn rest) k-occurs ≡ false → anyTimes rest ≡ read [] rest
+unfolding anyTimes
+times-none rest h = rw h
 
 -- ---- rows
 
@@ -137,6 +147,7 @@ pub record Closes (rest : Stream) : Type 0 where
   pub no-not : eqb (symbolIn rest) k-not ≡ false
   pub no-and : eqb (symbolIn rest) k-ftand ≡ false
   pub no-or : eqb (symbolIn rest) k-ftor ≡ false
+  pub no-times : eqb (symbolIn rest) k-occurs ≡ false
 
 pub filters-stop : (m : ℕ) (rest : Stream) → startsFilter rest ≡ false → filters m rest ≡ read [] rest
 unfolding filters
@@ -159,10 +170,11 @@ unfolding startsFilter
 closing-starts rest s = rw (sign-symbol s refl)
 
 closes-closing : {u : Token} (rest : Stream) → Sign closing u → Closes (token u rest)
-closes-closing rest s = record { no-not = rw (sign-symbol s refl); no-and = rw (sign-symbol s refl); no-or = rw (sign-symbol s refl) }
+closes-closing rest s =
+    record { no-not = rw (sign-symbol s refl); no-and = rw (sign-symbol s refl); no-or = rw (sign-symbol s refl); no-times = rw (sign-symbol s refl) }
 
 pub closes-end : (p : ℕ) → Closes (ends p)
-closes-end p = record { no-not = refl; no-and = refl; no-or = refl }
+closes-end p = record { no-not = refl; no-and = refl; no-or = refl; no-times = refl }
 
 starts-closes : (ts : Stream) → startsFilter ts ≡ true → Closes ts
 unfolding startsFilter
@@ -170,8 +182,14 @@ starts-closes ts h = at (leb k-ordered (symbolIn ts)) refl h where
   at : (x : Bool) → leb k-ordered (symbolIn ts) ≡ x → (x && leb (symbolIn ts) k-entire) ≡ true → Closes ts
   at true e k =
       let low : k-ordered ≤ symbolIn ts = leb-true _ _ e in
+      let high : symbolIn ts ≤ k-entire = leb-true _ _ k in
       let other : (n : ℕ) → n < k-ordered → eqb (symbolIn ts) n ≡ false = λ n l. ne-eqb (symbolIn ts) n (λ z. omega arith) in
-      record { no-not = other k-not (omega arith); no-and = other k-ftand (omega arith); no-or = other k-ftor (omega arith) }
+      record {
+        no-not = other k-not (omega arith);
+        no-and = other k-ftand (omega arith);
+        no-or = other k-ftor (omega arith);
+        no-times = ne-eqb (symbolIn ts) k-occurs (λ z. omega arith);
+      }
   at false e k = let z : _≡_ {A = ℕ} 0 1 = cc in absurd (omega arith)
 
 nested-complete : {cs : List Code} {t u : Token} (ts : List Token) (n : ℕ) (rest : Stream) → Sign opening t → Sign closing u
@@ -184,21 +202,27 @@ nested-complete {cs} {t} {u} ts (suc n) rest o c l inner =
     let e = filtered (closing-starts rest c) (inner n (omega (arith, length-append ts (u ∷ [])))) in
     rw (sign-symbol o refl, join-append ts (u ∷ []) rest, e, sign-symbol c refl) (ap (λ l. read l rest) (append-nil cs))
 
-phrase-complete : {k : ℕ} {ts : List Token} {cs : List Code} {t u : Token} (n : ℕ) (rest : Stream) → Sign quote t → Words k ts cs → 1 ≤ k
-    → k ≤ maxWords → Sign quote u → ftPrimary n (ftSelection n) ((t ∷ (ts ++ (u ∷ []))) ⊕ rest) ≡ read (cs ++ (Phrase k ∷ [])) rest
-unfolding _⊕_ ftPrimary
-phrase-complete {k} {ts} {cs} {t} {u} n rest q d low high r =
+-- with what follows the phrase's words
+phrase-complete : {ts : List Token} {cs ds : List Code} (n : ℕ) (more rest : Stream) → FTWords ts cs → anyTimes more ≡ read ds rest
+    → ftPrimary n (ftSelection n) (ts ⊕ more) ≡ read (cs ++ ds) rest
+unfolding _⊕_ ftPrimary phraseRule _then_ prefixed
+phrase-complete n more rest (quoted {k = k} {ts = ts} {u = u} q d low high r) e =
     let z : 0 + k ≡ k = omega arith in
-    rw (sign-symbol q refl, join-append ts (u ∷ []) rest, words-complete maxWords 0 rest r (omega arith) high d, z)
+    rw (sign-symbol q refl, join-append ts (u ∷ []) more, words-complete maxWords 0 more r (omega arith) high d, z, e)
 
 unary-complete : {cs : List Code} (ts : Stream) (n : ℕ) (rest : Stream) → Other k-ftnot ts → ftPrimary n (ftSelection n) ts ≡ read cs rest
     → ftUnaryNot n (ftSelection n) ts ≡ read cs rest
 unfolding ftUnaryNot
 unary-complete ts n rest h e = rw (h, e)
 
+words-first : {ts : List Token} {cs : List Code} (rest : Stream) → FTWords ts cs → Other k-ftnot (ts ⊕ rest)
+unfolding _⊕_
+words-first rest (quoted q d low high r) = rw (sign-symbol q refl)
+
 primary-first : {ts : List Token} {cs : List Code} (rest : Stream) → FTPrimary ts cs → Other k-ftnot (ts ⊕ rest)
 unfolding _⊕_
-primary-first rest (phrase q d low high r) = rw (sign-symbol q refl)
+primary-first rest (phrase d) = words-first rest d
+primary-first rest (phrase-times {ts = ts} {us = us} d e) = rw (join-append ts us rest) (words-first (us ⊕ rest) d)
 primary-first rest (nested o d c) = rw (sign-symbol o refl)
 
 unary-not-complete : {cs : List Code} {t : Token} (ts : List Token) (n : ℕ) (rest : Stream) → Keyword "ftnot" t
@@ -277,21 +301,23 @@ SelectionRead ts cs = (n : ℕ) (rest : Stream) → length ts + size rest ≤ n 
 
 abbrev OrRead : List Token → List Code → Type 0
 OrRead ts cs =
-    (n : ℕ) (rest : Stream) → length ts + size rest ≤ n → Other k-not rest → Other k-ftand rest
+    (n : ℕ) (rest : Stream) → length ts + size rest ≤ n → Other k-occurs rest → Other k-not rest → Other k-ftand rest
     → Rowed (ftOr n (ftSelection n) (ts ⊕ rest)) cs (orRow n) rest
 
 abbrev AndRead : List Token → List Code → Type 0
 AndRead ts cs =
-    (n : ℕ) (rest : Stream) → length ts + size rest ≤ n → Other k-not rest → Rowed (ftAnd n (ftSelection n) (ts ⊕ rest)) cs (andRow n) rest
+    (n : ℕ) (rest : Stream) → length ts + size rest ≤ n → Other k-occurs rest → Other k-not rest
+    → Rowed (ftAnd n (ftSelection n) (ts ⊕ rest)) cs (andRow n) rest
 
 abbrev MildRead : List Token → List Code → Type 0
-MildRead ts cs = (n : ℕ) (rest : Stream) → length ts + size rest ≤ n → Rowed (ftMildNot n (ftSelection n) (ts ⊕ rest)) cs (mildRow n) rest
+MildRead ts cs =
+    (n : ℕ) (rest : Stream) → length ts + size rest ≤ n → Other k-occurs rest → Rowed (ftMildNot n (ftSelection n) (ts ⊕ rest)) cs (mildRow n) rest
 
 abbrev NotRead : List Token → List Code → Type 0
-NotRead ts cs = (n : ℕ) (rest : Stream) → length ts + size rest ≤ n → ftUnaryNot n (ftSelection n) (ts ⊕ rest) ≡ read cs rest
+NotRead ts cs = (n : ℕ) (rest : Stream) → length ts + size rest ≤ n → Other k-occurs rest → ftUnaryNot n (ftSelection n) (ts ⊕ rest) ≡ read cs rest
 
 abbrev PrimaryRead : List Token → List Code → Type 0
-PrimaryRead ts cs = (n : ℕ) (rest : Stream) → length ts + size rest ≤ n → ftPrimary n (ftSelection n) (ts ⊕ rest) ≡ read cs rest
+PrimaryRead ts cs = (n : ℕ) (rest : Stream) → length ts + size rest ≤ n → Other k-occurs rest → ftPrimary n (ftSelection n) (ts ⊕ rest) ≡ read cs rest
 
 -- (a function over the `mutual` block may not match here, where an index is `ts ++ us`; the eliminator may)
 pub selection-complete : {ts : List Token} {cs : List Code} → FTSelection ts cs → SelectionRead ts cs
@@ -299,31 +325,35 @@ selection-complete d =
     elim d as (λ ts cs x. SelectionRead ts cs) (λ ts cs x. OrRead ts cs) (λ ts cs x. AndRead ts cs) (λ ts cs x. MildRead ts cs)
     (λ ts cs x. NotRead ts cs) (λ ts cs x. PrimaryRead ts cs) [
       | selection-or (d → g) ↦ λ n rest l c.
-          selection-first _ n rest (stopped k-ftor _ (Combine Or) _ (c .no-or) (g n rest l (c .no-not) (c .no-and))) (omega arith)
+          selection-first _ n rest (stopped k-ftor _ (Combine Or) _ (c .no-or) (g n rest l (c .no-times) (c .no-not) (c .no-and))) (omega arith)
       | selection-filter {ts = ts} {us = us} (d → g) f ↦ λ n rest l c.
           rw (join-append ts us rest)
           (selection-joined rest (g n (us ⊕ rest) (split-length ts us rest n l) (starts-closes (us ⊕ rest) (filter-starts rest f))) f)
-      | or-and (d → g) ↦ λ n rest l x y. or-first _ n rest (stopped k-ftand _ (Combine And) _ y (g n rest l x)) (omega arith)
-      | or-more {ts = ts} {us = us} {t = t} (d → g) w (e → h) ↦ λ n rest l x y.
+      | or-and (d → g) ↦ λ n rest l o x y. or-first _ n rest (stopped k-ftand _ (Combine And) _ y (g n rest l o x)) (omega arith)
+      | or-more {ts = ts} {us = us} {t = t} (d → g) w (e → h) ↦ λ n rest l o x y.
           let s = or-symbol w in
           rw (join-append ts (t ∷ us) rest)
           (joined k-ftor (Combine Or) _ t us rest s
-          (g n ((t ∷ us) ⊕ rest) (split-length ts (t ∷ us) rest n l) (symbol-other k-not t us rest s refl) (symbol-other k-ftand t us rest s refl))
-          (stopped k-ftand _ (Combine And) _ y (h n rest (omega (arith, length-append ts (t ∷ us))) x)))
-      | and-mild (d → g) ↦ λ n rest l x. and-first _ n rest (stopped k-not _ (Combine MildNot) _ x (g n rest l)) (omega arith)
-      | and-more {ts = ts} {us = us} {t = t} (d → g) w (e → h) ↦ λ n rest l x.
+          (g n ((t ∷ us) ⊕ rest) (split-length ts (t ∷ us) rest n l)
+          (symbol-other k-occurs t us rest s refl) (symbol-other k-not t us rest s refl) (symbol-other k-ftand t us rest s refl))
+          (stopped k-ftand _ (Combine And) _ y (h n rest (omega (arith, length-append ts (t ∷ us))) o x)))
+      | and-mild (d → g) ↦ λ n rest l o x. and-first _ n rest (stopped k-not _ (Combine MildNot) _ x (g n rest l o)) (omega arith)
+      | and-more {ts = ts} {us = us} {t = t} (d → g) w (e → h) ↦ λ n rest l o x.
           let s = and-symbol w in
           rw (join-append ts (t ∷ us) rest)
           (joined k-ftand (Combine And) _ t us rest s
-          (g n ((t ∷ us) ⊕ rest) (split-length ts (t ∷ us) rest n l) (symbol-other k-not t us rest s refl))
-          (stopped k-not _ (Combine MildNot) _ x (h n rest (omega (arith, length-append ts (t ∷ us))))))
-      | mild-unary (d → g) ↦ λ n rest l. mild-first _ n rest (g n rest l) (omega arith)
-      | mild-more {ts = ts} {us = us} {t = t} {u = u} (d → g) w i (e → h) ↦ λ n rest l.
+          (g n ((t ∷ us) ⊕ rest) (split-length ts (t ∷ us) rest n l) (symbol-other k-occurs t us rest s refl) (symbol-other k-not t us rest s refl))
+          (stopped k-not _ (Combine MildNot) _ x (h n rest (omega (arith, length-append ts (t ∷ us))) o)))
+      | mild-unary (d → g) ↦ λ n rest l o. mild-first _ n rest (g n rest l o) (omega arith)
+      | mild-more {ts = ts} {us = us} {t = t} {u = u} (d → g) w i (e → h) ↦ λ n rest l o.
+          let s = not-symbol w in
           rw (join-append ts (t ∷ u ∷ us) rest)
-          (mild-joined t u n us rest (not-symbol w) (in-symbol i) (g n ((t ∷ u ∷ us) ⊕ rest) (split-length ts (t ∷ u ∷ us) rest n l))
-          (h n rest (omega (arith, length-append ts (t ∷ u ∷ us)))))
-      | unary-primary (d → g) ↦ λ n rest l. unary-complete _ n rest (primary-first rest d) (g n rest l)
-      | unary-not {ts = ts} w (d → g) ↦ λ n rest l. unary-not-complete ts n rest w (g n rest (omega arith))
-      | phrase q d low high r ↦ λ n rest l. phrase-complete n rest q d low high r
-      | nested {ts = ts} {u = u} o (d → g) c ↦ λ n rest l. nested-complete ts n rest o c l (λ k h. g k (token u rest) h (closes-closing rest c))
+          (mild-joined t u n us rest s (in-symbol i)
+          (g n ((t ∷ u ∷ us) ⊕ rest) (split-length ts (t ∷ u ∷ us) rest n l) (symbol-other k-occurs t (u ∷ us) rest s refl))
+          (h n rest (omega (arith, length-append ts (t ∷ u ∷ us))) o))
+      | unary-primary (d → g) ↦ λ n rest l o. unary-complete _ n rest (primary-first rest d) (g n rest l o)
+      | unary-not {ts = ts} w (d → g) ↦ λ n rest l o. unary-not-complete ts n rest w (g n rest (omega arith) o)
+      | phrase {cs = cs} d ↦ λ n rest l o. phrase-complete n rest rest d (times-none rest o) ∙ ap (λ k. read k rest) (append-nil cs)
+      | phrase-times {ts = ts} {us = us} d e ↦ λ n rest l o. rw (join-append ts us rest) (phrase-complete n (us ⊕ rest) rest d (times-complete rest e))
+      | nested {ts = ts} {u = u} o (d → g) c ↦ λ n rest l x. nested-complete ts n rest o c l (λ k h. g k (token u rest) h (closes-closing rest c))
     ]

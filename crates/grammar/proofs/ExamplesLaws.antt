@@ -8,7 +8,7 @@ use Rattle.model.specs.Tokens.{numberFrom}
 use Rattle.model.specs.TypedExamples.{Example, examples, ExamplesHold}
 use Rattle.grammar.specs.Stream.{sortOf, makesRuns, before, piecesFrom, withoutBlanks, streamAt, valueIn}
 use Rattle.grammar.specs.Symbols.{sameBytes, numberAmong, symbolOf}
-use Rattle.grammar.specs.Grammar.{prefixed, _then_, words, coded, measured, distanceFrom, distanceAt, distance, either, startsFilter, filter, filters, row, ftPrimary, ftUnaryNot, ftMildNot, ftAnd, ftOr, ftSelection, outcomeOf, readText}
+use Rattle.grammar.specs.Grammar.{prefixed, _then_, coded, measured, rangeFrom, rangeAt, range, words, anyTimes, phrase, either, startsFilter, filter, filters, row, ftPrimary, ftUnaryNot, ftMildNot, ftAnd, ftOr, ftSelection, outcomeOf, readText}
 use Rattle.grammar.proofs.AnswerLaws.{reads-exactly}
 
 abbrev computed : Example → TextAnswer
@@ -23,7 +23,7 @@ every-computed [] h = tt
 every-computed (e ∷ es) h = (reads-exactly (bytes (e .text)) (e .answer) .0 (cc), every-computed es (cc))
 
 examples-computed : map computed examples ≡ map stated examples
-unfolding examples sortOf makesRuns before piecesFrom withoutBlanks streamAt valueIn numberFrom sameBytes numberAmong symbolOf prefixed _then_ words coded measured distanceFrom distanceAt distance either startsFilter filter filters row ftPrimary ftUnaryNot ftMildNot ftAnd ftOr ftSelection outcomeOf readText
+unfolding examples sortOf makesRuns before piecesFrom withoutBlanks streamAt valueIn numberFrom sameBytes numberAmong symbolOf prefixed _then_ coded measured rangeFrom rangeAt range words anyTimes phrase either startsFilter filter filters row ftPrimary ftUnaryNot ftMildNot ftAnd ftOr ftSelection outcomeOf readText
 examples-computed = refl
 
 pub examples-hold : ExamplesHold

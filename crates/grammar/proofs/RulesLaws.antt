@@ -10,15 +10,15 @@ use Rattle.model.specs.declared.Code.{Code}
 use Rattle.model.specs.declared.Code.the-variants.{Combine, Not}
 use Rattle.model.specs.declared.Pair.the-variants.{Or, And, MildNot}
 use Rattle.model.specs.Limits.{maxWords, maxWord}
-use Rattle.model.specs.Productions.{Sign, Keyword, no-word, word-more, FTSelection, selection-or, selection-filter, FTOr, or-and, or-more, FTAnd, and-mild, and-more, FTMildNot, mild-unary, mild-more, FTUnaryNot, unary-primary, unary-not, FTPrimary, phrase, nested}
+use Rattle.model.specs.Productions.{Sign, Keyword, no-word, word-more, FTWords, quoted, FTSelection, selection-or, selection-filter, FTOr, or-and, or-more, FTAnd, and-mild, and-more, FTMildNot, mild-unary, mild-more, FTUnaryNot, unary-primary, unary-not, FTPrimary, phrase, phrase-times, nested}
 use Rattle.model.specs.Tokens.{Token, quote, opening, closing}
 use Rattle.grammar.specs.Stream.{Stream, ends, token, restOf}
 use Rattle.grammar.specs.Symbols.{k-ftor, k-ftand, k-ftnot, k-not, k-in, k-ordered, k-entire, noMore, s-quote, s-opening, s-closing, symbolIn}
-use Rattle.grammar.specs.Grammar.{read, Rule, _then_, refused, writes, expect, words, startsFilter, filter, filters, row, notIn, ftPrimary, ftUnaryNot, ftMildNot, ftAnd, ftOr, ftSelection}
+use Rattle.grammar.specs.Grammar.{read, Rule, _then_, refused, writes, expect, phrase as phraseRule, startsFilter, filter, filters, row, notIn, ftPrimary, ftUnaryNot, ftMildNot, ftAnd, ftOr, ftSelection}
 use Rattle.grammar.proofs.CompletingLaws.{no-filter, filter-length, row-stops, filters-stop}
 use Rattle.grammar.proofs.GoingLaws.{Production, Within, Joins, Near, Viable, Went, reads, went-map, Seq, seq, went-then, went-both, went-if, Wrote, wrote, wrote-some, went-read, went-refused, keyword-taken, sign-taken, went-case, One, one, aSign, a-sign, aNumber, a-number, went-word, word-some, went-sign, sign-some}
 use Rattle.grammar.proofs.JoiningLaws.{_⊕_, size, plus, size-join}
-use Rattle.grammar.proofs.FlatRulesLaws.{FilterCodes, filter-codes, went-filter, Tail, tail, went-words}
+use Rattle.grammar.proofs.FlatRulesLaws.{FilterCodes, filter-codes, went-filter, Tail, tail, AnyTimes, no-times, some-times, went-phrase}
 
 -- ---- rows
 
@@ -99,7 +99,7 @@ primary-some : Viable FTPrimary []
 primary-some = record {
   more = aSign quote ∷ aNumber ∷ aSign quote ∷ [];
   codes = _;
-  holds = phrase (a-sign quote) (word-more (a-number maxWord) no-word) (omega arith) (omega arith) (a-sign quote);
+  holds = phrase (quoted (a-sign quote) (word-more (a-number maxWord) no-word) (omega arith) (omega arith) (a-sign quote));
 }
 
 unary-some : Viable FTUnaryNot []
@@ -111,8 +111,12 @@ mild-some = let v = unary-some in record { more = v .more; codes = v .codes; hol
 and-some : Viable FTAnd []
 and-some = let v = mild-some in record { more = v .more; codes = v .codes; holds = and-mild (v .holds) }
 
-phrase-join : Joins (Sign quote) (Tail maxWords 0) FTPrimary
-phrase-join t vs ds q (tail {j = j} {m = m} d e l h r) = let f : m ≡ j = omega arith in rw f (phrase q d (omega arith) h r)
+quoted-join : Joins (Sign quote) (Tail maxWords 0) FTWords
+quoted-join t vs ds q (tail {j = j} {m = m} d e l h r) = let f : m ≡ j = omega arith in rw f (quoted q d (omega arith) h r)
+
+phrase-join : Joins (Sign quote) (Seq (Tail maxWords 0) AnyTimes) FTPrimary
+phrase-join t vs ds q (seq {ts = ts} {cs = cs} d no-times) = rw (append-nil ts, append-nil cs) (phrase (quoted-join t _ _ q d))
+phrase-join t vs ds q (seq d (some-times e)) = phrase-times (quoted-join t _ _ q d) e
 
 nested-join : Joins (Sign opening) (Seq FTSelection (One (Sign closing))) FTPrimary
 nested-join t vs ds o (seq {cs = cs} d (one c)) = rw (append-nil cs) (nested o d c)
@@ -154,8 +158,8 @@ module _ (n : ℕ) (inner : (us : Stream) → size us < n → Went FTSelection (
       let rule₀ : Rule = λ us. ftSelection n us then expect s-closing in
       let other : ℕ → Rule = λ i us. cond (eqb (symbolIn us) s-opening) (rule i (restOf us)) (refused us) in
       let other₀ : Rule = λ us. cond (eqb (symbolIn us) s-opening) (rule₀ (restOf us)) (refused us) in
-      went-case (λ s. eqb s s-quote) (sign-taken quote) (λ i. words maxWords 0) (words maxWords 0) other other₀ phrase-join
-      ts (λ t us e q. went-words maxWords 0 (omega arith) us)
+      went-case (λ s. eqb s s-quote) (sign-taken quote) (λ i. phraseRule) phraseRule other other₀ phrase-join
+      ts (λ t us e q. went-phrase us)
       (λ e. went-case (λ s. eqb s s-opening) (sign-taken opening) rule rule₀ (λ i us. refused us) (λ us. refused us) nested-join
       ts (λ t us f o. went-then (λ i. ftSelection (plus n i)) (λ i. expect s-closing) (expect s-closing) (sign-some closing) us
       (inner us (omega (arith, token-size t us, ap size f))) (λ pre rest cs x d. went-sign closing rest))

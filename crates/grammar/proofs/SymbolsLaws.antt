@@ -12,7 +12,7 @@ use Rattle.model.specs.Bytes.{bytes}
 use Rattle.model.specs.Productions.{Sign, Keyword, Number}
 use Rattle.model.specs.TextAnswer.{Alike}
 use Rattle.model.specs.Tokens.{Token, letter, valueOf}
-use Rattle.grammar.specs.Symbols.{k-ftor, k-words, noMore, s-number, keywords, sameBytes, numberAmong, symbolOf}
+use Rattle.grammar.specs.Symbols.{k-ftor, k-times, noMore, s-number, keywords, sameBytes, numberAmong, symbolOf}
 
 -- ---- bytes
 
@@ -38,7 +38,7 @@ abbrev pub spelling : ℕ → String
 spelling n = keywordAt keywords (n - 1)
 
 abbrev pub isKeyword : ℕ → Bool
-isKeyword n = leb k-ftor n && leb n k-words
+isKeyword n = leb k-ftor n && leb n k-times
 
 number-least : (n : ℕ) (ks : List String) (w : List ℕ) → n ≤ numberAmong n ks w
 unfolding numberAmong
@@ -91,8 +91,8 @@ both true true h = (refl, refl)
 both true false h = let z : _≡_ {A = ℕ} 0 1 = cc in absurd (omega arith)
 both false b h = let z : _≡_ {A = ℕ} 0 1 = cc in absurd (omega arith)
 
-pub keyword-range : (n : ℕ) → isKeyword n ≡ true → (k-ftor ≤ n) × (n ≤ k-words)
-keyword-range n k = let b = both (leb k-ftor n) (leb n k-words) k in (leb-true _ _ (b .0), leb-true _ _ (b .1))
+pub keyword-range : (n : ℕ) → isKeyword n ≡ true → (k-ftor ≤ n) × (n ≤ k-times)
+keyword-range n k = let b = both (leb k-ftor n) (leb n k-times) k in (leb-true _ _ (b .0), leb-true _ _ (b .1))
 
 pub symbol-keyword : (n : ℕ) → isKeyword n ≡ true → (t : Token) → symbolOf t ≡ n → Keyword (spelling n) t
 symbol-keyword n k t =

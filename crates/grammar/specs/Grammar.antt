@@ -5,7 +5,8 @@
 --   FTAnd        = FTMildNot ('ftand' FTMildNot)*
 --   FTMildNot    = FTUnaryNot ('not' 'in' FTUnaryNot)*
 --   FTUnaryNot   = 'ftnot'? FTPrimary
---   FTPrimary    = '"' words '"' | '(' FTSelection ')'
+--   FTPrimary    = FTWords FTTimes? | '(' FTSelection ')'
+--   FTWords      = '"' words '"'
 --
 -- A rule reads the front of the stream and gives the codes in postfix order with the stream left, or the first error. That a text's answer by these
 -- functions is its answer by the productions, and no other, is proved in proofs/.
@@ -15,14 +16,15 @@ use mathlib.Core.List.{List, [], _∷_, _++_}
 use lib.Dec.{eqb, leb}
 use lib.ListN.{length}
 use Rattle.model.specs.declared.Code.{Code}
-use Rattle.model.specs.declared.Code.the-variants.{Word, Phrase, Combine, Not, Filter as Filtered}
+use Rattle.model.specs.declared.Code.the-variants.{Word, Phrase, Combine, Not, Filter as Filtered, Occurs}
 use Rattle.model.specs.declared.Filter.the-variants.{Ordered, Window, Distance, SameSentence, SameParagraph, DifferentSentence, DifferentParagraph, AtStart, AtEnd, EntireContent}
 use Rattle.model.specs.declared.Pair.the-variants.{Or, And, MildNot}
+use Rattle.model.specs.declared.Times.the-variants.{FromTo, AtLeast}
 use Rattle.model.specs.Checks.{refusal}
 use Rattle.model.specs.Limits.{maxDistance, maxNumber, maxText, maxWords, maxWord}
 use Rattle.model.specs.TextAnswer.{TextAnswer, codes, error}
 use Rattle.grammar.specs.Stream.{Stream, placeIn, restOf, valueIn, streamAt}
-use Rattle.grammar.specs.Symbols.{k-ftor, k-ftand, k-ftnot, k-not, k-in, k-ordered, k-window, k-distance, k-same, k-different, k-at, k-entire, k-start, k-end, k-sentence, k-paragraph, k-content, k-exactly, k-from, k-to, k-least, k-most, k-words, noMore, s-quote, s-opening, s-closing, s-number, symbolIn}
+use Rattle.grammar.specs.Symbols.{k-ftor, k-ftand, k-ftnot, k-not, k-in, k-ordered, k-window, k-distance, k-same, k-different, k-at, k-entire, k-start, k-end, k-sentence, k-paragraph, k-content, k-occurs, k-exactly, k-from, k-to, k-least, k-most, k-words, k-times, noMore, s-quote, s-opening, s-closing, s-number, symbolIn}
 
 pub data Outcome : Type 0 where
   failed : (number place : ℕ) → Outcome
@@ -62,6 +64,39 @@ number most next ts =
     (cond (leb (valueIn ts) most) (next (valueIn ts) (restOf ts)) (failed 11 (placeIn ts)))
     (refused ts)
 
+-- a token of a symbol, and a code
+unfoldable pub coded : ℕ → Code → Rule
+coded s c ts = expect s ts then writes c
+
+-- a number and a last word, and the code that the number makes
+unfoldable pub measured : ℕ → (ℕ → Code) → Rule
+measured last f ts = number maxNumber (λ n rest. coded last (f n) rest) ts
+
+-- ---- ranges: "`exactly`, `at least` .., `at most` .. or `from .. to`", and a last word
+
+-- `between a b` is the code of `from a to b`, `least a` that of `at least a`
+unfoldable pub rangeFrom : ℕ → (ℕ → ℕ → Code) → Rule
+rangeFrom last between ts = number maxNumber (λ a rest. expect k-to rest then measured last (between a)) ts
+
+unfoldable pub rangeAt : ℕ → (ℕ → Code) → (ℕ → ℕ → Code) → Rule
+rangeAt last least between ts =
+    cond (eqb (symbolIn ts) k-least) (measured last least (restOf ts))
+    (expect k-most ts then measured last (between 0))
+
+unfoldable pub range : ℕ → (ℕ → Code) → (ℕ → ℕ → Code) → Rule
+range last least between ts =
+    cond (eqb (symbolIn ts) k-exactly) (measured last (λ n. between n n) (restOf ts))
+    (cond (eqb (symbolIn ts) k-from) (rangeFrom last between (restOf ts))
+    (expect k-at ts then rangeAt last least between))
+
+-- "Distance takes `exactly`, `at least` (to 4,095), `at most` (from 0) or `from .. to`."
+abbrev pub distance : Rule
+distance = range k-words (λ a. Filtered (Distance a maxDistance)) (λ a b. Filtered (Distance a b))
+
+-- F-3: "`at least` is kind 17", the other ranges kind 16
+abbrev pub times : Rule
+times = range k-times (λ a. Occurs (AtLeast a)) (λ a b. Occurs (FromTo a b))
+
 -- ---- a phrase: "one to eight word numbers in double quotes"
 
 -- after k words, of which `left` more may come
@@ -72,30 +107,15 @@ words (suc left) k ts =
     (read (Phrase k ∷ []) (restOf ts))
     (number maxWord (λ v rest. read (Word v ∷ []) rest then words left (k + 1)) ts)
 
+-- FTTimes?: "`occurs` with one of the four ranges and `times` follows a phrase"
+unfoldable pub anyTimes : Rule
+anyTimes ts = cond (eqb (symbolIn ts) k-occurs) (times (restOf ts)) (read [] ts)
+
+-- FTWords FTTimes?, after the opening quote
+unfoldable pub phrase : Rule
+phrase ts = words maxWords 0 ts then anyTimes
+
 -- ---- filters
-
--- a token of a symbol, and a code
-unfoldable pub coded : ℕ → Code → Rule
-coded s c ts = expect s ts then writes c
-
--- a number and `words`, and the code that the number makes
-unfoldable pub measured : (ℕ → Code) → Rule
-measured f ts = number maxNumber (λ n rest. coded k-words (f n) rest) ts
-
--- "Distance takes `exactly`, `at least` (to 4,095), `at most` (from 0) or `from .. to`."
-unfoldable pub distanceFrom : Rule
-distanceFrom ts = number maxNumber (λ a rest. expect k-to rest then measured (λ b. Filtered (Distance a b))) ts
-
-unfoldable pub distanceAt : Rule
-distanceAt ts =
-    cond (eqb (symbolIn ts) k-least) (measured (λ a. Filtered (Distance a maxDistance)) (restOf ts))
-    (expect k-most ts then measured (λ b. Filtered (Distance 0 b)))
-
-unfoldable pub distance : Rule
-distance ts =
-    cond (eqb (symbolIn ts) k-exactly) (measured (λ n. Filtered (Distance n n)) (restOf ts))
-    (cond (eqb (symbolIn ts) k-from) (distanceFrom (restOf ts))
-    (expect k-at ts then distanceAt))
 
 -- one of two words, each with its code
 unfoldable pub either : ℕ → Code → ℕ → Code → Rule
@@ -107,7 +127,7 @@ startsFilter ts = leb k-ordered (symbolIn ts) && leb (symbolIn ts) k-entire
 unfoldable pub filter : Rule
 filter ts =
     cond (eqb (symbolIn ts) k-ordered) (read (Filtered Ordered ∷ []) (restOf ts))
-    (cond (eqb (symbolIn ts) k-window) (measured (λ n. Filtered (Window n)) (restOf ts))
+    (cond (eqb (symbolIn ts) k-window) (measured k-words (λ n. Filtered (Window n)) (restOf ts))
     (cond (eqb (symbolIn ts) k-distance) (distance (restOf ts))
     (cond (eqb (symbolIn ts) k-same) (either k-sentence (Filtered SameSentence) k-paragraph (Filtered SameParagraph) (restOf ts))
     (cond (eqb (symbolIn ts) k-different) (either k-sentence (Filtered DifferentSentence) k-paragraph (Filtered DifferentParagraph) (restOf ts))
@@ -133,7 +153,7 @@ notIn ts = expect k-not ts then expect k-in
 module _ (n : ℕ) (inner : Rule) where
   unfoldable pub ftPrimary : Rule
   ftPrimary ts =
-      cond (eqb (symbolIn ts) s-quote) (words maxWords 0 (restOf ts))
+      cond (eqb (symbolIn ts) s-quote) (phrase (restOf ts))
       (cond (eqb (symbolIn ts) s-opening) (inner (restOf ts) then expect s-closing) (refused ts))
 
   unfoldable pub ftUnaryNot : Rule

@@ -1,4 +1,4 @@
--- The grammar's symbols as numbers: a keyword has its place in the list below, 24 is every other word, 25 the end of the text, 100 + its sort any other
+-- The grammar's symbols as numbers: a keyword has its place in the list below, 26 is every other word, 27 the end of the text, 100 + its sort any other
 -- token. So a rule asks for a word, a sign or a number in the same way.
 use Prim.Native.Nat.{ℕ, suc, _+_}
 use Prim.Native.String.{String}
@@ -62,30 +62,37 @@ k-paragraph = 16
 abbrev pub k-content : ℕ
 k-content = 17
 
+-- the word that begins a phrase's times, and those of a range
+abbrev pub k-occurs : ℕ
+k-occurs = 18
+
 abbrev pub k-exactly : ℕ
-k-exactly = 18
+k-exactly = 19
 
 abbrev pub k-from : ℕ
-k-from = 19
+k-from = 20
 
 abbrev pub k-to : ℕ
-k-to = 20
+k-to = 21
 
 abbrev pub k-least : ℕ
-k-least = 21
+k-least = 22
 
 abbrev pub k-most : ℕ
-k-most = 22
+k-most = 23
 
 abbrev pub k-words : ℕ
-k-words = 23
+k-words = 24
+
+abbrev pub k-times : ℕ
+k-times = 25
 
 -- every other word
 abbrev pub otherWord : ℕ
-otherWord = 24
+otherWord = 26
 
 abbrev pub noMore : ℕ
-noMore = 25
+noMore = 27
 
 abbrev pub s-quote : ℕ
 s-quote = 134
@@ -103,7 +110,8 @@ abbrev pub keywords : List String
 keywords =
     "ftor" ∷ "ftand" ∷ "ftnot" ∷ "not" ∷ "in"
     ∷ "ordered" ∷ "window" ∷ "distance" ∷ "same" ∷ "different" ∷ "at" ∷ "entire"
-    ∷ "start" ∷ "end" ∷ "sentence" ∷ "paragraph" ∷ "content" ∷ "exactly" ∷ "from" ∷ "to" ∷ "least" ∷ "most" ∷ "words"
+    ∷ "start" ∷ "end" ∷ "sentence" ∷ "paragraph" ∷ "content"
+    ∷ "occurs" ∷ "exactly" ∷ "from" ∷ "to" ∷ "least" ∷ "most" ∷ "words" ∷ "times"
     ∷ []
 
 unfoldable pub sameBytes : List ℕ → List ℕ → Bool

@@ -12,16 +12,18 @@ use Rattle.model.specs.declared.Filter.{Filter}
 use Rattle.model.specs.declared.Filter.the-variants.{Ordered, Window, Distance, SameSentence, SameParagraph, DifferentSentence, DifferentParagraph, AtStart, AtEnd, EntireContent}
 use Rattle.model.specs.declared.Pair.{Pair}
 use Rattle.model.specs.declared.Pair.the-variants.{Or, And, MildNot}
-use Rattle.model.specs.Kinds.{Change, negated, filtered}
-use Rattle.model.specs.Lists.{Every, allOf, keep, fromTo}
+use Rattle.model.specs.declared.Times.{Times}
+use Rattle.model.specs.declared.Times.the-variants.{FromTo, AtLeast}
+use Rattle.model.specs.Kinds.{Change, negated, filtered, occurring}
+use Rattle.model.specs.Lists.{Every, allOf, keep, choose, fromTo}
 use Rattle.model.specs.Matches.{Str, Match}
-use Rattle.model.specs.Rules.{standFrom, found, phraseList, orList, joined, andList, noStrings, withInclude, withExclude, notList, hasUncovered, mildNotList, Keeping, keptIf, keptMatch, kept, join, insideWindow, windowTo, windowEnds, window}
+use Rattle.model.specs.Rules.{standFrom, found, phraseList, orList, joined, andList, noStrings, withInclude, withExclude, notList, hasUncovered, mildNotList, Keeping, keptIf, keptMatch, kept, join, insideWindow, windowTo, windowEnds, window, joinedAll, choicesOf, atLeast, fromToTimes}
 use Rattle.model.specs.Choices.{turnedStrings}
 use Rattle.model.specs.AllStrings.{AllStrs, AllMatch, AllList, Within, Ranked, EveryPhrase, RankUpTo, RanksUpTo}
-use Rattle.model.specs.AllMatches.{pairList, changeList, filterMatch, filterList, allMatches}
+use Rattle.model.specs.AllMatches.{pairList, changeList, filterMatch, filterList, occursList, allMatches}
 use Rattle.model.specs.Section.{Section}
 use Rattle.model.specs.Trees.{Tree, phrase, pair, change}
-use Rattle.model.proofs.EveryLaws.{every-weaker, every-append, every-value, every-map, every-flatMap, every-kept, every-keep, every-range}
+use Rattle.model.proofs.EveryLaws.{every-weaker, every-append, every-value, every-map, every-flatMap, every-kept, every-keep, every-choose, every-range}
 use Rattle.model.proofs.TestsLaws.{both-true}
 use Rattle.model.proofs.RulesLaws.{not-and, leastStart-bound, greatestEnd-bound, leastStart-greatestEnd}
 
@@ -102,6 +104,26 @@ module _ (P : Str → Type 0) where
   all-pair And ls rs a b = all-and ls rs a b
   all-pair MildNot ls rs a b = all-mildNot ls rs a
 
+  -- ---- occurs
+
+  all-joinedAll : (ms : List Match) → AllList P ms → AllMatch P (joinedAll ms)
+  unfolding joinedAll Every
+  all-joinedAll [] a = record { includes = tt; excludes = tt }
+  all-joinedAll (m ∷ ms) a = all-joined m (joinedAll ms) (a .0) (all-joinedAll ms (a .1))
+
+  all-choices : (ms : List Match) → AllList P ms → (k : ℕ) → AllList P (choicesOf ms k)
+  unfolding choicesOf
+  all-choices ms a k = every-map _ _ joinedAll all-joinedAll (choose k ms) (every-choose _ k ms a)
+
+  all-atLeast : (a : ℕ) (ms : List Match) → AllList P ms → AllList P (atLeast a ms)
+  unfolding atLeast
+  all-atLeast a ms h = every-flatMap _ _ (choicesOf ms) (λ k _. all-choices ms h k) (fromTo a (length ms)) (every-range a (length ms))
+
+  pub all-occurs : (k : Times) (ms : List Match) → AllList P ms → AllList P (occursList k ms)
+  unfolding fromToTimes
+  all-occurs (FromTo a b) ms h = all-and (atLeast a ms) (notList (atLeast (b + 1) ms)) (all-atLeast a ms h) (all-not _ (all-atLeast (b + 1) ms h))
+  all-occurs (AtLeast a) ms h = all-atLeast a ms h
+
   -- ---- filters
 
   module _ (closed : Closed P) where
@@ -142,6 +164,7 @@ module _ (P : Str → Type 0) where
     unfolding filterList
     all-change s negated ms a = all-not ms a
     all-change s (filtered f) ms a = every-flatMap _ _ (filterMatch s f) (all-filter s f) ms a
+    all-change s (occurring k) ms a = all-occurs k ms a
 
     pub all-matches : (s : Section) (t : Tree) → EveryPhrase (Finds P s) t → AllList P (allMatches s t)
     unfolding allMatches filterList EveryPhrase

@@ -19,7 +19,7 @@ use Rattle.model.specs.Kinds.{Shape, aWord, aPhrase, aPair, aChange, sha
 use Rattle.model.specs.Trees.{Tree, phrase, pair, change, placeOf, topTree, treeOf, parts}
 use Rattle.model.specs.Parts.{isNotCode, hasWords, postfix, renumbered, wellFormed, PartAt, codesOfTrees, phrasesAll}
 use Rattle.model.specs.Checks.{refusal, otherwise, Check, tried, wrongSection, faultyIn, faultyAt, faultyPosition, sectionRefusal, wrongSelection, unknownKind}
-use Rattle.model.specs.Checks.{operandFits, wrongOperand, wrongShape, isNot, hasNot, mildOverNot, notUnderMildNot, selectionRefusal}
+use Rattle.model.specs.Checks.{operandFits, wrongOperand, wrongShape, occursOverOther, notOverPhrase, isNot, hasNot, mildOverNot, notUnderMildNot, selectionRefusal}
 use Rattle.model.specs.Accepted.{ReportedOrNot, AcceptedSection, maxPhrases, AcceptedSelection}
 use Rattle.model.proofs.ListsLaws.{any-append, first-range-none, range-first-none}
 use Rattle.model.proofs.SectionLaws.{WellSized, well-sized}
@@ -129,9 +129,9 @@ pub sized-selection : (sel : List ℕ) → wrongSelection sel ≡ none → WellS
 unfolding wrongSelection
 sized-selection sel h = well-sized 1 maxCodes sel (cond-none (wellSized 1 maxCodes sel) 0 h)
 
-pub known-kinds : (sel : List ℕ) → unknownKind sel ≡ none → (c : ℕ) → 1 ≤ c → c ≤ size sel → kindAt sel c ≤ 15
+pub known-kinds : (sel : List ℕ) → unknownKind sel ≡ none → (c : ℕ) → 1 ≤ c → c ≤ size sel → kindAt sel c ≤ 17
 unfolding unknownKind
-known-kinds sel h c l g = omega (arith, leb-false 16 (kindAt sel c) (first-range-none (λ i. leb 16 (kindAt sel i)) 1 (size sel) h c l g))
+known-kinds sel h c l g = omega (arith, leb-false 18 (kindAt sel c) (first-range-none (λ i. leb 18 (kindAt sel i)) 1 (size sel) h c l g))
 
 pub fitting-operands : (sel : List ℕ) → wrongOperand sel ≡ none → (c : ℕ) → 1 ≤ c → c ≤ size sel → operandFits (kindAt sel c) (operandAt sel c) ≡ true
 unfolding wrongOperand
@@ -177,13 +177,14 @@ tree-spelt sel well =
 
 -- what holds of a selection that is not refused
 pub accepted-selection : (sel : List ℕ) → selectionRefusal sel ≡ none → AcceptedSelection sel
-unfolding selectionRefusal wrongShape notUnderMildNot shapesOf
+unfolding selectionRefusal wrongShape notOverPhrase notUnderMildNot shapesOf
 accepted-selection sel h =
     let three = tried-cons _ _ sel h in
     let four = tried-cons _ _ sel (three .1) in
     let five = tried-cons _ _ sel (four .1) in
     let six = tried-cons _ _ sel (five .1) in
-    let seven = tried-cons _ _ sel (six .1) in
+    let twelve = tried-cons _ _ sel (six .1) in
+    let seven = tried-cons _ _ sel (twelve .1) in
     let size-is = sized-selection sel (three .0) in
     let operands = fitting-operands sel (five .0) in
     let codes = all-upTo (shapeAt sel) hasWords (size sel) (λ c l g. has-words (kindAt sel c) (operandAt sel c) (operands c l g)) in
@@ -201,6 +202,7 @@ accepted-selection sel h =
       spelt = tree .0;
       numbered = tree .1;
       ranks = ranks-to maxPhrases 1 1 (treeOf sel) (tree .1) (omega arith) (omega (arith, size-is .at-most, ap length (tree .0), length-upTo (shapeAt sel) (size sel))) words;
+      over-phrases = map-eq-none-iff placeOf (first occursOverOther (parts (treeOf sel))) .0 (twelve .0);
       no-not = map-eq-none-iff placeOf (first mildOverNot (parts (treeOf sel))) .0 (seven .0);
     }
 

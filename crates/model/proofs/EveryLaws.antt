@@ -4,8 +4,10 @@ use native.Mathlib.Omega.{arith}
 use mathlib.Core.Path.{_≡_, refl}
 use mathlib.Core.Bool.{Bool, true, false, cond}
 use mathlib.Core.List.{List, [], _∷_, _++_, map, flatMap}
+use mathlib.Core.Option.{none}
 use lib.ListN.{length, getD}
-use Rattle.model.specs.Lists.{Every, keep, upFrom, fromTo}
+use Rattle.model.specs.Lists.{Every, keep, first, choose, upFrom, fromTo}
+use Rattle.model.proofs.ListsLaws.{first-none}
 
 pub every-weaker : {A : Type 0} (P Q : A → Type 0) → ((x : A) → P x → Q x) → (xs : List A) → Every P xs → Every Q xs
 unfolding Every
@@ -53,6 +55,12 @@ module _ {A : Type 0} (P : A → Type 0) where
   every-getD (x ∷ xs) d zero h a = a .0
   every-getD (x ∷ xs) d (suc i) h a = every-getD xs d i (omega arith) (a .1)
 
+-- where a search finds nothing, no element passes
+pub every-none : {A : Type 0} (p : A → Bool) (xs : List A) → first p xs ≡ none → Every (λ x. p x ≡ false) xs
+unfolding Every
+every-none p [] e = tt
+every-none p (x ∷ xs) e = let at = first-none p x xs e in (at .0, every-none p xs (at .1))
+
 pub every-upFrom : (a n : ℕ) → Every (λ p. (a ≤ p) × (p < a + n)) (upFrom a n)
 unfolding Every upFrom
 every-upFrom a zero = tt
@@ -61,3 +69,13 @@ every-upFrom a (suc n) = (omega arith, every-weaker _ _ (λ p h. omega arith) (u
 pub every-range : (a b : ℕ) → Every (λ p. (a ≤ p) × (p ≤ b)) (fromTo a b)
 unfolding fromTo
 every-range a b = every-weaker _ _ (λ p h. omega arith) (upFrom a (b + 1 - a)) (every-upFrom a (b + 1 - a))
+
+-- what holds of all elements holds of those chosen
+pub every-choose : {A : Type 0} (P : A → Type 0) (k : ℕ) (xs : List A) → Every P xs → Every (Every P) (choose k xs)
+unfolding Every choose
+every-choose P zero xs a = (tt, tt)
+every-choose P (suc k) [] a = tt
+every-choose P (suc k) (x ∷ xs) a =
+    every-append (Every P) (map (λ ys. x ∷ ys) (choose k xs)) (choose (suc k) xs)
+    (every-map (Every P) (Every P) (λ ys. x ∷ ys) (λ ys b. (a .0, b)) (choose k xs) (every-choose P k xs (a .1)))
+    (every-choose P (suc k) xs (a .1))

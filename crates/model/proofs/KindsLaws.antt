@@ -6,12 +6,12 @@ use mathlib.Core.Bool.{Bool, true, false, cond}
 use lib.Dec.{eqb, leb}
 use borrow.Author.Tests.{eqb-true}
 use Rattle.model.specs.declared.Code.{Code}
-use Rattle.model.specs.declared.Code.the-variants.{Word, Phrase, Combine, Not, Filter as Filtered}
+use Rattle.model.specs.declared.Code.the-variants.{Word, Phrase, Combine, Not, Filter as Filtered, Occurs}
 use Rattle.model.specs.declared.Filter.the-variants.{EntireContent}
 use Rattle.model.specs.declared.Pair.{Pair}
 use Rattle.model.specs.declared.Pair.the-variants.{Or, And, MildNot}
-use Rattle.model.specs.Kinds.{Change, negated, filtered, Shape, aWord, aPhrase, aPair, aChange, shapeOf, isWord, arity}
-use Rattle.model.specs.Selection.{filterOf, codeOf}
+use Rattle.model.specs.Kinds.{Change, negated, filtered, occurring, Shape, aWord, aPhrase, aPair, aChange, shapeOf, isWord, arity}
+use Rattle.model.specs.Selection.{filterOf, timesOf, codeOf}
 use Rattle.model.proofs.TestsLaws.{false-true, positive}
 
 pub arity-le : (s : Shape) → arity s ≤ 2
@@ -27,6 +27,7 @@ word-shape (Phrase k) v e = false-true (ap isWord e)
 word-shape (Combine k) v e = false-true (ap isWord e)
 word-shape Not v e = false-true (ap isWord e)
 word-shape (Filtered f) v e = false-true (ap isWord e)
+word-shape (Occurs k) v e = false-true (ap isWord e)
 
 -- what holds of the shape of the code of a kind and an operand, by the shapes
 pub shape-cases : (P : Shape → Type 0) (k o : ℕ) → (k ≡ 0 → P (aWord o)) → (k ≡ 1 → P (aPhrase o)) → (1 ≤ k → (q : Pair) → P (aPair q))
@@ -39,7 +40,8 @@ shape-cases P k o w p c f =
     cond-cases (eqb k 2) _ _ (λ _. c h Or) (λ _.
     cond-cases (eqb k 3) _ _ (λ _. c h And) (λ _.
     cond-cases (eqb k 4) _ _ (λ _. f h negated) (λ _. c h MildNot)))) (λ _.
-    cond-cases (leb k 15) _ _ (λ _. f h (filtered (filterOf k o))) (λ _. f h (filtered EntireContent)))))
+    cond-cases (leb k 15) _ _ (λ _. f h (filtered (filterOf k o))) (λ _.
+    cond-cases (leb k 17) _ _ (λ _. f h (occurring (timesOf k o))) (λ _. f h (filtered EntireContent))))))
   where
     cond-cases : (b : Bool) (x y : Code) → (b ≡ true → P (shapeOf x)) → (b ≡ false → P (shapeOf y)) → P (shapeOf (cond b x y))
     cond-cases true x y t e = t refl

@@ -28,7 +28,7 @@ pub length-none : {A : Type 0} (xs : List A) → length xs ≡ 0 → xs ≡ []
 length-none [] h = refl
 length-none (x ∷ xs) h = absurd (omega arith)
 
-getD-map : {A B : Type 0} (f : A → B) (xs : List A) (d : A) (e : B) (i : ℕ) → i < length xs → getD (map f xs) i e ≡ f (getD xs i d)
+pub getD-map : {A B : Type 0} (f : A → B) (xs : List A) (d : A) (e : B) (i : ℕ) → i < length xs → getD (map f xs) i e ≡ f (getD xs i d)
 getD-map f [] d e i h = absurd (omega arith)
 getD-map f (x ∷ xs) d e zero h = refl
 getD-map f (x ∷ xs) d e (suc i) h = getD-map f xs d e i (omega arith)

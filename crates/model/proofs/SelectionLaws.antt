@@ -1,4 +1,4 @@
--- Laws of codes and of rows of codes. A code and its two numbers say the same, as going through the sixteen kinds shows; and a row's first codes
+-- Laws of codes and of rows of codes. A code and its two numbers say the same, as going through the eighteen kinds shows; and a row's first codes
 -- are its codes one by one, since a row is cut before or after any of them.
 use Prim.Native.Nat.{ℕ, zero, suc, _+_, _-_, _*_, _/_, _%_, _≤_, _<_}
 use native.Mathlib.Nat.{add-zero}
@@ -11,13 +11,14 @@ use lib.ListN.{length, take, drop, getD, length-append}
 use lib.Seq.{take-at, take-append-seam, drop-cons, append-snoc, getD-at, getD-append-seam}
 use borrow.Author.Tests.{eqb-true}
 use Rattle.model.specs.declared.Code.{Code}
-use Rattle.model.specs.declared.Code.the-variants.{Word, Phrase, Combine, Not, Filter as Filtered}
+use Rattle.model.specs.declared.Code.the-variants.{Word, Phrase, Combine, Not, Filter as Filtered, Occurs}
 use Rattle.model.specs.declared.Filter.the-variants.{Ordered, Window, Distance, SameSentence, SameParagraph, DifferentSentence, DifferentParagraph, AtStart, AtEnd, EntireContent}
 use Rattle.model.specs.declared.Pair.the-variants.{Or, And, MildNot}
+use Rattle.model.specs.declared.Times.the-variants.{FromTo, AtLeast}
 use Rattle.model.specs.Limits.{radix}
 use Rattle.model.specs.Lists.{allOf, upFrom}
 use Rattle.model.specs.Selection.{kindOf, operandOf, codeOf, upTo}
-use Rattle.model.specs.Checks.{operandFits, filterOperandFits}
+use Rattle.model.specs.Checks.{operandFits, filterOperandFits, timesOperandFits}
 use Rattle.model.specs.Parts.{mostOf}
 use Rattle.model.proofs.LimitsLaws.{upper-half, lower-half}
 use Rattle.model.proofs.ListsLaws.{all-append, upFrom-snoc}
@@ -40,14 +41,17 @@ below P (suc n) b k h = go (n - k) refl (below P n (b .0) k)
     go (suc d) e r = r (omega arith)
 
 -- a code has the kind that it is made of
-pub kind-code : (k o : ℕ) → k ≤ 15 → kindOf (codeOf k o) ≡ k
+pub kind-code : (k o : ℕ) → k ≤ 17 → kindOf (codeOf k o) ≡ k
 unfolding Below
-kind-code k o h = below (λ n. kindOf (codeOf n o) ≡ n) 16 (search) k (omega arith)
+kind-code k o h = below (λ n. kindOf (codeOf n o) ≡ n) 18 each k (omega arith)
+  where
+    each : Below (λ n. kindOf (codeOf n o) ≡ n) 18
+    each = ((((((((((((((((((tt, refl), refl), refl), refl), refl), refl), refl), refl), refl), refl), refl), refl), refl), refl), refl), refl), refl), refl)
 
--- and the operand, where that fits the kind: kinds 0, 1 and 7 keep it, 8 keeps it as two numbers, the others have none
-pub operand-code : (k o : ℕ) → k ≤ 15 → operandFits k o ≡ true → operandOf (codeOf k o) ≡ o
-unfolding Below operandFits filterOperandFits
-operand-code k o h f = below (λ n. operandFits n o ≡ true → operandOf (codeOf n o) ≡ o) 16 each k (omega arith) f
+-- and the operand, where that fits the kind: kinds 0, 1, 7 and 17 keep it, 8 and 16 keep it as two numbers, the others have none
+pub operand-code : (k o : ℕ) → k ≤ 17 → operandFits k o ≡ true → operandOf (codeOf k o) ≡ o
+unfolding Below operandFits filterOperandFits timesOperandFits
+operand-code k o h f = below (λ n. operandFits n o ≡ true → operandOf (codeOf n o) ≡ o) 18 each k (omega arith) f
   where
     kept : {b : Bool} → b ≡ true → o ≡ o
     kept z = refl
@@ -58,8 +62,8 @@ operand-code k o h f = below (λ n. operandFits n o ≡ true → operandOf (code
     none : eqb o 0 ≡ true → 0 ≡ o
     none z = sym (eqb-true o 0 z)
 
-    each : Below (λ n. operandFits n o ≡ true → operandOf (codeOf n o) ≡ o) 16
-    each = ((((((((((((((((tt, kept), kept), none), none), none), none), none), kept), split), none), none), none), none), none), none), none)
+    each : Below (λ n. operandFits n o ≡ true → operandOf (codeOf n o) ≡ o) 18
+    each = ((((((((((((((((((tt, kept), kept), none), none), none), none), none), kept), split), none), none), none), none), none), none), none), split), kept)
 
 -- a code is made again of its kind and operand
 pub code-code : (c : Code) → mostOf c < radix → codeOf (kindOf c) (operandOf c) ≡ c
@@ -79,6 +83,8 @@ code-code (Filtered DifferentParagraph) h = refl
 code-code (Filtered AtStart) h = refl
 code-code (Filtered AtEnd) h = refl
 code-code (Filtered EntireContent) h = refl
+code-code (Occurs (FromTo a b)) h = ap₂ (λ (x y : ℕ). Occurs (FromTo x y)) (upper-half a b h) (lower-half a b h)
+code-code (Occurs (AtLeast a)) h = refl
 
 -- ---- upTo
 

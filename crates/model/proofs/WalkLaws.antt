@@ -13,7 +13,7 @@ use Rattle.model.specs.declared.Quick.the-variants.{Answered, Refused}
 use Rattle.model.specs.declared.Refusal.{Refusal}
 use Rattle.model.specs.AllMatches.{allMatches}
 use Rattle.model.specs.Checks.{refusal}
-use Rattle.model.specs.Kinds.{negated, filtered}
+use Rattle.model.specs.Kinds.{negated, filtered, occurring}
 use Rattle.model.specs.Lists.{first}
 use Rattle.model.specs.Matches.{isYes, tooLong}
 use Rattle.model.specs.Section.{Section}
@@ -127,6 +127,7 @@ walk-is s (pair MildNot c t u) = refl
 walk-is s (change negated c t) =
     rw (walk-is s t, length-append (walkReaches s t) (change negated c t ∷ [])) (not-walked (firstTooLong s (walkBuilds s t)) (walkAnswer s t) (length (walkReaches s t)))
 walk-is s (change (filtered f) c t) = refl
+walk-is s (change (occurring k) c t) = refl
 
 -- ---- walkAnswer
 
@@ -138,6 +139,7 @@ walkAnswer-complete s (pair And c t u) = ap₂ _&&_ (walkAnswer-complete s t) (w
 walkAnswer-complete s (pair MildNot c t u) = refl
 walkAnswer-complete s (change negated c t) = ap not (walkAnswer-complete s t) ∙ sym (yes-not (allMatches s t))
 walkAnswer-complete s (change (filtered f) c t) = refl
+walkAnswer-complete s (change (occurring k) c t) = refl
 
 -- ---- walkBuilds, walkReaches
 
@@ -160,6 +162,7 @@ walkBuilds-reaches s (pair And c t u) =
 walkBuilds-reaches s (pair MildNot c t u) = Sublistᴰ·refl (parts (pair MildNot c t u))
 walkBuilds-reaches s (change negated c t) = sublist-append (change negated c t ∷ []) (walkBuilds-reaches s t)
 walkBuilds-reaches s (change (filtered f) c t) = Sublistᴰ·refl (parts (change (filtered f) c t))
+walkBuilds-reaches s (change (occurring k) c t) = Sublistᴰ·refl (parts (change (occurring k) c t))
 
 -- Every code that it reaches is the tree's, in the same order: none counts twice.
 pub walkReaches-parts : (s : Section) (t : Tree) → Sublistᴰ (walkReaches s t) (parts t)
@@ -172,6 +175,7 @@ walkReaches-parts s (pair And c t u) =
 walkReaches-parts s (pair MildNot c t u) = Sublistᴰ·refl (parts (pair MildNot c t u))
 walkReaches-parts s (change negated c t) = Sublistᴰ·append (walkReaches-parts s t) (Sublistᴰ·refl (change negated c t ∷ []))
 walkReaches-parts s (change (filtered f) c t) = Sublistᴰ·refl (parts (change (filtered f) c t))
+walkReaches-parts s (change (occurring k) c t) = Sublistᴰ·refl (parts (change (occurring k) c t))
 
 pub walkBuilds-parts : (s : Section) (t : Tree) → Sublistᴰ (walkBuilds s t) (parts t)
 walkBuilds-parts s t = Sublistᴰ·trans (walkBuilds-reaches s t) (walkReaches-parts s t)

@@ -1,15 +1,20 @@
 -- When the rules' lists have a match without excludes. Phrase, or, and, not: each turns on its operands' answers alone, which is why the quick
--- answer may walk them without their lists.
-use Prim.Native.Nat.{ℕ}
-use mathlib.Core.Path.{_≡_, refl, ap, ap₂, sym, _∙_}
+-- answer may walk them without their lists. Occurs turns on how often its phrase is found.
+use Prim.Native.Nat.{ℕ, zero, suc, _+_, _≤_}
+use native.Mathlib.Omega.{arith}
+use mathlib.Core.Path.{_≡_, refl, ap, ap₂, sym, subst, _∙_}
 use mathlib.Core.Bool.{Bool, true, false, not, _&&_, _||_, and-or-distrib-left, and-or-distrib-right, and-false}
-use mathlib.Core.List.{List, [], _∷_, map, flatMap}
+use mathlib.Core.List.{List, [], _∷_, _++_, map, flatMap}
+use lib.Dec.{leb}
 use lib.ListN.{length}
-use Rattle.model.specs.Lists.{anyOf, isEmpty, keep, fromTo}
+use borrow.Author.Tests.{leb-true, leb-false}
+use Rattle.model.specs.Lists.{Every, anyOf, isEmpty, keep, choose, fromTo}
 use Rattle.model.specs.Matches.{Str, Match, noExclude, isYes}
-use Rattle.model.specs.Rules.{standFrom, found, phraseList, orList, joined, andList, withInclude, withExclude, notList}
+use Rattle.model.specs.Rules.{standFrom, found, phraseList, orList, joined, andList, withInclude, withExclude, notList, joinedAll, choicesOf, atLeast, fromToTimes}
 use Rattle.model.specs.Section.{Section}
-use Rattle.model.proofs.ListsLaws.{any-append, isEmpty-append}
+use Rattle.model.proofs.EveryLaws.{every-value, every-choose}
+use Rattle.model.proofs.ListsLaws.{any-append, isEmpty-append, range-empty, range-cons}
+use Rattle.model.proofs.TestsLaws.{and-join}
 
 -- ---- phrase
 
@@ -87,3 +92,49 @@ yes-not (m ∷ ms) =
     neither : (x y : Bool) → (not x && not y) ≡ not (x || y)
     neither true y = refl
     neither false y = refl
+
+-- ---- occurs: of matches without excludes, as a phrase's are, there is a choice of a or more where there are as many
+
+abbrev Free : Match → Type 0
+Free m = noExclude m ≡ true
+
+some-choice : {A : Type 0} (k : ℕ) (xs : List A) → k ≤ length xs → (ys : List A) × (others : List (List A)) × (choose k xs ≡ ys ∷ others)
+unfolding choose
+some-choice zero xs h = ([], [], refl)
+some-choice (suc k) [] h = absurd (omega arith)
+some-choice (suc k) (x ∷ xs) h = let c = some-choice k xs (omega arith) in (x ∷ c .0, _, ap (λ ls. map (λ ys. x ∷ ys) ls ++ choose (suc k) xs) (c .2))
+
+free-joined : (ms : List Match) → Every Free ms → Free (joinedAll ms)
+unfolding joinedAll Every isEmpty
+free-joined [] a = refl
+free-joined (m ∷ ms) a = isEmpty-append (m .excludes) (joinedAll ms .excludes) ∙ and-join (a .0) (free-joined ms (a .1))
+
+yes-choices : (ms : List Match) (k : ℕ) → Every Free ms → k ≤ length ms → isYes (choicesOf ms k) ≡ true
+unfolding choicesOf anyOf Every
+yes-choices ms k a h =
+    let c = some-choice k ms h in
+    let free = free-joined (c .0) (subst (Every (Every Free)) (c .2) (every-choose Free k ms a) .0) in
+    ap (λ ls. isYes (map joinedAll ls)) (c .2) ∙ rw free
+
+pub yes-atLeast : (a : ℕ) (ms : List Match) → Every Free ms → isYes (atLeast a ms) ≡ leb a (length ms)
+unfolding atLeast anyOf flatMap
+yes-atLeast a ms f = at (leb a (length ms)) refl
+  where
+    at : (b : Bool) → leb a (length ms) ≡ b → isYes (flatMap (choicesOf ms) (fromTo a (length ms))) ≡ b
+    at true e =
+        let h = leb-true a (length ms) e in
+        let more = flatMap (choicesOf ms) (fromTo (a + 1) (length ms)) in
+        ap (λ ks. isYes (flatMap (choicesOf ms) ks)) (range-cons a (length ms) h)
+        ∙ any-append noExclude (choicesOf ms a) more
+        ∙ ap (_|| isYes more) (yes-choices ms a f h)
+    at false e = ap (λ ks. isYes (flatMap (choicesOf ms) ks)) (range-empty a (length ms) (leb-false a (length ms) e))
+
+pub yes-fromTo : (a b : ℕ) (ms : List Match) → Every Free ms → isYes (fromToTimes a b ms) ≡ (leb a (length ms) && not (leb (b + 1) (length ms)))
+unfolding fromToTimes
+yes-fromTo a b ms f =
+    yes-and (atLeast a ms) (notList (atLeast (b + 1) ms))
+    ∙ ap₂ _&&_ (yes-atLeast a ms f) (yes-not (atLeast (b + 1) ms) ∙ ap not (yes-atLeast (b + 1) ms f))
+
+pub free-phrase : (s : Section) (rank : ℕ) (ws : List ℕ) → Every Free (phraseList s rank ws)
+unfolding phraseList isEmpty
+free-phrase s rank ws = every-value Free (found rank (length ws)) (λ p. refl) (keep (standFrom s ws) (fromTo 1 (s .tokens)))

@@ -7,7 +7,7 @@ use mathlib.Core.Option.{none}
 use mathlib.Core.Path.{_≡_}
 use lib.ListN.{length}
 use Rattle.model.specs.AllStrings.{RanksUpTo}
-use Rattle.model.specs.Checks.{operandFits, mildOverNot, inputRefusal}
+use Rattle.model.specs.Checks.{operandFits, occursOverOther, mildOverNot, inputRefusal}
 use Rattle.model.specs.Limits.{maxTokens, maxCodes, workLength}
 use Rattle.model.specs.Lists.{first}
 use Rattle.model.specs.Parts.{postfix, renumbered, wellFormed}
@@ -42,12 +42,13 @@ pub record AcceptedSelection (selection : List ℕ) : Type 0 where
   pub sized : length selection ≡ 1 + 2 * size selection
   pub at-least : 1 ≤ size selection
   pub few : size selection ≤ maxCodes
-  pub known : (c : ℕ) → 1 ≤ c → c ≤ size selection → kindAt selection c ≤ 15
+  pub known : (c : ℕ) → 1 ≤ c → c ≤ size selection → kindAt selection c ≤ 17
   pub operands : (c : ℕ) → 1 ≤ c → c ≤ size selection → operandFits (kindAt selection c) (operandAt selection c) ≡ true
   pub well : wellFormed (shapesOf selection) ≡ true
   pub spelt : postfix (treeOf selection) ≡ shapesOf selection
   pub numbered : renumbered 1 1 (treeOf selection) ≡ treeOf selection
   pub ranks : RanksUpTo maxPhrases (treeOf selection)
+  pub over-phrases : first occursOverOther (parts (treeOf selection)) ≡ none
   pub no-not : first mildOverNot (parts (treeOf selection)) ≡ none
 
 -- "Section and selection pass the checks where no refusal other than 8 falls on them before any list is built. Working memory is enough from

@@ -1,13 +1,15 @@
 -- "The unlimited lists are those of the rules above for every code but kind 0, unread ones too, with no limit on matches or strings; the complete
--- AllMatches of a selection is that of its last code."
+-- AllMatches of a selection is that of its last code." F-3: "The unlimited meaning that the quick answer is held to gains both kinds."
 use mathlib.Core.List.{List, flatMap}
 use Rattle.model.specs.declared.Filter.{Filter}
 use Rattle.model.specs.declared.Filter.the-variants.{Ordered, Window, Distance, SameSentence, SameParagraph, DifferentSentence, DifferentParagraph, AtStart, AtEnd, EntireContent}
 use Rattle.model.specs.declared.Pair.{Pair}
 use Rattle.model.specs.declared.Pair.the-variants.{Or, And, MildNot}
-use Rattle.model.specs.Kinds.{Change, negated, filtered}
+use Rattle.model.specs.declared.Times.{Times}
+use Rattle.model.specs.declared.Times.the-variants.{FromTo, AtLeast}
+use Rattle.model.specs.Kinds.{Change, negated, filtered, occurring}
 use Rattle.model.specs.Matches.{Match}
-use Rattle.model.specs.Rules.{phraseList, orList, andList, notList, mildNotList, kept, ordered, window, distance, same, different, atStart, atEnd, entireContent}
+use Rattle.model.specs.Rules.{phraseList, orList, andList, notList, mildNotList, kept, ordered, window, distance, same, different, atStart, atEnd, entireContent, atLeast, fromToTimes}
 use Rattle.model.specs.Section.{Section}
 use Rattle.model.specs.Trees.{Tree, phrase, pair, change}
 
@@ -33,10 +35,16 @@ filterMatch s EntireContent = kept (entireContent s)
 unfoldable pub filterList : Section → Filter → List Match → List Match
 filterList s f ms = flatMap (filterMatch s f) ms
 
--- kind 4, and kinds 6 to 15
+-- kinds 16 and 17, of a phrase's list
+abbrev pub occursList : Times → List Match → List Match
+occursList (FromTo a b) = fromToTimes a b
+occursList (AtLeast a) = atLeast a
+
+-- kind 4, and kinds 6 to 17
 abbrev pub changeList : Section → Change → List Match → List Match
 changeList s negated = notList
 changeList s (filtered f) = filterList s f
+changeList s (occurring k) = occursList k
 
 unfoldable pub allMatches : Section → Tree → List Match
 allMatches s (phrase c rank ws) = phraseList s rank ws

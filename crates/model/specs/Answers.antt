@@ -36,7 +36,7 @@ checkedOf size none = Accepted size
 abbrev pub completeList : List ℕ → List ℕ → List Match
 completeList section selection = allMatches (sectionOf section) (treeOf selection)
 
--- The full listing: refusals 1 to 8, then 9 at "the first such code built". The listing builds every code but kind 0.
+-- The full listing: refusals 1 to 8 and 12, then 9 at "the first such code built". The listing builds every code but kind 0.
 unfoldable pub listingRefusal : List ℕ → List ℕ → ℕ → ℕ → Option Refusal
 listingRefusal section selection work buffer =
     let nine = Option·map (refusal 9) (firstTooLong (sectionOf section) (parts (treeOf selection))) in
@@ -83,7 +83,7 @@ listingBuffer section selection work buffer =
     let numbers = listingNumbers (completeList section selection) in
     bufferUnless (listingRefusal section selection work (length buffer)) numbers buffer
 
--- The quick answer: refusals 1 to 8, then the walk.
+-- The quick answer: refusals 1 to 8 and 12, then the walk.
 abbrev pub walkUnless : Option Refusal → Quick → Quick
 walkUnless (some r) walked = QuickRefused r
 walkUnless none walked = walked

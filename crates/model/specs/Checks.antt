@@ -1,4 +1,4 @@
--- Refusals 1 to 8 of the two calls. "Tried in this order, each over the whole input before the next."
+-- Refusals 1 to 8 of the two calls, and 12 of document 02's F-3. "Tried in this order, each over the whole input before the next."
 use Prim.Native.Nat.{ℕ, _-_, _/_, _%_}
 use mathlib.Core.Bool.{Bool, true, false, not, _&&_, _||_, cond, xor}
 use mathlib.Core.List.{List, [], _∷_}
@@ -6,11 +6,11 @@ use mathlib.Core.Option.{Option, some, none, Option·map}
 use lib.Dec.{leb, ltb, eqb}
 use Rattle.model.specs.declared.Pair.the-variants.{Or, And, MildNot}
 use Rattle.model.specs.declared.Refusal.{Refusal}
-use Rattle.model.specs.Limits.{maxTokens, maxCodes, maxWaiting, maxWindow, maxDistance, workLength, bufferLength, radix}
+use Rattle.model.specs.Limits.{maxTokens, maxCodes, maxWaiting, maxWindow, maxDistance, maxTimes, workLength, bufferLength, radix}
 use Rattle.model.specs.Lists.{anyOf, first, fromTo}
 use Rattle.model.specs.Section.{size, wellSized, sentenceAt, paragraphAt}
 use Rattle.model.specs.Selection.{kindAt, operandAt}
-use Rattle.model.specs.Kinds.{isNegation, shapesOf}
+use Rattle.model.specs.Kinds.{negated, filtered, occurring, countsAsNot, shapesOf}
 use Rattle.model.specs.Waiting.{firstMisfit}
 use Rattle.model.specs.Trees.{Tree, phrase, pair, change, placeOf, treeOf, parts}
 
@@ -51,9 +51,9 @@ faultyPosition section = first (faultyAt section) (fromTo 2 (size section))
 unfoldable pub wrongSelection : List ℕ → Option ℕ
 wrongSelection selection = cond (wellSized 1 maxCodes selection) none (some 0)
 
--- 4, first such code: "kind unknown"; "16 and up are unknown"
+-- 4, first such code: "kind unknown"; F-3: "18 and up are unknown"
 unfoldable pub unknownKind : List ℕ → Option ℕ
-unknownKind selection = first (λ c. leb 16 (kindAt selection c)) (fromTo 1 (size selection))
+unknownKind selection = first (λ c. leb 18 (kindAt selection c)) (fromTo 1 (size selection))
 
 -- 5, first such code: "operand outside the table"
 -- of a filter: "N, 1 to 4,096"; "a × 65,536 + b, a ≤ b ≤ 4,095"; 0 for the rest
@@ -63,13 +63,20 @@ filterOperandFits kind operand =
     (cond (eqb kind 8) (leb (operand / radix) (operand % radix) && leb (operand % radix) maxDistance)
     (eqb operand 0))
 
+-- of an occurs: "from a to b (operand as kind 8)"; "at least a (0 to 4,095)"
+unfoldable pub timesOperandFits : ℕ → ℕ → Bool
+timesOperandFits kind operand =
+    cond (eqb kind 16) (leb (operand / radix) (operand % radix) && leb (operand % radix) maxTimes)
+    (leb operand maxTimes)
+
 -- any word number; "k, 1 to 8"; 0 for a combination. An unknown kind has no row in the table, and is refused before its operand is asked for.
 unfoldable pub operandFits : ℕ → ℕ → Bool
 operandFits kind operand =
     cond (eqb kind 0) true
     (cond (eqb kind 1) (leb 1 operand && leb operand maxWaiting)
     (cond (leb kind 5) (eqb operand 0)
-    (cond (leb kind 15) (filterOperandFits kind operand) true)))
+    (cond (leb kind 15) (filterOperandFits kind operand)
+    (cond (leb kind 17) (timesOperandFits kind operand) true))))
 
 unfoldable pub wrongOperand : List ℕ → Option ℕ
 wrongOperand selection = first (λ c. not (operandFits (kindAt selection c) (operandAt selection c))) (fromTo 1 (size selection))
@@ -78,11 +85,27 @@ wrongOperand selection = first (λ c. not (operandFits (kindAt selection c) (ope
 unfoldable pub wrongShape : List ℕ → Option ℕ
 wrongShape selection = firstMisfit (shapesOf selection)
 
--- 7, the first such kind 5: "a not under a mild not"; "No kind 4 may stand in either side of a kind 5."
+-- F-3: "each directly over a phrase". 12, "at the code where the thing below isn't a phrase, tried after 6"
+abbrev pub isPhrase : Tree → Bool
+isPhrase (phrase c r ws) = true
+isPhrase (pair k c t u) = false
+isPhrase (change k c t) = false
+
+abbrev pub occursOverOther : Tree → Bool
+occursOverOther (phrase c r ws) = false
+occursOverOther (pair k c t u) = false
+occursOverOther (change negated c t) = false
+occursOverOther (change (filtered f) c t) = false
+occursOverOther (change (occurring k) c t) = not (isPhrase t)
+
+unfoldable pub notOverPhrase : List ℕ → Option ℕ
+notOverPhrase selection = Option·map placeOf (first occursOverOther (parts (treeOf selection)))
+
+-- 7, the first such kind 5: "a not under a mild not"; "No kind 4 may stand in either side of a kind 5." Nor may a kind 16.
 abbrev pub isNot : Tree → Bool
 isNot (phrase c r ws) = false
 isNot (pair k c t u) = false
-isNot (change k c t) = isNegation k
+isNot (change k c t) = countsAsNot k
 
 abbrev pub hasNot : Tree → Bool
 hasNot t = anyOf isNot (parts t)
@@ -107,6 +130,7 @@ selectionRefusal =
     ∷ record { number = 4; fails = unknownKind }
     ∷ record { number = 5; fails = wrongOperand }
     ∷ record { number = 6; fails = wrongShape }
+    ∷ record { number = 12; fails = notOverPhrase }
     ∷ record { number = 7; fails = notUnderMildNot }
     ∷ [])
 

@@ -1,5 +1,5 @@
--- Document 01's starred examples, and the one under `ftlist`, "proved of the definitions jointly, as entries of one list checked by one fact". Each is
--- put to the calls' definitions as lent numbers, with everything that the paper says of it.
+-- Document 01's starred examples, and the one under `ftlist`, "proved of the definitions jointly, as entries of one list checked by one fact", and worked
+-- examples of document 02's F-3. Each is put to the calls' definitions as lent numbers, with everything that is said of it.
 use Prim.Native.Nat.{ℕ, _+_, _*_}
 use mathlib.Core.Path.{_≡_, refl}
 use mathlib.Core.Bool.{Bool, true, false, _&&_, Bool·beq, xor}
@@ -10,13 +10,14 @@ use Rattle.model.specs.declared.Listing.{Listing}
 use Rattle.model.specs.declared.Listing.the-variants.{Listed, Refused as ListingRefused}
 use Rattle.model.specs.declared.Quick.{Quick}
 use Rattle.model.specs.declared.Quick.the-variants.{Answered, Refused as QuickRefused}
+use Rattle.model.specs.declared.Refusal.{Refusal}
 use Rattle.model.specs.AllMatches.{filterList, allMatches}
 use Rattle.model.specs.Answers.{completeList, listingRefusal, listingAnswer, listingNumbers, listingBuffer, quickAnswer}
-use Rattle.model.specs.Checks.{tried, wrongSection, faultyAt, faultyPosition, wrongSelection, unknownKind, filterOperandFits, operandFits, wrongOperand, wrongShape, notUnderMildNot, sectionRefusal, selectionRefusal, inputRefusal, listingChecks, quickChecks}
+use Rattle.model.specs.Checks.{tried, wrongSection, faultyAt, faultyPosition, wrongSelection, unknownKind, filterOperandFits, timesOperandFits, operandFits, wrongOperand, wrongShape, notOverPhrase, notUnderMildNot, sectionRefusal, selectionRefusal, inputRefusal, listingChecks, quickChecks}
 use Rattle.model.specs.Limits.{workLength, bufferLength, radix}
-use Rattle.model.specs.Lists.{allOf, anyOf, isEmpty, keep, first, allPairs, neighbours, insertSorted, sort, upFrom, fromTo}
+use Rattle.model.specs.Lists.{allOf, anyOf, isEmpty, keep, first, allPairs, neighbours, insertSorted, sort, choose, upFrom, fromTo}
 use Rattle.model.specs.Matches.{Str, Match, strings}
-use Rattle.model.specs.Rules.{standFrom, phraseList, noStrings, andList, notList, mildNotList, leastStart, greatestEnd, join, kept, windowEnds, window, inUnitFor}
+use Rattle.model.specs.Rules.{standFrom, phraseList, noStrings, andList, notList, mildNotList, leastStart, greatestEnd, join, kept, windowEnds, window, inUnitFor, joinedAll, choicesOf, atLeast, fromToTimes}
 use Rattle.model.specs.Section.{wellSized}
 use Rattle.model.specs.Selection.{upTo}
 use Rattle.model.specs.Kinds.{shapesOf}
@@ -24,12 +25,14 @@ use Rattle.model.specs.Trees.{placeOf, combine, changeLast, read, readAl
 use Rattle.model.specs.Waiting.{firstMisfitFrom}
 use Rattle.model.specs.Walk.{firstTooLong, build, walk}
 
--- What the paper says of a selection.
+-- What is said of a selection.
 pub data Claim : Type 0 where
   hasMatches : ℕ → Claim
   hasStrings : ℕ → Claim
   lists : List Match → Claim
   answers : Bool → Claim
+  -- both calls refuse it: number and place
+  refused : ℕ → ℕ → Claim
 
 pub record Example : Type 0 where
   pub section : List ℕ
@@ -66,6 +69,17 @@ quickSays : Quick → Bool → Bool
 quickSays (Answered y n) b = Bool·beq y b
 quickSays (QuickRefused r) b = false
 
+sameRefusal : Refusal → ℕ → ℕ → Bool
+sameRefusal r number place = eqb (r .number) number && eqb (r .place) place
+
+listingRefuses : Listing → ℕ → ℕ → Bool
+listingRefuses (Listed m s y) number place = false
+listingRefuses (ListingRefused r) number place = sameRefusal r number place
+
+quickRefuses : Quick → ℕ → ℕ → Bool
+quickRefuses (Answered y n) number place = false
+quickRefuses (QuickRefused r) number place = sameRefusal r number place
+
 -- the listing buffer after the call, which was all zeros before it
 buffered : List ℕ → List ℕ → List ℕ
 buffered section selection = listingBuffer section selection workLength (replicate bufferLength 0)
@@ -76,6 +90,9 @@ holds section selection (hasStrings s) = countsStrings (listingAnswer section se
 holds section selection (lists ms) = eachSame sameMatch (completeList section selection) ms && eachSame eqb (take (length (listingNumbers ms)) (buffered section selection)) (listingNumbers ms)
 holds section selection (answers b) =
     listingSays (listingAnswer section selection workLength bufferLength) b && quickSays (quickAnswer section selection workLength) b
+holds section selection (refused number place) =
+    listingRefuses (listingAnswer section selection workLength bufferLength) number place
+    && quickRefuses (quickAnswer section selection workLength) number place
 
 pub right : Example → Bool
 right e = allOf (holds (e .section) (e .selection)) (e .claims)
@@ -93,6 +110,14 @@ select kinds operands = length kinds ∷ (kinds ++ operands)
 one : Bool → ℕ → ℕ → ℕ → Match
 one c q a b = record { includes = record { start = a; end = b; query = q; contiguous = c } ∷ []; excludes = [] }
 
+-- finds of the first phrase, single words, at positions
+at : List ℕ → List Str
+at ps = map (λ p. record { start = p; end = p; query = 1; contiguous = true }) ps
+
+-- a match with includes and excludes among them
+these : List ℕ → List ℕ → Match
+these is es = record { includes = at is; excludes = at es }
+
 -- "Words 10 20 30 10 40 20; sentences 1 1 1 2 2 2; paragraph 1."
 six : List ℕ
 six = inParagraph 1 (10 ∷ 20 ∷ 30 ∷ 10 ∷ 40 ∷ 20 ∷ []) (1 ∷ 1 ∷ 1 ∷ 2 ∷ 2 ∷ 2 ∷ [])
@@ -103,6 +128,14 @@ emptySection = 0 ∷ []
 -- "Words 1 2 3 4"
 four : List ℕ
 four = inParagraph 0 (1 ∷ 2 ∷ 3 ∷ 4 ∷ []) (0 ∷ 0 ∷ 0 ∷ 0 ∷ [])
+
+-- n tokens of the word 7
+sevens : ℕ → List ℕ
+sevens n = inParagraph 0 (replicate n 7) (replicate n 0)
+
+-- one word, and an occurs over it: its kind and its operand
+occurs : ℕ → ℕ → ℕ → List ℕ
+occurs word kind operand = select (0 ∷ 1 ∷ kind ∷ []) (word ∷ 1 ∷ operand ∷ [])
 
 pub entries : List Example
 entries =
@@ -141,12 +174,52 @@ entries =
       selection = select (0 ∷ 1 ∷ 0 ∷ 1 ∷ 3 ∷ 7 ∷ []) (10 ∷ 1 ∷ 20 ∷ 1 ∷ 0 ∷ 3 ∷ []);
       claims = answers true ∷ hasMatches 4 ∷ hasStrings 4 ∷ lists (one true 1 1 2 ∷ one true 1 1 2 ∷ one false 1 2 4 ∷ one false 1 4 6 ∷ []) ∷ [];
     }
+    -- F-3, at least: of three finds, of two, of none; fewer than three
+    ∷ record {
+      section = sevens 3;
+      selection = occurs 7 17 2;
+      claims = lists (these (1 ∷ 2 ∷ []) [] ∷ these (1 ∷ 3 ∷ []) [] ∷ these (2 ∷ 3 ∷ []) [] ∷ these (1 ∷ 2 ∷ 3 ∷ []) [] ∷ []) ∷ answers true ∷ [];
+    }
+    ∷ record { section = sevens 3; selection = occurs 7 17 3; claims = lists (these (1 ∷ 2 ∷ 3 ∷ []) [] ∷ []) ∷ [] }
+    ∷ record { section = sevens 3; selection = occurs 7 17 4; claims = lists [] ∷ answers false ∷ [] }
+    ∷ record {
+      section = six;
+      selection = occurs 10 17 0;
+      claims = lists (noStrings ∷ these (1 ∷ []) [] ∷ these (4 ∷ []) [] ∷ these (1 ∷ 4 ∷ []) [] ∷ []) ∷ answers true ∷ [];
+    }
+    ∷ record { section = six; selection = occurs 99 17 0; claims = lists (noStrings ∷ []) ∷ answers true ∷ [] }
+    ∷ record { section = six; selection = select (0 ∷ 1 ∷ 17 ∷ 4 ∷ []) (10 ∷ 1 ∷ 3 ∷ 0 ∷ []); claims = answers true ∷ [] }
+    -- from a to b: exactly one of one, of none and of two; none of one
+    ∷ record { section = six; selection = occurs 30 16 (1 * radix + 1); claims = lists (these (3 ∷ []) [] ∷ []) ∷ answers true ∷ [] }
+    ∷ record { section = six; selection = occurs 99 16 (1 * radix + 1); claims = lists [] ∷ answers false ∷ [] }
+    ∷ record {
+      section = six;
+      selection = occurs 10 16 (1 * radix + 1);
+      claims =
+          lists
+          (these (1 ∷ []) (1 ∷ []) ∷ these (1 ∷ []) (4 ∷ []) ∷ these (4 ∷ []) (1 ∷ []) ∷ these (4 ∷ []) (4 ∷ []) ∷ these (1 ∷ 4 ∷ []) (1 ∷ []) ∷ these (1 ∷ 4 ∷ []) (4 ∷ []) ∷ [])
+          ∷ answers false
+          ∷ [];
+    }
+    ∷ record { section = six; selection = occurs 30 16 0; claims = lists (these [] (3 ∷ []) ∷ these (3 ∷ []) (3 ∷ []) ∷ []) ∷ answers false ∷ [] }
+    -- exactly one of two, in the same sentence: the other find is in another, and no longer excludes
+    ∷ record { section = six; selection = select (0 ∷ 1 ∷ 16 ∷ 9 ∷ []) (10 ∷ 1 ∷ (1 * radix + 1) ∷ 0 ∷ []); claims = answers true ∷ [] }
+    -- at the limits and over them
+    ∷ record { section = sevens 7; selection = occurs 7 17 0; claims = hasMatches 128 ∷ hasStrings 448 ∷ [] }
+    ∷ record { section = sevens 8; selection = occurs 7 17 0; claims = refused 9 3 ∷ [] }
+    ∷ record { section = sevens 3; selection = occurs 7 16 (1 * radix + 1); claims = refused 9 3 ∷ [] }
+    -- over an and; under a mild not; an unknown kind; an operand outside the table
+    ∷ record { section = six; selection = select (0 ∷ 1 ∷ 0 ∷ 1 ∷ 3 ∷ 17 ∷ []) (10 ∷ 1 ∷ 20 ∷ 1 ∷ 0 ∷ 1 ∷ []); claims = refused 12 6 ∷ [] }
+    ∷ record { section = six; selection = select (0 ∷ 1 ∷ 0 ∷ 1 ∷ 16 ∷ 5 ∷ []) (10 ∷ 1 ∷ 20 ∷ 1 ∷ 2 ∷ 0 ∷ []); claims = refused 7 6 ∷ [] }
+    ∷ record { section = six; selection = select (0 ∷ 1 ∷ 0 ∷ 1 ∷ 17 ∷ 5 ∷ []) (10 ∷ 1 ∷ 20 ∷ 1 ∷ 2 ∷ 0 ∷ []); claims = hasMatches 2 ∷ answers true ∷ [] }
+    ∷ record { section = six; selection = occurs 10 18 0; claims = refused 4 3 ∷ [] }
+    ∷ record { section = six; selection = occurs 10 17 4096; claims = refused 5 3 ∷ [] }
     ∷ []
 
 pub examples-hold : allOf right entries ≡ true
-unfolding eachSame sameStr sameMatch countsMatches countsStrings listingSays quickSays buffered holds right inParagraph select one six emptySection four entries
-    xor allOf anyOf isEmpty keep first allPairs neighbours insertSorted sort upFrom fromTo flatMap wellSized upTo shapesOf firstMisfitFrom placeOf combine changeLast read readAll topTree treeOf parts strings
-    standFrom phraseList andList notList mildNotList leastStart greatestEnd join kept windowEnds window inUnitFor filterList allMatches
-    tried wrongSection faultyAt faultyPosition wrongSelection unknownKind filterOperandFits operandFits wrongOperand wrongShape notUnderMildNot sectionRefusal selectionRefusal inputRefusal listingChecks quickChecks
+unfolding eachSame sameStr sameMatch countsMatches countsStrings listingSays quickSays sameRefusal listingRefuses quickRefuses buffered holds right inParagraph select one at these six emptySection four sevens occurs entries
+    xor allOf anyOf isEmpty keep first allPairs neighbours insertSorted sort choose upFrom fromTo flatMap wellSized upTo shapesOf firstMisfitFrom placeOf combine changeLast read readAll topTree treeOf parts strings
+    standFrom phraseList andList notList mildNotList leastStart greatestEnd join kept windowEnds window inUnitFor joinedAll choicesOf atLeast fromToTimes filterList allMatches
+    tried wrongSection faultyAt faultyPosition wrongSelection unknownKind filterOperandFits timesOperandFits operandFits wrongOperand wrongShape notOverPhrase notUnderMildNot sectionRefusal selectionRefusal inputRefusal listingChecks quickChecks
     firstTooLong build walk listingRefusal listingAnswer listingNumbers listingBuffer quickAnswer
 examples-hold = refl

@@ -1,4 +1,4 @@
--- The limits of document 01, and of document 02's F-1, with the sentence that sets each. src/lib.rt has the same numbers for the code.
+-- The limits of document 01, and of document 02's F-1 and F-3, with the sentence that sets each. src/lib.rt has the same numbers for the code.
 use Prim.Native.Nat.{ℕ}
 
 -- "A section is n (0 to 4,096)"
@@ -20,6 +20,10 @@ maxWindow = 4096
 -- "a ≤ b ≤ 4,095"
 abbrev pub maxDistance : ℕ
 maxDistance = 4095
+
+-- F-3: "occurs from a to b (operand as kind 8), and kind 17, occurs at least a (0 to 4,095)"
+abbrev pub maxTimes : ℕ
+maxTimes = 4095
 
 -- "its list has over 256 matches or 512 strings"
 abbrev pub maxMatches : ℕ

@@ -1,7 +1,7 @@
 -- Functions on lists that the definitions use. What the library has (map, flatMap, take, drop) is the library's.
 use Prim.Native.Nat.{ℕ, zero, suc, _+_, _-_}
 use mathlib.Core.Bool.{Bool, true, false, _&&_, _||_, cond}
-use mathlib.Core.List.{List, [], _∷_}
+use mathlib.Core.List.{List, [], _∷_, _++_, map}
 use mathlib.Core.Option.{Option, some, none}
 
 -- every element has P
@@ -50,6 +50,12 @@ module _ {A : Type 0} where
   unfoldable pub sort : (A → A → Bool) → List A → List A
   sort le [] = []
   sort le (x ∷ xs) = insertSorted le x (sort le xs)
+
+  -- every choice of k elements, which keep their order; "in order of first difference by position": those with an earlier element come first
+  unfoldable pub choose : ℕ → List A → List (List A)
+  choose zero xs = [] ∷ []
+  choose (suc k) [] = []
+  choose (suc k) (x ∷ xs) = map (λ ys. x ∷ ys) (choose k xs) ++ choose (suc k) xs
 
 -- n numbers, rising from a
 unfoldable pub upFrom : ℕ → ℕ → List ℕ

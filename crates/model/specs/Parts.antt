@@ -6,12 +6,14 @@ use mathlib.Core.List.{List, [], _∷_, _++_, map}
 use mathlib.Core.Path.{_≡_}
 use lib.Dec.{eqb, leb}
 use lib.ListN.{length}
-use Rattle.model.specs.Kinds.{Shape, aWord, aPhrase, aPair, aChange, isNegation, isWord, arity}
+use Rattle.model.specs.Kinds.{Shape, aWord, aPhrase, aPair, aChange, negated, filtered, occurring, countsAsNot, isWord, arity}
 use Rattle.model.specs.declared.Code.{Code}
-use Rattle.model.specs.declared.Code.the-variants.{Word, Phrase, Combine, Not, Filter as Filtered}
+use Rattle.model.specs.declared.Code.the-variants.{Word, Phrase, Combine, Not, Filter as Filtered, Occurs}
 use Rattle.model.specs.declared.Filter.{Filter}
 use Rattle.model.specs.declared.Filter.the-variants.{Ordered, Window, Distance, SameSentence, SameParagraph, DifferentSentence, DifferentParagraph, AtStart, AtEnd, EntireContent}
 use Rattle.model.specs.declared.Pair.the-variants.{Or, And, MildNot}
+use Rattle.model.specs.declared.Times.{Times}
+use Rattle.model.specs.declared.Times.the-variants.{FromTo, AtLeast}
 use Rattle.model.specs.Selection.{upTo}
 use Rattle.model.specs.Waiting.{fits, listsAfter, wordsAfter, isComplete}
 use Rattle.model.specs.Trees.{Tree, phrase, pair, change, State, read, fresh, topTree, parts}
@@ -30,11 +32,26 @@ partCount (c ∷ cs) = partsEnded c + partCount cs
 abbrev pub phrasesEnded : Shape → ℕ
 phrasesEnded c = cond (isWord c) 0 (cond (eqb (arity c) 0) 1 0)
 
+abbrev pub isPhraseCode : Shape → Bool
+isPhraseCode (aWord w) = false
+isPhraseCode (aPhrase k) = true
+isPhraseCode (aPair k) = false
+isPhraseCode (aChange k) = false
+
+abbrev pub isOccursCode : Shape → Bool
+isOccursCode (aWord w) = false
+isOccursCode (aPhrase k) = false
+isOccursCode (aPair k) = false
+isOccursCode (aChange negated) = false
+isOccursCode (aChange (filtered f)) = false
+isOccursCode (aChange (occurring k)) = true
+
+-- what refusal 7 counts as a not
 abbrev pub isNotCode : Shape → Bool
 isNotCode (aWord w) = false
 isNotCode (aPhrase k) = false
 isNotCode (aPair k) = false
-isNotCode (aChange k) = isNegation k
+isNotCode (aChange k) = countsAsNot k
 
 abbrev pub isMildNot : Shape → Bool
 isMildNot (aWord w) = false
@@ -51,7 +68,7 @@ hasWords (aPhrase k) = leb 1 k
 hasWords (aPair k) = true
 hasWords (aChange k) = true
 
--- the second number of a distance, which an operand holds where it is below the radix
+-- the second number of a distance or of an occurs from a to b, which an operand holds where it is below the radix
 abbrev pub mostIn : Filter → ℕ
 mostIn Ordered = 0
 mostIn (Window n) = 0
@@ -64,12 +81,17 @@ mostIn AtStart = 0
 mostIn AtEnd = 0
 mostIn EntireContent = 0
 
+abbrev pub mostTimes : Times → ℕ
+mostTimes (FromTo a b) = b
+mostTimes (AtLeast a) = 0
+
 abbrev pub mostOf : Code → ℕ
 mostOf (Word w) = 0
 mostOf (Phrase k) = 0
 mostOf (Combine k) = 0
 mostOf Not = 0
 mostOf (Filtered f) = mostIn f
+mostOf (Occurs k) = mostTimes k
 
 -- ---- a tree's codes and numbering
 

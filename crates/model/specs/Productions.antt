@@ -1,12 +1,13 @@
 -- Document 02, F-1: "only these parts of the standard's FTSelection grammar: `ftor` over `ftand` over `not in` over `ftnot`, parentheses, filters after a
--- whole selection, keywords small".
+-- whole selection, keywords small". F-3: "Typed, `occurs` with one of the four ranges and `times` follows a phrase".
 --
 --   FTSelection  = FTOr | FTSelection FTPosFilter
 --   FTOr         = FTAnd | FTOr 'ftor' FTAnd                        "Left operands group first."
 --   FTAnd        = FTMildNot | FTAnd 'ftand' FTMildNot
 --   FTMildNot    = FTUnaryNot | FTMildNot 'not' 'in' FTUnaryNot
 --   FTUnaryNot   = FTPrimary | 'ftnot' FTPrimary
---   FTPrimary    = '"' words '"' | '(' FTSelection ')'
+--   FTPrimary    = FTWords | FTWords FTTimes | '(' FTSelection ')'
+--   FTWords      = '"' words '"'
 --
 -- One constructor for each production. `FTOr ts cs`: the tokens ts are an FTOr, and cs are its codes, in postfix order.
 use Prim.Native.Nat.{ℕ, suc, _≤_}
@@ -14,10 +15,12 @@ use Prim.Native.String.{String}
 use mathlib.Core.Path.{_≡_}
 use mathlib.Core.List.{List, [], _∷_, _++_}
 use Rattle.model.specs.declared.Code.{Code}
-use Rattle.model.specs.declared.Code.the-variants.{Word, Phrase, Combine, Not, Filter as Filtered}
+use Rattle.model.specs.declared.Code.the-variants.{Word, Phrase, Combine, Not, Filter as Filtered, Occurs}
 use Rattle.model.specs.declared.Filter.{Filter}
 use Rattle.model.specs.declared.Filter.the-variants.{Ordered, Window, Distance, SameSentence, SameParagraph, DifferentSentence, DifferentParagraph, AtStart, AtEnd, EntireContent}
 use Rattle.model.specs.declared.Pair.the-variants.{Or, And, MildNot}
+use Rattle.model.specs.declared.Times.{Times}
+use Rattle.model.specs.declared.Times.the-variants.{FromTo, AtLeast}
 use Rattle.model.specs.Bytes.{bytes}
 use Rattle.model.specs.Limits.{maxDistance, maxNumber, maxWord, maxWords}
 use Rattle.model.specs.Tokens.{Token, quote, opening, closing, digit, letter, valueOf}
@@ -38,12 +41,28 @@ pub record Number (most : ℕ) (t : Token) : Type 0 where
   pub digits : t .sort ≡ digit
   pub within : valueOf t ≤ most
 
--- ---- words and filters
+-- ---- words, times and filters
 
 -- k word numbers
 pub data Words : ℕ → List Token → List Code → Type 0 where
   no-word : Words 0 [] []
   word-more : {k : ℕ} {t : Token} {ts : List Token} {cs : List Code} → Number maxWord t → Words k ts cs → Words (suc k) (t ∷ ts) (Word (valueOf t) ∷ cs)
+
+-- "A phrase is one to eight word numbers in double quotes."
+pub data FTWords : List Token → List Code → Type 0 where
+  quoted : {k : ℕ} {ts : List Token} {cs : List Code} {t u : Token} → Sign quote t → Words k ts cs → 1 ≤ k → k ≤ maxWords → Sign quote u
+      → FTWords (t ∷ (ts ++ (u ∷ []))) (cs ++ (Phrase k ∷ []))
+
+-- F-3: "`at least` is kind 17", the other ranges kind 16
+pub data FTTimes : List Token → Times → Type 0 where
+  times-exactly : {a b n z : Token} → Keyword "occurs" a → Keyword "exactly" b → Number maxNumber n → Keyword "times" z
+      → FTTimes (a ∷ b ∷ n ∷ z ∷ []) (FromTo (valueOf n) (valueOf n))
+  times-least : {a b c n z : Token} → Keyword "occurs" a → Keyword "at" b → Keyword "least" c → Number maxNumber n → Keyword "times" z
+      → FTTimes (a ∷ b ∷ c ∷ n ∷ z ∷ []) (AtLeast (valueOf n))
+  times-most : {a b c n z : Token} → Keyword "occurs" a → Keyword "at" b → Keyword "most" c → Number maxNumber n → Keyword "times" z
+      → FTTimes (a ∷ b ∷ c ∷ n ∷ z ∷ []) (FromTo 0 (valueOf n))
+  times-from : {a b m c n z : Token} → Keyword "occurs" a → Keyword "from" b → Number maxNumber m → Keyword "to" c → Number maxNumber n
+      → Keyword "times" z → FTTimes (a ∷ b ∷ m ∷ c ∷ n ∷ z ∷ []) (FromTo (valueOf m) (valueOf n))
 
 pub data FTPosFilter : List Token → Filter → Type 0 where
   ordered : {a : Token} → Keyword "ordered" a → FTPosFilter (a ∷ []) Ordered
@@ -93,9 +112,8 @@ mutual
     unary-not : {ts : List Token} {cs : List Code} {t : Token} → Keyword "ftnot" t → FTPrimary ts cs → FTUnaryNot (t ∷ ts) (cs ++ (Not ∷ []))
 
   pub data FTPrimary : List Token → List Code → Type 0 where
-    -- "A phrase is one to eight word numbers in double quotes."
-    phrase : {k : ℕ} {ts : List Token} {cs : List Code} {t u : Token} → Sign quote t → Words k ts cs → 1 ≤ k → k ≤ maxWords → Sign quote u
-        → FTPrimary (t ∷ (ts ++ (u ∷ []))) (cs ++ (Phrase k ∷ []))
+    phrase : {ts : List Token} {cs : List Code} → FTWords ts cs → FTPrimary ts cs
+    phrase-times : {ts us : List Token} {cs : List Code} {k : Times} → FTWords ts cs → FTTimes us k → FTPrimary (ts ++ us) (cs ++ (Occurs k ∷ []))
     -- "A selection in parentheses is read by the rule that reads the whole"
     nested : {ts : List Token} {cs : List Code} {t u : Token} → Sign opening t → FTSelection ts cs → Sign closing u
         → FTPrimary (t ∷ (ts ++ (u ∷ []))) cs

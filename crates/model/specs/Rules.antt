@@ -1,10 +1,10 @@
--- "The lists", rule by rule in document 01's order. L is the left list, R the right. No rule knows a limit.
+-- "The lists", rule by rule in document 01's order, and after them document 02's. L is the left list, R the right. No rule knows a limit.
 use Prim.Native.Nat.{ℕ, _+_, _-_, min, max}
 use mathlib.Core.Bool.{Bool, true, false, not, _&&_, _||_, cond}
 use mathlib.Core.List.{List, [], _∷_, _++_, map, flatMap}
 use lib.Dec.{leb, ltb, eqb}
 use lib.ListN.{length}
-use Rattle.model.specs.Lists.{allOf, anyOf, keep, allPairs, neighbours, sort, fromTo}
+use Rattle.model.specs.Lists.{allOf, anyOf, keep, allPairs, neighbours, sort, choose, fromTo}
 use Rattle.model.specs.Matches.{Str, Match}
 use Rattle.model.specs.Section.{Section}
 
@@ -230,3 +230,21 @@ atEnd s = atPosition s (s .tokens)
 
 abbrev pub entireContent : Section → Keeping
 entireContent s = keepsWhole (λ is. allOf (covered (keep (λ i. i .contiguous) is)) (fromTo 1 (s .tokens)))
+
+-- Document 02, F-3. Occurs at least a: "every choice of a or more of the phrase's matches, fewest first, equal sizes in order of first difference by
+-- position, each choice joined as and would."
+
+unfoldable pub joinedAll : List Match → Match
+joinedAll [] = noStrings
+joinedAll (m ∷ ms) = joined m (joinedAll ms)
+
+unfoldable pub choicesOf : List Match → ℕ → List Match
+choicesOf ms k = map joinedAll (choose k ms)
+
+unfoldable pub atLeast : ℕ → List Match → List Match
+atLeast a ms = flatMap (choicesOf ms) (fromTo a (length ms))
+
+-- Occurs from a to b: "at least a, and not at least b + 1."
+
+unfoldable pub fromToTimes : ℕ → ℕ → List Match → List Match
+fromToTimes a b ms = andList (atLeast a ms) (notList (atLeast (b + 1) ms))

@@ -4,10 +4,12 @@ use mathlib.Core.Bool.{cond}
 use mathlib.Core.List.{List, [], _∷_, _++_}
 use lib.Dec.{eqb, leb}
 use Rattle.model.specs.declared.Code.{Code}
-use Rattle.model.specs.declared.Code.the-variants.{Word, Phrase, Combine, Not, Filter as Filtered}
+use Rattle.model.specs.declared.Code.the-variants.{Word, Phrase, Combine, Not, Filter as Filtered, Occurs}
 use Rattle.model.specs.declared.Filter.{Filter}
 use Rattle.model.specs.declared.Filter.the-variants.{Ordered, Window, Distance, SameSentence, SameParagraph, DifferentSentence, DifferentParagraph, AtStart, AtEnd, EntireContent}
 use Rattle.model.specs.declared.Pair.the-variants.{Or, And, MildNot}
+use Rattle.model.specs.declared.Times.{Times}
+use Rattle.model.specs.declared.Times.the-variants.{FromTo, AtLeast}
 use Rattle.model.specs.Limits.{radix}
 use Rattle.model.specs.Section.{firstAt, secondAt}
 
@@ -18,7 +20,8 @@ kindAt selection c = firstAt selection c
 abbrev pub operandAt : List ℕ → ℕ → ℕ
 operandAt selection c = secondAt selection c
 
--- "Kinds 0 and 1 are words, 2 to 5 combine, 6 to 15 filter, 16 and up are unknown."
+-- "Kinds 0 and 1 are words, 2 to 5 combine, 6 to 15 filter". Document 02, F-3: "kind 16, occurs from a to b (operand as kind 8), and kind 17, occurs at
+-- least a", "and 18 and up are unknown".
 abbrev pub combinationOf : ℕ → Code
 combinationOf kind =
     cond (eqb kind 2) (Combine Or)
@@ -37,6 +40,9 @@ filterOf kind operand =
     (cond (eqb kind 13) AtStart
     (cond (eqb kind 14) AtEnd EntireContent))))))))
 
+abbrev pub timesOf : ℕ → ℕ → Times
+timesOf kind operand = cond (eqb kind 16) (FromTo (operand / radix) (operand % radix)) (AtLeast operand)
+
 -- An unknown kind is refused before its code is asked for; an entire content stands for it here.
 abbrev pub codeOf : ℕ → ℕ → Code
 codeOf kind operand =
@@ -44,7 +50,8 @@ codeOf kind operand =
     (cond (eqb kind 1) (Phrase operand)
     (cond (leb kind 5) (combinationOf kind)
     (cond (leb kind 15) (Filtered (filterOf kind operand))
-    (Filtered EntireContent))))
+    (cond (leb kind 17) (Occurs (timesOf kind operand))
+    (Filtered EntireContent)))))
 
 abbrev pub codeAt : List ℕ → ℕ → Code
 codeAt selection c = codeOf (kindAt selection c) (operandAt selection c)
@@ -74,6 +81,14 @@ filterOperand AtStart = 0
 filterOperand AtEnd = 0
 filterOperand EntireContent = 0
 
+abbrev pub timesKind : Times → ℕ
+timesKind (FromTo a b) = 16
+timesKind (AtLeast a) = 17
+
+abbrev pub timesOperand : Times → ℕ
+timesOperand (FromTo a b) = a * radix + b
+timesOperand (AtLeast a) = a
+
 abbrev pub kindOf : Code → ℕ
 kindOf (Word w) = 0
 kindOf (Phrase k) = 1
@@ -82,6 +97,7 @@ kindOf (Combine And) = 3
 kindOf Not = 4
 kindOf (Combine MildNot) = 5
 kindOf (Filtered f) = filterKind f
+kindOf (Occurs k) = timesKind k
 
 abbrev pub operandOf : Code → ℕ
 operandOf (Word w) = w
@@ -89,6 +105,7 @@ operandOf (Phrase k) = k
 operandOf (Combine k) = 0
 operandOf Not = 0
 operandOf (Filtered f) = filterOperand f
+operandOf (Occurs k) = timesOperand k
 
 -- the first n of a row
 unfoldable pub upTo : {A : Type 0} → (ℕ → A) → ℕ → List A

@@ -8,7 +8,7 @@ use lib.ListN.{length}
 use Rattle.model.specs.declared.Pair.the-variants.{Or, And, MildNot}
 use Rattle.model.specs.declared.Quick.{Quick}
 use Rattle.model.specs.declared.Quick.the-variants.{Answered, Refused}
-use Rattle.model.specs.Kinds.{negated, filtered}
+use Rattle.model.specs.Kinds.{negated, filtered, occurring}
 use Rattle.model.specs.AllMatches.{allMatches}
 use Rattle.model.specs.Checks.{refusal}
 use Rattle.model.specs.Lists.{first, isEmpty, keep, fromTo}
@@ -54,7 +54,8 @@ andWalk (Answered true n) (Answered answer k) = Answered answer (n + k + 1)
 andWalk (Answered true n) (Refused r) = Refused r
 andWalk (Refused r) right = Refused r
 
--- "a phrase is yes if its list isn't empty"; "Limits on size hold only for lists built at or under kinds 5 to 15."
+-- "a phrase is yes if its list isn't empty"; "Limits on size hold only for lists built at or under kinds 5 to 15." F-3: "The quick walk builds and counts
+-- them as it does filters", kinds 16 and 17.
 unfoldable pub walk : Section → Tree → Quick
 walk s (phrase c rank ws) = Answered (not (isEmpty (phraseList s rank ws))) 1
 walk s (change negated c t) = turned (walk s t)
@@ -62,6 +63,7 @@ walk s (pair Or c t u) = let right = walk s u in orWalk (walk s t) right
 walk s (pair And c t u) = let right = walk s u in andWalk (walk s t) right
 walk s (pair MildNot c t u) = build s (pair MildNot c t u)
 walk s (change (filtered f) c t) = build s (change (filtered f) c t)
+walk s (change (occurring k) c t) = build s (change (occurring k) c t)
 
 -- "The selection's own count is that of all its codes but those of kind 0."
 unfoldable pub ownCount : List ℕ → ℕ

@@ -3,7 +3,7 @@
 use mathlib.Core.Bool.{Bool, not, _&&_, _||_, cond}
 use mathlib.Core.List.{List, [], _∷_, _++_}
 use Rattle.model.specs.declared.Pair.the-variants.{Or, And, MildNot}
-use Rattle.model.specs.Kinds.{negated, filtered}
+use Rattle.model.specs.Kinds.{negated, filtered, occurring}
 use Rattle.model.specs.AllMatches.{allMatches}
 use Rattle.model.specs.Lists.{isEmpty}
 use Rattle.model.specs.Matches.{isYes}
@@ -19,6 +19,7 @@ walkAnswer s (pair Or c t u) = walkAnswer s t || walkAnswer s u
 walkAnswer s (pair And c t u) = walkAnswer s t && walkAnswer s u
 walkAnswer s (pair MildNot c t u) = isYes (allMatches s (pair MildNot c t u))
 walkAnswer s (change (filtered f) c t) = isYes (allMatches s (change (filtered f) c t))
+walkAnswer s (change (occurring k) c t) = isYes (allMatches s (change (occurring k) c t))
 
 -- the codes that it builds, in order, were no list too long
 unfoldable pub walkBuilds : Section → Tree → List Tree
@@ -28,6 +29,7 @@ walkBuilds s (pair Or c t u) = walkBuilds s t ++ cond (walkAnswer s t) [] (walkB
 walkBuilds s (pair And c t u) = walkBuilds s t ++ cond (walkAnswer s t) (walkBuilds s u) []
 walkBuilds s (pair MildNot c t u) = parts (pair MildNot c t u)
 walkBuilds s (change (filtered f) c t) = parts (change (filtered f) c t)
+walkBuilds s (change (occurring k) c t) = parts (change (occurring k) c t)
 
 -- the codes that it walks or builds, were no list too long
 unfoldable pub walkReaches : Section → Tree → List Tree
@@ -37,3 +39,4 @@ walkReaches s (pair Or c t u) = walkReaches s t ++ cond (walkAnswer s t) [] (wal
 walkReaches s (pair And c t u) = walkReaches s t ++ cond (walkAnswer s t) (walkReaches s u) [] ++ pair And c t u ∷ []
 walkReaches s (pair MildNot c t u) = parts (pair MildNot c t u)
 walkReaches s (change (filtered f) c t) = parts (change (filtered f) c t)
+walkReaches s (change (occurring k) c t) = parts (change (occurring k) c t)

@@ -10,6 +10,8 @@ pub const MAX_WAITING: u32 = 8;
 pub const MAX_WINDOW: u32 = 4096;
 // "a ≤ b ≤ 4,095"
 pub const MAX_DISTANCE: u32 = 4095;
+// Document 02, F-3: "occurs from a to b (operand as kind 8), and kind 17, occurs at least a (0 to 4,095)"
+pub const MAX_TIMES: u32 = 4095;
 // "its list has over 256 matches or 512 strings"
 pub const MAX_MATCHES: u32 = 256;
 
@@ -59,6 +61,12 @@ pub enum Filter {
     EntireContent,
 }
 
+// F-3: how often a phrase occurs: kinds 16 and 17, with their numbers.
+pub enum Times {
+    FromTo { least: u32, most: u32 },
+    AtLeast(u32),
+}
+
 // One code of a selection.
 pub enum Code {
     // kind 0: a word of a phrase
@@ -71,6 +79,8 @@ pub enum Code {
     Not,
     // kinds 6 to 15
     Filter(Filter),
+    // kinds 16 and 17
+    Occurs(Times),
 }
 
 // The place of the first fault that a check finds.
@@ -101,7 +111,7 @@ pub enum Listing {
     Refused(Refusal),
 }
 
-// The quick answer, with how many codes of kind 1 to 15 were walked or built.
+// The quick answer, with how many codes of kind 1 to 17 were walked or built.
 pub enum Quick {
     Answered { yes: bool, codes: u32 },
     Refused(Refusal),

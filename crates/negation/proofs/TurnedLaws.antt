@@ -12,6 +12,7 @@ use Rattle.model.specs.Choices.{turnedStrings}
 use Rattle.model.specs.Matches.{Str, Match, stringsIn}
 use Rattle.model.specs.Rules.{noStrings, withInclude, withExclude}
 use Rattle.strings.specs.Strings.{strsOf}
+use Rattle.strings.proofs.StringsLaws.{tag-turned}
 use Rattle.store.specs.Put.{Put}
 use Rattle.store.specs.Stream.{MatchHolds}
 use Rattle.store.proofs.DecodeLaws.{strings-hold}
@@ -53,17 +54,13 @@ tag-sort : (q : ℕ) (c : Bool) (sort : ℕ) → sort ≤ 1 → (q * 4 + cond c 
 tag-sort q true sort h = omega arith
 tag-sort q false sort h = omega arith
 
-tag-turned : (q : ℕ) (c : Bool) (sort new : ℕ) → sort ≤ 1 → (q * 4 + cond c 2 0 + sort) / 2 * 2 + new ≡ q * 4 + cond c 2 0 + new
-tag-turned q true sort new h = omega arith
-tag-turned q false sort new h = omega arith
-
 str-kept : (sort : ℕ) (s : Str) → sort ≤ 1 → turnedNumbers sort (spanOf s) (tagOf sort s) ≡ []
 str-kept sort s h = turned-none sort (spanOf s) (tagOf sort s) (tag-sort (s .query) (s .contiguous) sort h)
 
 str-turned : (old new : ℕ) (s : Str) → old ≤ 1 → (old ≡ new → ⊥) → turnedNumbers new (spanOf s) (tagOf old s) ≡ spanOf s ∷ tagOf new s ∷ []
 str-turned old new s h n =
     turned-some new (spanOf s) (tagOf old s) (λ e. n (sym (tag-sort (s .query) (s .contiguous) old h) ∙ e))
-    ∙ ap (λ t. spanOf s ∷ t ∷ []) (tag-turned (s .query) (s .contiguous) old new h)
+    ∙ ap (λ t. spanOf s ∷ t ∷ []) (tag-turned old new s h)
 
 include-turned : (sort : ℕ) (s : Str) → sort ≤ 1 → turnedNumbers sort (spanOf s) (tagOf 0 s) ≡ sideNumbers sort (withExclude s noStrings)
 unfolding sideNumbers strsOf

@@ -7,10 +7,9 @@ use mathlib.Core.List.{List, [], _∷_, _++_}
 use lib.Dec.{eqb}
 use lib.ListN.{length}
 use Rattle.model.specs.declared.Code.the-variants.{Not}
-use Rattle.model.specs.Limits.{maxWords}
 use Rattle.grammar.specs.Stream.{placeIn}
 use Rattle.grammar.specs.Symbols.{k-ftnot, s-quote, s-opening, s-closing, symbolIn}
-use Rattle.grammar.specs.Grammar.{failed, Rule, prefixed, _then_, writes, expect, words, filters, ftPrimary, ftUnaryNot, ftSelection}
+use Rattle.grammar.specs.Grammar.{failed, Rule, prefixed, _then_, writes, expect, phrase, filters, ftPrimary, ftUnaryNot, ftSelection}
 use Rattle.flat_rules.specs.Steps.{Step, reached, stopped}
 use Rattle.flat_rules.specs.Answers.{Wrote, Ready, Says, Went, Answers, WentMany, AnswersMany}
 use Rattle.flat_rules.proofs.AnswersLaws.{answers-failed, answers-from, then-failed, then-none, then-read, then-writes, wrote-append}
@@ -89,10 +88,10 @@ module _ {negated : Bool} {bytes : List ℕ} {size at p : ℕ} (g : Negated nega
 -- ---- a phrase, or a selection in parentheses
 
 module _ {bytes : List ℕ} {size at : ℕ} where
-  pub primary-words : {entry exit : List ℕ} {count e : ℕ} (r : Step) → Begins s-quote bytes size at e → Answers (λ _. words maxWords 0) bytes size e entry exit count r
+  pub primary-phrase : {entry exit : List ℕ} {count e : ℕ} (r : Step) → Begins s-quote bytes size at e → Answers (λ _. phrase) bytes size e entry exit count r
       → Answers primaryRule bytes size at entry exit count r
   unfolding ftPrimary
-  primary-words r b a = answers-from r (λ n l. rw (b .first, b .rest)) (omega (arith, b .on)) a
+  primary-phrase r b a = answers-from r (λ n l. rw (b .first, b .rest)) (omega (arith, b .on)) a
 
   module _ (no : eqb (symbolIn (streamIn bytes size at)) s-quote ≡ false) where
     pub primary-not : {entry exit : List ℕ} {count y : ℕ} → eqb (symbolIn (streamIn bytes size at)) s-opening ≡ false → placeIn (streamIn bytes size at) ≡ y

@@ -129,7 +129,7 @@ fn nots(text: &[u8; 2048], size: usize, at: u32, codes: &mut [u32; 128], count: 
     steps::read(steps::at_of(side), n)
 }
 
-// FTPrimary = '"' words '"' | '(' FTSelection ')'
+// FTPrimary = FTWords FTTimes? | '(' FTSelection ')'
 fn primary(text: &[u8; 2048], size: usize, at: u32, codes: &mut [u32; 128], count: u32) -> u64
     requires { ⌜ Ready (now text) size at count ⌝ }
     ensures { λ r. ⌜ Answers (λ n. ftPrimary n (ftSelection n)) (now (text .entry)) size at (now (codes .entry)) (now (codes .exit)) count (stepOf r) ⌝ }
@@ -137,7 +137,7 @@ fn primary(text: &[u8; 2048], size: usize, at: u32, codes: &mut [u32; 128], coun
     let t = scanner::token_at(text, size, at);
     let symbol = scanner::symbol_of(t);
     if symbol == symbols::QUOTE {
-        return flat_rules::words(text, size, scanner::end_of(t), codes, count);
+        return flat_rules::phrase(text, size, scanner::end_of(t), codes, count);
     }
     if symbol != symbols::OPENING {
         return steps::error_at(10, t);

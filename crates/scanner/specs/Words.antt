@@ -12,4 +12,4 @@ abbrev pub scopeWords : List String
 scopeWords = "start" ∷ "end" ∷ "sentence" ∷ "paragraph" ∷ "content" ∷ []
 
 abbrev pub rangeWords : List String
-rangeWords = "exactly" ∷ "from" ∷ "to" ∷ "least" ∷ "most" ∷ "words" ∷ []
+rangeWords = "occurs" ∷ "exactly" ∷ "from" ∷ "to" ∷ "least" ∷ "most" ∷ "words" ∷ "times" ∷ []

@@ -37,22 +37,26 @@ pub const SENTENCE: u32 = 15;
 pub const PARAGRAPH: u32 = 16;
 
 pub const CONTENT: u32 = 17;
+// the word that begins a phrase's times, and those of a range
+pub const OCCURS: u32 = 18;
 
-pub const EXACTLY: u32 = 18;
+pub const EXACTLY: u32 = 19;
 
-pub const FROM: u32 = 19;
+pub const FROM: u32 = 20;
 
-pub const TO: u32 = 20;
+pub const TO: u32 = 21;
 
-pub const LEAST: u32 = 21;
+pub const LEAST: u32 = 22;
 
-pub const MOST: u32 = 22;
+pub const MOST: u32 = 23;
 
-pub const WORDS: u32 = 23;
+pub const WORDS: u32 = 24;
+
+pub const TIMES: u32 = 25;
 // every other word
-pub const OTHER_WORD: u32 = 24;
+pub const OTHER_WORD: u32 = 26;
 // the end of the text
-pub const NO_MORE: u32 = 25;
+pub const NO_MORE: u32 = 27;
 // any other token: 100 and its sort
 pub const SORTS: u32 = 100;
 
@@ -155,14 +159,17 @@ fn scope_word(text: &[u8; 2048], start: usize, end: usize) -> u32
     if spells(text, start, end, b"content") {
         return CONTENT;
     }
-    EXACTLY
+    OCCURS
 }
 
-// The number of a word of a range; 24 for any other.
+// The number of `occurs`, or of a word of a range; 26 for any other.
 fn range_word(text: &[u8; 2048], start: usize, end: usize) -> u32
     requires { ⌜ Inside (now text) end start ⌝ }
     ensures { λ r. ⌜ r ≡ numberAmong 18 rangeWords (bytesFrom (now (text .entry)) start end) ⌝ }
 {
+    if spells(text, start, end, b"occurs") {
+        return OCCURS;
+    }
     if spells(text, start, end, b"exactly") {
         return EXACTLY;
     }
@@ -181,6 +188,9 @@ fn range_word(text: &[u8; 2048], start: usize, end: usize) -> u32
     if spells(text, start, end, b"words") {
         return WORDS;
     }
+    if spells(text, start, end, b"times") {
+        return TIMES;
+    }
     OTHER_WORD
 }
 
@@ -198,7 +208,7 @@ pub fn word_symbol(text: &[u8; 2048], start: usize, end: usize) -> u32
         return filter;
     }
     let scope = scope_word(text, start, end);
-    if scope < EXACTLY {
+    if scope < OCCURS {
         return scope;
     }
     range_word(text, start, end)

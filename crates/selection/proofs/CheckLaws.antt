@@ -8,7 +8,7 @@ use Rattle.model.specs.declared.Fault.{Fault}
 use Rattle.model.specs.declared.Fault.the-variants.{At, Nowhere}
 use Rattle.model.specs.declared.Refusal.{Refusal}
 use Rattle.model.specs.Answers.{faultOf}
-use Rattle.model.specs.Checks.{Check, refusal, tried, wrongSelection, unknownKind, wrongOperand, wrongShape, notUnderMildNot, selectionRefusal}
+use Rattle.model.specs.Checks.{Check, refusal, tried, wrongSelection, unknownKind, wrongOperand, wrongShape, notOverPhrase, notUnderMildNot, selectionRefusal}
 use Rattle.model.specs.Section.{wellSized}
 use Rattle.model.proofs.AnswersLaws.{fault-at, fault-nowhere}
 use Rattle.model.proofs.ChecksLaws.{tried-on, tried-stop}
@@ -24,11 +24,14 @@ five = record { number = 5; fails = wrongOperand }
 abbrev pub six : Check
 six = record { number = 6; fails = wrongShape }
 
+abbrev pub twelve : Check
+twelve = record { number = 12; fails = notOverPhrase }
+
 abbrev pub seven : Check
 seven = record { number = 7; fails = notUnderMildNot }
 
 abbrev later : List Check
-later = four ∷ five ∷ six ∷ seven ∷ []
+later = four ∷ five ∷ six ∷ twelve ∷ seven ∷ []
 
 -- ---- the first check
 
@@ -37,7 +40,7 @@ module _ (selection : List ℕ) where
   unfolding selectionRefusal wrongSelection
   wrong-size e = tried-stop (record { number = 3; fails = wrongSelection }) later selection 0 (rw e)
 
-  pub right-size : wellSized 1 64 selection ≡ true → selectionRefusal selection ≡ tried (four ∷ five ∷ six ∷ seven ∷ []) selection
+  pub right-size : wellSized 1 64 selection ≡ true → selectionRefusal selection ≡ tried (four ∷ five ∷ six ∷ twelve ∷ seven ∷ []) selection
   unfolding selectionRefusal wrongSelection
   right-size e = tried-on (record { number = 3; fails = wrongSelection }) later selection (rw e)
 

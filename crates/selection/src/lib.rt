@@ -9,12 +9,32 @@ use model::Refusal;
 ghost use mathlib.Core.Bool.{true};
 ghost use mathlib.Core.Path.{_≡_};
 ghost use Rattle.model.specs.Answers.{checkedOf, faultOf};
-ghost use Rattle.model.specs.Checks.{notUnderMildNot, selectionRefusal};
+ghost use Rattle.model.specs.Checks.{notOverPhrase, notUnderMildNot, selectionRefusal};
 ghost use Rattle.model.specs.Kinds.{shapesOf};
 ghost use Rattle.model.specs.Parts.{wellFormed};
 ghost use Rattle.model.specs.Section.{size};
 
-// Refusal 7: the first mild not with a not in either side.
+// Refusal 12: the first occurs "where the thing below isn't a phrase". The code just before it ends that thing.
+fn not_over_phrase(selection: &[u32]) -> Fault
+    requires { ⌜ wellFormed (shapesOf (now selection)) ≡ true ⌝ }
+    ensures { λ r. ⌜ r ≡ faultOf (notOverPhrase (now (selection .entry))) ⌝ }
+{
+    let m = slices::number_at(selection, 0);
+    let mut c: u32 = 0;
+    while c < m {
+        c += 1;
+        let code = codes::code_at(selection, c);
+        if codes::is_occurs(code) {
+            let below = codes::code_at(selection, c - 1);
+            if !codes::is_phrase(below) {
+                return Fault::At(c);
+            }
+        }
+    }
+    Fault::Nowhere
+}
+
+// Refusal 7: the first mild not with a not, or an occurs from a to b, in either side.
 fn not_under_mild_not(selection: &[u32]) -> Fault
     requires { ⌜ wellFormed (shapesOf (now selection)) ≡ true ⌝ }
     ensures { λ r. ⌜ r ≡ faultOf (notUnderMildNot (now (selection .entry))) ⌝ }
@@ -33,7 +53,7 @@ fn not_under_mild_not(selection: &[u32]) -> Fault
     Fault::Nowhere
 }
 
-// Refusals 3 to 7, each over the whole input before the next.
+// Refusals 3 to 7, and 12 after 6, each over the whole input before the next.
 pub fn check_selection(selection: &[u32]) -> Checked
     ensures { λ r. ⌜ r ≡ checkedOf (size (now (selection .entry))) (selectionRefusal (now (selection .entry))) ⌝ }
 {
@@ -54,6 +74,10 @@ pub fn check_selection(selection: &[u32]) -> Checked
     let shape = waiting::wrong_shape(selection);
     if let Fault::At(place) = shape {
         return Checked::Refused(Refusal { number: 6, place });
+    }
+    let elsewhere = not_over_phrase(selection);
+    if let Fault::At(place) = elsewhere {
+        return Checked::Refused(Refusal { number: 12, place });
     }
     let under = not_under_mild_not(selection);
     if let Fault::At(place) = under {

@@ -54,7 +54,7 @@ pub fn part_start(selection: &[u32], place: u32) -> u32
     0
 }
 
-// Does a not stand in the part that ends at a place?
+// Does what refusal 7 counts as a not stand in the part that ends at a place?
 pub fn has_not(selection: &[u32], place: u32) -> bool
     ensures { λ r. ⌜ r ≡ anyOf isNotCode (partCodes (shapeAt (now (selection .entry))) place) ⌝ }
 {

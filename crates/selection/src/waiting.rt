@@ -36,6 +36,7 @@ fn code_fits(code: Code, lists: usize, words: usize) -> bool
         Code::Combine(_) => takes(2, lists, words),
         Code::Not => takes(1, lists, words),
         Code::Filter(_) => takes(1, lists, words),
+        Code::Occurs(_) => takes(1, lists, words),
     }
 }
 

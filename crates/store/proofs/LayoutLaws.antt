@@ -25,6 +25,12 @@ unfolding strsOf
 length-strsOf sort [] = refl
 length-strsOf sort (s ∷ ss) = omega (arith, length-strsOf sort ss)
 
+-- string by string
+pub strsOf-flatMap : (sort : ℕ) (ss : List Str) → strsOf sort ss ≡ flatMap (λ s. spanOf s ∷ tagOf sort s ∷ []) ss
+unfolding strsOf flatMap
+strsOf-flatMap sort [] = refl
+strsOf-flatMap sort (s ∷ ss) = ap (λ xs. spanOf s ∷ tagOf sort s ∷ xs) (strsOf-flatMap sort ss)
+
 -- ---- matchNumbers
 
 pub length-match : (m : Match) → length (matchNumbers m) ≡ 1 + 2 * stringsIn m

@@ -1,20 +1,30 @@
 -- Loops over the strings of a slice. What such a loop returns is some function of the strings that are left: the first pair of numbers left is the first
 -- string left, and where less than a pair is left no string is.
-use Prim.Native.Nat.{_/_, ℕ, suc, _+_, _-_, _≤_, _<_}
+use Prim.Native.Nat.{ℕ, suc, _+_, _-_, _*_, _/_, _≤_, _<_}
 use native.Mathlib.Nat.{div-add-mod'}
 use native.Mathlib.Numerals.{towards-suc}
 use native.Mathlib.Omega.{arith}
-use mathlib.Core.Bool.{Bool, true, false, not}
+use mathlib.Core.Bool.{Bool, true, false, not, cond}
 use mathlib.Core.List.{List, [], _∷_}
 use mathlib.Core.Path.{_≡_, refl, ap, sym, _∙_}
 use lib.ListN.{length, take, drop, getD, length-drop}
 use lib.Seq.{drop-cons, take-all}
 use Rattle.model.specs.AllStrings.{AllStrs}
-use Rattle.model.specs.Answers.{spanOf}
+use Rattle.model.specs.Answers.{spanOf, tagOf}
 use Rattle.model.specs.Limits.{radix}
 use Rattle.model.specs.Lists.{Every, allOf, anyOf, allPairs}
 use Rattle.model.specs.Matches.{Str}
 use Rattle.strings.specs.Strings.{strOf, strsAt}
+
+-- ---- tagOf
+
+turned : (query : ℕ) (c : Bool) (old new : ℕ) → old ≤ 1 → (query * 4 + cond c 2 0 + old) / 2 * 2 + new ≡ query * 4 + cond c 2 0 + new
+turned query true old new h = omega arith
+turned query false old new h = omega arith
+
+-- a string's tag with another sort
+pub tag-turned : (old new : ℕ) (s : Str) → old ≤ 1 → tagOf old s / 2 * 2 + new ≡ tagOf new s
+tag-turned old new s h = turned (s .query) (s .contiguous) old new h
 
 -- ---- strOf
 

@@ -1,5 +1,5 @@
 -- A call's answer is decided by whether a refusal of its table falls. A snippet is empty or the numbers between two indices.
-use Prim.Native.Nat.{ℕ, _+_, _-_, _≤_}
+use Prim.Native.Nat.{ℕ, _+_, _-_}
 use mathlib.Core.Bool.{Bool, true, false, _&&_, cond}
 use mathlib.Core.List.{List, [], _++_, append-assoc}
 use mathlib.Core.Logic.{_⊎_, inl, inr}
@@ -17,21 +17,18 @@ use Rattle.model.specs.Section.{size, sectionOf}
 use Rattle.model.specs.Trees.{treeOf, parts}
 use Rattle.model.specs.Walked.{walkBuilds, walkReaches}
 use Rattle.model.proofs.AnswersLaws.{listingBuffer-refused}
-use Rattle.theorems.specs.Demands.{ListingGiven, ListingRefuses, QuickGiven, QuickRefuses, listingTable, quickTable, Demand1}
+use Rattle.theorems.specs.Demands.{ListingGiven, ListingRefuses, QuickGiven, QuickRefuses, listingTable, quickTable, Numbered, Demand1}
 use Rattle.theorems.proofs.TableLaws.{firstFall, firstFall-number, listing-table, quick-table}
 
-abbrev Numbered : (Refusal → Type 0) → Type 0
-Numbered P = (r : Refusal) × P r × (1 ≤ r .number) × (r .number ≤ 9)
-
-listing-either : (o : Option Refusal) (ms : List Match) → ((r : Refusal) → o ≡ some r → (1 ≤ r .number) × (r .number ≤ 9))
-    → ListingGiven (answerUnless o ms) ⊎ Numbered (ListingRefuses (answerUnless o ms))
+listing-either : (o : Option Refusal) (ms : List Match) → ((r : Refusal) → o ≡ some r → Numbered r)
+    → ListingGiven (answerUnless o ms) ⊎ ((r : Refusal) × ListingRefuses (answerUnless o ms) r × Numbered r)
 listing-either none ms h = inl (_, _, _, refl)
-listing-either (some r) ms h = inr (r, refl, h r refl .0, h r refl .1)
+listing-either (some r) ms h = inr (r, refl, h r refl)
 
-quick-either : (o : Option Refusal) (y : Bool) (n : ℕ) → ((r : Refusal) → o ≡ some r → (1 ≤ r .number) × (r .number ≤ 9))
-    → QuickGiven (walkUnless o (Answered y n)) ⊎ Numbered (QuickRefuses (walkUnless o (Answered y n)))
+quick-either : (o : Option Refusal) (y : Bool) (n : ℕ) → ((r : Refusal) → o ≡ some r → Numbered r)
+    → QuickGiven (walkUnless o (Answered y n)) ⊎ ((r : Refusal) × QuickRefuses (walkUnless o (Answered y n)) r × Numbered r)
 quick-either none y n h = inl (y, (n, refl))
-quick-either (some r) y n h = inr (r, refl, h r refl .0, h r refl .1)
+quick-either (some r) y n h = inr (r, refl, h r refl)
 
 part : (section : List ℕ) (b : Bool) (from k : ℕ) → (before : List ℕ) × (after : List ℕ) × (section ≡ before ++ cond b (take k (drop from section)) [] ++ after)
 part section true from k =

@@ -4,6 +4,7 @@ pub mod Demand2
 pub mod Demand3
 pub mod TypedSearches
 pub mod SpansRead
+pub mod OccursChosen
 -- .. and the laws of their words.
 pub mod WordsLaws
 pub mod SpelledLaws

@@ -6,12 +6,13 @@ use mathlib.Core.Path.{_≡_, refl, sym, ap, ap₂, _∙_}
 use lib.ListN.{length, getD, take, length-map, List·getD-append, List·getD-map}
 use lib.Seq.{take-suc, take-all, getD-append-add}
 use Rattle.model.specs.declared.Code.{Code}
-use Rattle.model.specs.declared.Code.the-variants.{Word, Filter as Filtered}
+use Rattle.model.specs.declared.Code.the-variants.{Word, Filter as Filtered, Occurs}
 use Rattle.model.specs.declared.Filter.{Filter}
+use Rattle.model.specs.declared.Times.{Times}
 use Rattle.model.specs.Limits.{radix}
 use Rattle.model.specs.Lists.{Every}
 use Rattle.model.specs.Parts.{mostOf}
-use Rattle.model.specs.Productions.{Words, no-word, word-more, FTPosFilter, ordered, window, distance-exactly, distance-least, distance-most, distance-from, same-sentence, same-paragraph, different-sentence, different-paragraph, at-start, at-end, entire-content, FTSelection, selection-or, selection-filter, or-and, or-more, and-mild, and-more, mild-unary, mild-more, unary-primary, unary-not, phrase, nested}
+use Rattle.model.specs.Productions.{Words, no-word, word-more, FTWords, quoted, FTTimes, times-exactly, times-least, times-most, times-from, FTPosFilter, ordered, window, distance-exactly, distance-least, distance-most, distance-from, same-sentence, same-paragraph, different-sentence, different-paragraph, at-start, at-end, entire-content, FTSelection, selection-or, selection-filter, or-and, or-more, and-mild, and-more, mild-unary, mild-more, unary-primary, unary-not, phrase, phrase-times, nested}
 use Rattle.model.specs.Selection.{codeAt, codeOf, kindOf, operandOf, upTo}
 use Rattle.model.specs.Tokens.{Token}
 use Rattle.model.specs.Typed.{selectionOf}
@@ -30,6 +31,12 @@ words-small : {k : ℕ} {ts : List Token} {cs : List Code} → Words k ts cs →
 unfolding Every
 words-small no-word = tt
 words-small (word-more n w) = (omega arith, words-small w)
+
+times-small : {ts : List Token} {k : Times} → FTTimes ts k → Small (Occurs k)
+times-small (times-exactly a b n z) = omega (arith, n .within)
+times-small (times-least a b c n z) = omega arith
+times-small (times-most a b c n z) = omega (arith, n .within)
+times-small (times-from a b m c n z) = omega (arith, n .within)
 
 filter-small : {ts : List Token} {f : Filter} → FTPosFilter ts f → Small (Filtered f)
 filter-small (ordered a) = omega arith
@@ -53,6 +60,9 @@ one-more cs c h k = every-append Small cs (c ∷ []) h (k, tt)
 both-more : (cs ds : List Code) (c : Code) → AllSmall cs → AllSmall ds → Small c → AllSmall (cs ++ (ds ++ (c ∷ [])))
 both-more cs ds c g h k = every-append Small cs (ds ++ (c ∷ [])) g (one-more ds c h k)
 
+phrase-small : {ts : List Token} {cs : List Code} → FTWords ts cs → AllSmall cs
+phrase-small (quoted q w l m r) = one-more _ _ (words-small w) (omega arith)
+
 selection-small : {ts : List Token} {cs : List Code} → FTSelection ts cs → AllSmall cs
 selection-small d =
     elim d as (λ ts cs x. AllSmall cs) (λ ts cs x. AllSmall cs) (λ ts cs x. AllSmall cs) (λ ts cs x. AllSmall cs) (λ ts cs x. AllSmall cs) (λ ts cs x. AllSmall cs) [
@@ -66,7 +76,8 @@ selection-small d =
       | mild-more (d → g) w i (e → h) ↦ both-more _ _ _ g h (omega arith)
       | unary-primary (d → g) ↦ g
       | unary-not w (d → g) ↦ one-more _ _ g (omega arith)
-      | phrase q w l m r ↦ one-more _ _ (words-small w) (omega arith)
+      | phrase w ↦ phrase-small w
+      | phrase-times w t ↦ one-more _ _ (phrase-small w) (times-small t)
       | nested q (d → g) r ↦ g
     ]
 

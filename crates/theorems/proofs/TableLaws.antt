@@ -1,14 +1,14 @@
 -- The first refusal of a table that falls, as a function, is what the calls' definitions come to: each is a chain of refusals, and a chain of chains is
 -- one chain of the rows of all.
-use Prim.Native.Nat.{ℕ, _≤_}
+use Prim.Native.Nat.{ℕ}
 use mathlib.Core.Path.{_≡_, refl, sym, ap, _∙_}
-use mathlib.Core.Bool.{Bool, true, false, _&&_, cond}
+use mathlib.Core.Bool.{Bool, true, false, _&&_, _||_, cond}
 use mathlib.Core.List.{List, [], _∷_, _++_}
-use mathlib.Core.Logic.{_↔_}
+use mathlib.Core.Logic.{_↔_, inl, inr}
 use mathlib.Core.Option.{Option, some, none, Option·map, Option·none-ne-some, map-eq-none-iff}
-use lib.Dec.{leb}
+use lib.Dec.{leb, eqb}
 use lib.ListN.{length}
-use borrow.Author.Tests.{leb-true}
+use borrow.Author.Tests.{leb-true, eqb-true}
 use Rattle.model.specs.declared.Quick.the-variants.{Answered}
 use Rattle.model.specs.declared.Refusal.{Refusal}
 use Rattle.model.specs.Answers.{completeList, listingRefusal, walkUnless, quickAnswer}
@@ -24,7 +24,7 @@ use Rattle.model.proofs.ChecksLaws.{otherwise-none}
 use Rattle.model.proofs.ListsLaws.{all-split}
 use Rattle.model.proofs.TestsLaws.{both-true}
 use Rattle.model.proofs.WalkLaws.{walk-is, walkAnswer-complete}
-use Rattle.theorems.specs.Demands.{Row, row, Falls, inputRows, listRows, listingTable, quickTable, FirstToFall, NoneFalls, PassChecks}
+use Rattle.theorems.specs.Demands.{Row, row, Falls, inputRows, listRows, listingTable, quickTable, FirstToFall, NoneFalls, PassChecks, Numbered}
 
 -- ---- the first that falls
 
@@ -94,23 +94,32 @@ firstFall-some table r = (some-fall table r, back)
 abbrev rows : List ℕ → List ℕ → Bool → List Tree → List Row
 rows section selection enough built = inputRows section selection ++ listRows enough section built
 
-abbrev oneToNine : Row → Bool
-oneToNine w = leb 1 (w .number) && leb (w .number) 9
+abbrev isNumber : ℕ → Bool
+isNumber n = (leb 1 n && leb n 9) || eqb n 12
 
-rows-numbers : (section selection : List ℕ) (enough : Bool) (built : List Tree) → allOf oneToNine (rows section selection enough built) ≡ true
+abbrev numbered : Row → Bool
+numbered w = isNumber (w .number)
+
+is-number : (r : Refusal) → isNumber (r .number) ≡ true → Numbered r
+is-number r e = at (leb 1 (r .number) && leb (r .number) 9) refl e
+  where
+    at : (b : Bool) → (leb 1 (r .number) && leb (r .number) 9) ≡ b → (b || eqb (r .number) 12) ≡ true → Numbered r
+    at true h e' = let both = both-true (leb 1 (r .number)) (leb (r .number) 9) h in inl (leb-true 1 (r .number) (both .0), leb-true (r .number) 9 (both .1))
+    at false h e' = inr (eqb-true (r .number) 12 e')
+
+rows-numbers : (section selection : List ℕ) (enough : Bool) (built : List Tree) → allOf numbered (rows section selection enough built) ≡ true
 unfolding allOf
 rows-numbers section selection enough built = refl
 
 -- a refusal of a table has the number of one of its rows
 pub firstFall-number : (section selection : List ℕ) (enough : Bool) (built : List Tree) (r : Refusal)
-    → firstFall (inputRows section selection ++ listRows enough section built) ≡ some r → (1 ≤ r .number) × (r .number ≤ 9)
+    → firstFall (inputRows section selection ++ listRows enough section built) ≡ some r → Numbered r
 unfolding allOf
 firstFall-number section selection enough built r e =
     let f = some-fall (rows section selection enough built) r e in
     let falls = row (r .number) (some (r .place)) in
-    let tail = all-split oneToNine (f .before) (falls ∷ f .after) (sym (ap (allOf oneToNine) (f .order)) ∙ rows-numbers section selection enough built) .1 in
-    let both = both-true (leb 1 (r .number)) (leb (r .number) 9) (both-true (oneToNine falls) (allOf oneToNine (f .after)) tail .0) in
-    (leb-true 1 (r .number) (both .0), leb-true (r .number) 9 (both .1))
+    let tail = all-split numbered (f .before) (falls ∷ f .after) (sym (ap (allOf numbered) (f .order)) ∙ rows-numbers section selection enough built) .1 in
+    is-number r (both-true (numbered falls) (allOf numbered (f .after)) tail .0)
 
 -- ---- the calls' tables
 

@@ -1,5 +1,5 @@
 -- The reader: a text's answer by the productions is what the grammar's functions compute, so there is one and no other. The typed calls: by that answer,
--- codes or an error, each definition says itself what it answers; a refusal of document 01 has a number up to 9.
+-- codes or an error, each definition says itself what it answers; a refusal of a selection has another number than a text's.
 use Prim.Native.Nat.{ℕ, _≤_, _<_}
 use native.Mathlib.Omega.{arith}
 use mathlib.Core.Bool.{Bool, true, false}
@@ -24,7 +24,7 @@ use Rattle.grammar.specs.Grammar.{readText}
 use Rattle.grammar.proofs.AnswerLaws as grammar
 use Rattle.grammar.proofs.ExamplesLaws.{examples-hold}
 use Rattle.grammar.proofs.PartingLaws.{tokens-exactly}
-use Rattle.theorems.specs.Demands.{ListingGiven, ListingRefuses, QuickGiven, QuickRefuses, Derives, HasCodes, HasError, OfText, TextOf, TypedOf, TypedSearches}
+use Rattle.theorems.specs.Demands.{ListingGiven, ListingRefuses, QuickGiven, QuickRefuses, Numbered, Derives, HasCodes, HasError, OfText, TextOf, TypedOf, TypedSearches}
 use Rattle.theorems.proofs.Demand1.{demand-1}
 use Rattle.theorems.proofs.SpelledLaws.{derived-spelled}
 
@@ -76,26 +76,28 @@ texts text = record {
 
 -- ---- what document 01's calls refuse
 
-listing-number : (section selection : List ℕ) (work : ℕ) (buffer : List ℕ) (r : Refusal) → ListingRefuses (listingAnswer section selection work (length buffer)) r → r .number ≤ 9
+listing-number : (section selection : List ℕ) (work : ℕ) (buffer : List ℕ) (r : Refusal) → ListingRefuses (listingAnswer section selection work (length buffer)) r → Numbered r
 listing-number section selection work buffer r e = at (demand-1 section selection work buffer 0 0 .listing-answers) where
   at : (ListingGiven (listingAnswer section selection work (length buffer))
-      ⊎ ((q : Refusal) × ListingRefuses (listingAnswer section selection work (length buffer)) q × (1 ≤ q .number) × (q .number ≤ 9))) → r .number ≤ 9
+      ⊎ ((q : Refusal) × ListingRefuses (listingAnswer section selection work (length buffer)) q × Numbered q)) → Numbered r
   at (inl (m, s, y, f)) = let z : _≡_ {A = ℕ} 0 1 = cc in absurd (omega arith)
-  at (inr (q, f, low, high)) = let same : q ≡ r = cc in rw same at high
+  at (inr (q, f, n)) = let same : q ≡ r = cc in rw same at n
 
-quick-number : (section selection : List ℕ) (work : ℕ) (r : Refusal) → QuickRefuses (quickAnswer section selection work) r → r .number ≤ 9
+quick-number : (section selection : List ℕ) (work : ℕ) (r : Refusal) → QuickRefuses (quickAnswer section selection work) r → Numbered r
 quick-number section selection work r e = at (demand-1 section selection work [] 0 0 .quick-answers) where
   at : (QuickGiven (quickAnswer section selection work)
-      ⊎ ((q : Refusal) × QuickRefuses (quickAnswer section selection work) q × (1 ≤ q .number) × (q .number ≤ 9))) → r .number ≤ 9
+      ⊎ ((q : Refusal) × QuickRefuses (quickAnswer section selection work) q × Numbered q)) → Numbered r
   at (inl (y, (n, f))) = let z : _≡_ {A = ℕ} 0 1 = cc in absurd (omega arith)
-  at (inr (q, f, low, high)) = let same : q ≡ r = cc in rw same at high
+  at (inr (q, f, n)) = let same : q ≡ r = cc in rw same at n
 
 -- ---- the calls
 
--- a number up to 9 is no text's
-not-text : {A : Type 0} (r : Refusal) → r .number ≤ 9 → OfText r → A
-not-text r h (inl e) = absurd (omega arith)
-not-text r h (inr e) = absurd (omega arith)
+-- the number of a call's own refusal is no text's
+not-text : {A : Type 0} (r : Refusal) → Numbered r → OfText r → A
+not-text r (inl h) (inl e) = absurd (omega arith)
+not-text r (inl h) (inr e) = absurd (omega arith)
+not-text r (inr h) (inl e) = absurd (omega arith)
+not-text r (inr h) (inr e) = absurd (omega arith)
 
 module _ (section text : List ℕ) (work : ℕ) (buffer selection : List ℕ) where
   listing-error : (a : TextAnswer) → AnswerOf text a → (r : Refusal) → ListingRefuses (typedListing section a work (length buffer)) r → OfText r → HasError text r

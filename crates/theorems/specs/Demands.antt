@@ -1,12 +1,12 @@
--- The three demands, sentence by sentence, and document 02's F-1 and F-2, over the definitions that the calls' contracts name (calls/src/lib.rt and
+-- The three demands, sentence by sentence, and document 02's F-1, F-2 and F-3, over the definitions that the calls' contracts name (calls/src/lib.rt and
 -- engine/src/lib.rt): the listing answers `listingAnswer ..` and leaves `listingBuffer ..` in the buffer, the quick answer answers `quickAnswer ..`, the
 -- snippet is `snippetOf ..`; for the answer of its text a typed call answers `typedListing ..`, `typedQuick ..`, `readAnswer ..`. So what is proved of
--- these holds of the calls. (F-2 speaks of no call, but of what is read inside them.) proofs/ has a proof of each.
+-- these holds of the calls. (F-2 speaks of no call, but of what is read inside them; F-3 of the lists, which the calls answer by.) proofs/ has a proof of each.
 -- Quotation marks enclose the demands' own words, or document 01's or 02's where it is named. `A ↔ B` is 'A exactly when B', `(x : A) × B` 'there is an x
 -- with B', `⊎` 'or', `¬` 'not'.
 use Prim.Native.Nat.{ℕ, suc, _/_, _%_, _^_, _≤_, _<_}
 use mathlib.Core.Bool.{Bool, true, false, _&&_, cond}
-use mathlib.Core.List.{List, [], _∷_, _++_}
+use mathlib.Core.List.{List, [], _∷_, _++_, map, Sublistᴰ}
 use mathlib.Core.Logic.{_↔_, _⊎_}
 use mathlib.Core.Option.{Option, some, none}
 use mathlib.Core.Path.{_≡_}
@@ -23,12 +23,13 @@ use Rattle.model.specs.Accepted.{ReportedOrNot}
 use Rattle.model.specs.AllMatches.{allMatches}
 use Rattle.model.specs.AllStrings.{AllList}
 use Rattle.model.specs.Answers.{completeList, listingAnswer, spanOf, listingNumbers, listingBuffer, quickAnswer, snippetOf}
-use Rattle.model.specs.Checks.{refusal, wrongSection, faultyPosition, wrongSelection, unknownKind, wrongOperand, wrongShape, notUnderMildNot}
+use Rattle.model.specs.Checks.{refusal, wrongSection, faultyPosition, wrongSelection, unknownKind, wrongOperand, wrongShape, notOverPhrase, notUnderMildNot}
 use Rattle.model.specs.Limits.{maxCodes, maxMatches, maxStrings, maxText, workLength, bufferLength, radix, selectionLength}
-use Rattle.model.specs.Lists.{Every}
+use Rattle.model.specs.Lists.{Every, choose}
 use Rattle.model.specs.Matches.{Str, Match, strings}
 use Rattle.model.specs.Productions.{FTSelection}
-use Rattle.model.specs.Section.{size, sentenceAt, paragraphAt, sectionOf}
+use Rattle.model.specs.Rules.{phraseList, atLeast, fromToTimes}
+use Rattle.model.specs.Section.{Section, size, sentenceAt, paragraphAt, sectionOf}
 use Rattle.model.specs.Selection.{codeAt, upTo}
 use Rattle.model.specs.TextAnswer.{TextAnswer, codes, error, AnswerOf, NotAllowed, TooLarge}
 use Rattle.model.specs.Tokens.{Token, Tokens}
@@ -75,7 +76,7 @@ QuickRefuses answer r = answer ≡ QuickRefused r
 abbrev pub RefusesForSize : Quick → ℕ → Type 0
 RefusesForSize answer place = QuickRefuses answer (refusal 9 place)
 
--- Document 01's table of refusals, for some input: each row has a number, and the place where it falls, if it does. model/specs/Checks.antt has the
+-- Document 01's table of refusals with document 02's F-3, for some input: each row has a number, and the place where it falls, if it does. model/specs/Checks.antt has the
 -- table's words beside each.
 pub record Row : Type 0 where
   pub number : ℕ
@@ -92,6 +93,7 @@ inputRows section selection =
     ∷ row 4 (unknownKind selection)
     ∷ row 5 (wrongOperand selection)
     ∷ row 6 (wrongShape selection)
+    ∷ row 12 (notOverPhrase selection)
     ∷ row 7 (notUnderMildNot selection)
     ∷ []
 
@@ -140,15 +142,19 @@ EndsBelowRadix ms = AllList (λ s. s .end < radix) ms
 abbrev pub completeNumbers : List ℕ → List ℕ → List ℕ
 completeNumbers section selection = listingNumbers (completeList section selection)
 
+-- one of document 01's numbers, or F-3's
+abbrev pub Numbered : Refusal → Type 0
+Numbered r = ((1 ≤ r .number) × (r .number ≤ 9)) ⊎ (r .number ≡ 12)
+
 -- ---- demand 1, for a section, a selection, working memory's length, the listing buffer, and a snippet's bounds
 
 pub record Demand1Of (section selection : List ℕ) (work : ℕ) (buffer : List ℕ) (from to : ℕ) : Type 0 where
   -- "The answer to every section, every selection and every size of lent memory is a result or one refusal by number and place, and every call ends."
-  -- A refusal has one of document 01's numbers; the snippet never refuses, and is a part of the section. That every call ends is the checker's to prove.
+  -- A refusal has one of the papers' numbers; the snippet never refuses, and is a part of the section. That every call ends is the checker's to prove.
   pub listing-answers : ListingGiven (listingAnswer section selection work (length buffer))
-      ⊎ ((r : Refusal) × ListingRefuses (listingAnswer section selection work (length buffer)) r × (1 ≤ r .number) × (r .number ≤ 9))
+      ⊎ ((r : Refusal) × ListingRefuses (listingAnswer section selection work (length buffer)) r × Numbered r)
   pub quick-answers : QuickGiven (quickAnswer section selection work)
-      ⊎ ((r : Refusal) × QuickRefuses (quickAnswer section selection work) r × (1 ≤ r .number) × (r .number ≤ 9))
+      ⊎ ((r : Refusal) × QuickRefuses (quickAnswer section selection work) r × Numbered r)
   pub snippet-answers : (before : List ℕ) × (after : List ℕ) × (section ≡ before ++ snippetOf section from to ++ after)
   -- "Malformed input is the engine's to find, never the caller's": no call has a `requires`, and nothing here a condition on the input.
   -- "and a refused call leaves the listing buffer unchanged."
@@ -306,3 +312,39 @@ pub record SpanReadOf (s : Str) : Type 0 where
 -- "for every start and end up to 4,096", and up to 65,535
 abbrev pub SpansRead : Type 0
 SpansRead = (s : Str) → s .start < radix → s .end < radix → SpanReadOf s
+
+-- ---- document 02's F-3, occurs
+
+-- every element of a list has R to each later one
+unfoldable pub InOrder : {A : Type 0} → (A → A → Type 0) → List A → Type 0
+InOrder R [] = Unit {0}
+InOrder R (x ∷ xs) = Every (R x) xs × InOrder R xs
+
+-- of two choices of positions, the first has the lower position where they first differ
+pub record Precedes (ys zs : List ℕ) : Type 0 where
+  pub same : List ℕ
+  pub lower : ℕ
+  pub higher : ℕ
+  pub after-lower : List ℕ
+  pub after-higher : List ℕ
+  pub first-is : ys ≡ same ++ lower ∷ after-lower
+  pub second-is : zs ≡ same ++ higher ∷ after-higher
+  pub differ : lower < higher
+
+-- for rising positions, and how many are chosen
+pub record ChoicesOf (positions : List ℕ) (k : ℕ) : Type 0 where
+  -- "every choice": the sublists of k positions, and no others
+  pub every-choice : (ys : List ℕ) → Has (λ zs. zs ≡ ys) (choose k positions) ↔ (Sublistᴰ ys positions × (length ys ≡ k))
+  -- "equal sizes in order of first difference by position", so each once
+  pub in-order : InOrder Precedes (choose k positions)
+  -- what is chosen of matches, each at a position, is chosen of their positions
+  pub of-matches : (match : ℕ → Match) → choose k (map match positions) ≡ map (map match) (choose k positions)
+
+-- for a phrase in a section, found so often: "'At least three mentions of needle'"
+pub record OccursOf (s : Section) (rank : ℕ) (words : List ℕ) (found : ℕ) : Type 0 where
+  pub at-least-yes : (a : ℕ) → Has WithoutExcludes (atLeast a (phraseList s rank words)) ↔ (a ≤ found)
+  pub from-to-yes : (a b : ℕ) → Has WithoutExcludes (fromToTimes a b (phraseList s rank words)) ↔ ((a ≤ found) × (found ≤ b))
+
+pub record Occurs : Type 0 where
+  pub choices : (positions : List ℕ) → InOrder _<_ positions → (k : ℕ) → ChoicesOf positions k
+  pub phrases : (s : Section) (rank : ℕ) (words : List ℕ) → OccursOf s rank words (length (phraseList s rank words))

@@ -12,13 +12,13 @@ use borrow.Author.Tests.{not-false}
 use Rattle.model.proofs.Code.{the-type}
 use lib.Seq.{append-snoc}
 use Rattle.model.specs.declared.Code.{Code}
-use Rattle.model.specs.declared.Code.the-variants.{Word, Phrase, Combine, Not, Filter as Filtered}
+use Rattle.model.specs.declared.Code.the-variants.{Word, Phrase, Combine, Not, Filter as Filtered, Occurs}
 use Rattle.model.specs.declared.Pair.{Pair}
 use Rattle.model.specs.declared.Pair.the-variants.{Or, And, MildNot}
 use Rattle.model.specs.declared.Quick.{Quick}
 use Rattle.model.specs.declared.Quick.the-variants.{Answered, Refused}
 use Rattle.model.specs.Accepted.{AcceptedSelection}
-use Rattle.model.specs.Kinds.{Change, negated, filtered, Shape, aWord, aPair, aChange, shapeOf, isNegation, shapeAt}
+use Rattle.model.specs.Kinds.{Change, negated, filtered, occurring, Shape, aWord, aPair, aChange, shapeOf, isNegation, shapeAt}
 use Rattle.model.specs.Limits.{maxCodes, workLength}
 use Rattle.model.specs.Lists.{isEmpty}
 use Rattle.model.specs.Parts.{PartAt, isMildNot, partStart, postfix, rankAfter, codesOfTrees}
@@ -110,6 +110,7 @@ change-builds : (s : Section) (k : Change) (c : ℕ) (t : Tree) → isNegation k
 unfolding walk
 change-builds s negated c t e = false-true (sym e)
 change-builds s (filtered f) c t e = refl
+change-builds s (occurring k) c t e = refl
 
 mild-builds : (s : Section) (k : Pair) (c : ℕ) (t u : Tree) → isMildNot (aPair k) ≡ true → walk s (pair k c t u) ≡ build s (pair k c t u)
 unfolding walk
@@ -202,21 +203,23 @@ module _ {section sel mem : List ℕ} {hi : ℕ} (w : Walkable section sel mem h
       rw (p .is) (sym (mild-builds (sectionOf section) k hi (p .left .tree) (p .right .tree) m))
 
   -- any other part that the walk does not go into
-  pub leaf-builds : (code : Code) → code ≡ codeAt sel hi → OneOf (0 ∷ 2 ∷ 3 ∷ 4 ∷ []) (tagOf the-type code) → goesInto (shapeOf code) ≡ false
+  pub leaf-builds : (code : Code) → code ≡ codeAt sel hi → OneOf (0 ∷ 2 ∷ 3 ∷ 4 ∷ 5 ∷ []) (tagOf the-type code) → goesInto (shapeOf code) ≡ false
       → build (sectionOf section) (w .part .tree) ≡ walk (sectionOf section) (w .part .tree)
   leaf-builds (Word v) e o g = word-walks e refl
-  leaf-builds (Phrase k) e o g = absurd (miss (0 ∷ 2 ∷ 3 ∷ 4 ∷ []) 1 tt o)
+  leaf-builds (Phrase k) e o g = absurd (miss (0 ∷ 2 ∷ 3 ∷ 4 ∷ 5 ∷ []) 1 tt o)
   leaf-builds (Combine k) e o g = mild-walks e refl (not-false (isMildNot (aPair k)) g)
   leaf-builds Not e o g = change-walks (ap shapeOf (sym e)) g
   leaf-builds (Filtered f) e o g = change-walks (ap shapeOf (sym e)) g
+  leaf-builds (Occurs k) e o g = change-walks (ap shapeOf (sym e)) g
 
 -- the codes of the arm that takes no not and no combination
-pub leaf-code : (code : Code) → OneOf (0 ∷ 1 ∷ 4 ∷ []) (tagOf the-type code) → goesInto (shapeOf code) ≡ false
+pub leaf-code : (code : Code) → OneOf (0 ∷ 1 ∷ 4 ∷ 5 ∷ []) (tagOf the-type code) → goesInto (shapeOf code) ≡ false
 leaf-code (Word v) o = refl
 leaf-code (Phrase k) o = refl
-leaf-code (Combine k) o = absurd (miss (0 ∷ 1 ∷ 4 ∷ []) 2 tt o)
-leaf-code Not o = absurd (miss (0 ∷ 1 ∷ 4 ∷ []) 3 tt o)
+leaf-code (Combine k) o = absurd (miss (0 ∷ 1 ∷ 4 ∷ 5 ∷ []) 2 tt o)
+leaf-code Not o = absurd (miss (0 ∷ 1 ∷ 4 ∷ 5 ∷ []) 3 tt o)
 leaf-code (Filtered f) o = refl
+leaf-code (Occurs k) o = refl
 
 -- ---- the loop: from a part to what is under its not, or to its right side
 

@@ -30,7 +30,7 @@ fn count_codes(selection: &[u32], lo: u32, hi: u32) -> u32
     n
 }
 
-// "At kinds 5 to 15 it builds that code's whole part by the rules above, left to right, and looks for a match without excludes."
+// "At kinds 5 to 15 it builds that code's whole part by the rules above, left to right, and looks for a match without excludes." F-3: kinds 16 and 17 too.
 fn build_part(section: &[u32], selection: &[u32], work: &mut [u32], hi: u32) -> u64
     requires { ⌜ Walkable (now section) (now selection) (now work) hi ⌝ }
     ensures { λ r. ⌜ ((w : Walkable (now (section .entry)) (now (selection .entry)) (now (work .entry)) hi) → answerOf r ≡ buildOf (sectionOf (now (section .entry))) (w .part .tree)) ⌝ }

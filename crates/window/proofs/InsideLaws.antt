@@ -19,7 +19,7 @@ use Rattle.store.specs.ValidStr.{ValidStr}
 use Rattle.store.specs.Layout.{Holds}
 use Rattle.store.specs.Put.{Put}
 use Rattle.store.proofs.DecodeLaws.{str-back}
-use Rattle.store.proofs.LayoutLaws.{length-strsOf}
+use Rattle.store.proofs.LayoutLaws.{length-strsOf, strsOf-flatMap}
 use Rattle.store.proofs.MemoryLaws.{getD-head, holds-tail}
 use Rattle.store.proofs.PutLaws.{put-none, holds-below}
 use Rattle.store.proofs.RowsLaws.{Rows, rows-start, rows-room, rows-step, rows-finish, flatMap-keep}
@@ -59,13 +59,8 @@ module _ {n last : ℕ} {mem : List ℕ} {i q : ℕ} (w : StringAt n last mem i 
 abbrev rowOf : ℕ → ℕ → Str → List ℕ
 rowOf n last s = cond (insideWindow n last s) (spanOf s ∷ tagOf 1 s ∷ []) []
 
-strsOf-rows : (ss : List Str) → strsOf 1 ss ≡ flatMap (λ s. spanOf s ∷ tagOf 1 s ∷ []) ss
-unfolding strsOf flatMap
-strsOf-rows [] = refl
-strsOf-rows (s ∷ ss) = ap (λ xs. spanOf s ∷ tagOf 1 s ∷ xs) (strsOf-rows ss)
-
 rows-inside : (n last : ℕ) (ss : List Str) → flatMap (rowOf n last) ss ≡ strsOf 1 (keep (insideWindow n last) ss)
-rows-inside n last ss = sym (strsOf-rows (keep (insideWindow n last) ss) ∙ flatMap-keep (λ s. spanOf s ∷ tagOf 1 s ∷ []) (insideWindow n last) ss)
+rows-inside n last ss = sym (strsOf-flatMap 1 (keep (insideWindow n last) ss) ∙ flatMap-keep (λ s. spanOf s ∷ tagOf 1 s ∷ []) (insideWindow n last) ss)
 
 -- at index i of the loop: the strings todo are left, up to e, and the numbers of those before them that are inside are written from q to next
 pub record Copying (n last : ℕ) (list : List Str) (mem₀ : List ℕ) (e q : ℕ) (mem : List ℕ) (next i : ℕ) : Type 0 where

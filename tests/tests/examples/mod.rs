@@ -1,6 +1,7 @@
 //! Examples for any engine: the test program that has this module says by `crate::engine()` which one is asked.
 
 mod mistakes;
+mod occurs;
 mod paper;
 mod published;
 mod refusals;

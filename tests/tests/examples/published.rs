@@ -1,8 +1,8 @@
 //! The published examples of the W3C standard (source 001) and of "XQuery Full-Text extensions explained" (source 002), as
-//! far as document 01's selection language can express them.
+//! far as the selection language of document 01 and of request F-3 can express them.
 //!
-//! Skipped: those whose `needs` isn't `base`. E11, E12, E76, E79 and E80 need `occurs` (kind 17), and E87 needs a window
-//! in sentences (kind 18): document 01 leaves both aside, and refuses the kinds as unknown, which is tested instead.
+//! Skipped: E87, which needs a window in sentences (kind 18). That is left aside, and its kind refused as unknown, which is
+//! tested instead.
 
 use super::*;
 use second_engine::json::{self, Json};
@@ -33,16 +33,26 @@ fn short(m: &Match) -> Vec<String> {
     includes.chain(excludes).collect()
 }
 
+/// "Equal copies are all listed": how many matches there are, and how many different ones, where a reading says that.
+fn copies(reading: &str) -> Option<(usize, usize)> {
+    let counts: Vec<usize> =
+        reading.split(|c: char| !c.is_ascii_digit()).filter_map(|word| word.parse().ok()).collect();
+    match counts[..] {
+        [all, different] if reading.contains("different ones") => Some((all, different)),
+        _ => None,
+    }
+}
+
 #[test]
 fn published_examples() {
     let examples = examples();
-    let (mut run, mut skipped) = (vec![], vec![]);
+    let (mut run, mut skipped, mut copied) = (vec![], vec![], vec![]);
     for example in examples.list() {
         let id = example.get("id").text();
         let selection = selection(example);
-        if example.get("needs").text() != "base" {
+        if !["base", "F-3"].contains(&example.get("needs").text()) {
             for section in sections(example) {
-                let first = selection.0.iter().position(|code| code.kind >= 16).unwrap() as u32 + 1;
+                let first = selection.0.iter().position(|code| code.kind >= 18).unwrap() as u32 + 1;
                 assert_eq!(
                     listing(&section, &selection.numbers()),
                     Listing::Refused { number: 4, place: first },
@@ -67,11 +77,13 @@ fn published_examples() {
             _ => assert_eq!(answer, published, "{id}"),
         }
 
-        // E72: "Equal copies are all listed": 15 matches, of which 3 are different
-        let copies = reading.contains("different ones");
-        if copies {
-            assert_eq!((id, matches.len()), ("E72", 15));
+        // of E79 the different ones aren't listed in the published order
+        if let Some((all, different)) = copies(reading) {
+            assert_eq!(matches.len(), all, "{id}");
+            matches.sort();
             matches.dedup();
+            assert_eq!(matches.len(), different, "{id}");
+            copied.push(id);
         }
         if !example.get("published_count").is_null() {
             assert_eq!(matches.len() as i64, example.get("published_count").number(), "{id}");
@@ -83,6 +95,7 @@ fn published_examples() {
         }
         run.push(id);
     }
-    assert_eq!(skipped, ["E11", "E12", "E76", "E79", "E80", "E87"]);
-    assert_eq!(run.len(), 86);
+    assert_eq!(skipped, ["E87"]);
+    assert_eq!(copied, ["E72", "E79", "E80"]);
+    assert_eq!(run.len(), 91);
 }

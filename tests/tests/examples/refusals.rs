@@ -104,8 +104,10 @@ fn three_selection_size() {
 #[test]
 fn four_kinds() {
     let six = six_tokens();
-    assert_eq!(refused(&six, &word(10).then(15, 0).numbers()), None);
-    for kind in [16, 17, 255, 256, 65_536, 1 << 31, (1 << 31) + 4, u32::MAX] {
+    for kind in [15, 16, 17] {
+        assert_eq!(refused(&six, &word(10).then(kind, 0).numbers()), None);
+    }
+    for kind in [18, 19, 255, 256, 65_536, 1 << 31, (1 << 31) + 4, (1 << 31) + 17, u32::MAX] {
         assert_eq!(refused(&six, &word(10).then(kind, 0).numbers()), Some((4, 3)));
         assert_eq!(refused(&six, &word(10).then(kind, 0).then(kind, 0).numbers()), Some((4, 3)));
     }
@@ -153,6 +155,19 @@ fn five_operands() {
     for (a, b) in [(1, 0), (0, 4_096), (4_095, 4_096), (4_096, 4_096), (4_096, 4_095), (65_535, 65_535), (65_535, 0)] {
         assert_eq!(refused(&six, &word(99).distance(a, b).numbers()), Some((5, 3)));
     }
+    // occurs
+    for (a, b) in [(0, 0), (0, 4_095), (4_095, 4_095), (1, 1), (0, 1)] {
+        assert_eq!(refused(&six, &word(99).occurs(a, b).numbers()), None);
+    }
+    for (a, b) in [(1, 0), (0, 4_096), (4_095, 4_096), (4_096, 4_096), (4_096, 4_095), (65_535, 65_535), (65_535, 0)] {
+        assert_eq!(refused(&six, &word(99).occurs(a, b).numbers()), Some((5, 3)));
+    }
+    for a in [0, 1, 4_095] {
+        assert_eq!(refused(&six, &word(99).occurs_at_least(a).numbers()), None);
+    }
+    for a in [4_096, 4_097, 65_536, 65_537, 1 << 31, u32::MAX] {
+        assert_eq!(refused(&six, &word(99).occurs_at_least(a).numbers()), Some((5, 3)));
+    }
 }
 
 #[test]
@@ -173,7 +188,7 @@ fn six_shape() {
     assert_eq!(refused(&six, &combined(8).numbers()), None);
     assert_eq!(refused(&six, &combined(9).numbers()), Some((6, 18)));
     // other kinds need p = 0
-    for kind in [2, 3, 4, 5, 6, 9, 15] {
+    for kind in [2, 3, 4, 5, 6, 9, 15, 16, 17] {
         let mut loose = waiting(2).then(0, 1).then(kind, 0);
         assert_eq!(refused(&six, &loose.numbers()), Some((6, 6)));
         loose.0.remove(4);
@@ -185,7 +200,7 @@ fn six_shape() {
         assert_eq!(refused(&six, &word(1).then(kind, 0).numbers()), Some((6, 3)));
         assert_eq!(refused(&six, &[1, kind, 0]), Some((6, 1)));
     }
-    for kind in [4, 6, 10, 13] {
+    for kind in [4, 6, 10, 13, 16, 17] {
         assert_eq!(refused(&six, &[1, kind, 0]), Some((6, 1)));
         assert_eq!(refused(&six, &word(1).then(kind, 0).numbers()), None);
     }
@@ -193,6 +208,44 @@ fn six_shape() {
     assert_eq!(refused(&six, &waiting(2).numbers()), Some((6, 4)));
     assert_eq!(refused(&six, &word(1).then(0, 1).numbers()), Some((6, 3)));
     assert_eq!(refused(&six, &[1, 0, 1]), Some((6, 1)));
+}
+
+/// Request F-3: "12 at the code where the thing below isn't a phrase".
+#[test]
+fn twelve_an_occurs_over_a_phrase() {
+    let six = six_tokens();
+    let over = |selection: Selection| {
+        let both = [selection.clone().occurs_at_least(1), selection.occurs(1, 1)];
+        let [one, other] = both.map(|selection| refused(&six, &selection.numbers()));
+        assert_eq!(one, other);
+        one
+    };
+    assert_eq!(over(word(10)), None);
+    assert_eq!(over(phrase(&[10; 8])), None);
+    // over every other kind
+    assert_eq!(over(word(10).or(word(20))), Some((12, 6)));
+    assert_eq!(over(word(10).and(word(20))), Some((12, 6)));
+    assert_eq!(over(word(10).not()), Some((12, 4)));
+    assert_eq!(over(word(10).mild_not(word(20))), Some((12, 6)));
+    for kind in [6, 9, 10, 11, 12, 13, 14, 15] {
+        assert_eq!(over(word(10).then(kind, 0)), Some((12, 4)));
+    }
+    assert_eq!(over(word(10).window(1)), Some((12, 4)));
+    assert_eq!(over(word(10).distance(0, 1)), Some((12, 4)));
+    assert_eq!(over(word(10).occurs(0, 1)), Some((12, 4)));
+    assert_eq!(over(word(10).occurs_at_least(1)), Some((12, 4)));
+    // directly below it: a phrase that only waits beside it isn't enough
+    let beside = Selection([word(10).0, word(20).not().0].concat());
+    assert_eq!(refused(&six, &beside.clone().occurs_at_least(1).then(3, 0).numbers()), Some((12, 6)));
+    assert_eq!(refused(&six, &beside.then(3, 0).numbers()), None);
+    // where other codes stand between them, both are over their phrase
+    let each = word(10).occurs_at_least(1).and(word(20).occurs(0, 9).not());
+    assert_eq!(refused(&six, &each.numbers()), None);
+    // the first such code
+    let several = word(10).occurs_at_least(1).occurs(0, 1).not().occurs_at_least(0);
+    assert_eq!(refused(&six, &several.numbers()), Some((12, 4)));
+    let right = word(10).occurs_at_least(1).or(word(20).ordered().occurs(0, 1).not().occurs(0, 1));
+    assert_eq!(refused(&six, &right.numbers()), Some((12, 7)));
 }
 
 #[test]
@@ -212,6 +265,26 @@ fn seven_a_not_under_a_mild_not() {
     assert_eq!(refused(&six, &several.numbers()), Some((7, 9)));
     let beside = sound.or(word(3).not()).mild_not(word(4));
     assert_eq!(refused(&six, &beside.numbers()), Some((7, 12)));
+}
+
+/// "Document 01's rule against a not under a mild not now counts kind 16 too".
+#[test]
+fn seven_an_occurs_under_a_mild_not() {
+    let six = six_tokens();
+    let range = |word_number: u32| word(word_number).occurs(0, 4_095);
+    assert_eq!(refused(&six, &range(10).mild_not(word(20)).numbers()), Some((7, 6)));
+    assert_eq!(refused(&six, &word(20).mild_not(range(10)).numbers()), Some((7, 6)));
+    assert_eq!(refused(&six, &word(20).mild_not(word(30).or(range(10)).ordered()).numbers()), Some((7, 10)));
+    // kind 17 is no not
+    let least = |word_number: u32| word(word_number).occurs_at_least(0);
+    assert_eq!(refused(&six, &least(10).mild_not(word(20)).numbers()), None);
+    assert_eq!(refused(&six, &word(20).mild_not(least(10)).numbers()), None);
+    assert_eq!(refused(&six, &least(20).mild_not(word(30).or(least(10)).ordered()).numbers()), None);
+    // beside a mild not, or over it
+    assert_eq!(refused(&six, &range(10).or(word(10).mild_not(word(20))).numbers()), None);
+    // the lowest such kind 5
+    let several = least(1).mild_not(word(2)).mild_not(range(3)).mild_not(range(4));
+    assert_eq!(refused(&six, &several.numbers()), Some((7, 10)));
 }
 
 #[test]
@@ -262,12 +335,23 @@ fn order() {
     // a not under a mild not, in a wrong shape
     let mild = word(1).not().mild_not(word(2));
     assert_eq!(refused_with(&six, &mild.clone().then(0, 1).numbers(), 0, 0), Some((6, 7)));
+    // an occurs over it: 12 "tried after 6", and before 7
+    let over = mild.clone().occurs_at_least(1);
+    assert_eq!(refused_with(&six, &over.clone().then(18, 0).numbers(), 0, 0), Some((4, 8)));
+    assert_eq!(refused_with(&six, &over.clone().occurs_at_least(4_096).numbers(), 0, 0), Some((5, 8)));
+    assert_eq!(refused_with(&six, &over.clone().then(0, 1).numbers(), 0, 0), Some((6, 8)));
+    assert_eq!(refused_with(&six, &over.numbers(), 0, 0), Some((12, 7)));
+    // and where the mild not stands over the occurs
+    let under = word(1).ordered().occurs(0, 1).mild_not(word(2));
+    assert_eq!(refused_with(&six, &under.numbers(), 0, 0), Some((12, 4)));
+    assert_eq!(refused_with(&six, &word(1).occurs(0, 1).mild_not(word(2)).numbers(), 0, 0), Some((7, 6)));
+    assert_eq!(refused_with(&six, &word(1).occurs(0, 1).numbers(), 0, 0), Some((8, 0)));
     assert_eq!(refused_with(&six, &mild.numbers(), 0, 0), Some((7, 6)));
     assert_eq!(refused_with(&refused_9, &word(7).numbers(), 0, 0), Some((8, 0)));
     assert_eq!(refused_with(&refused_9, &word(7).numbers(), WORK, BUFFER), Some((9, 2)));
 }
 
-/// The quick answer: "Limits on size hold only for lists built at or under kinds 5 to 15."
+/// The quick answer: "Limits on size hold only for lists built at or under kinds 5 to 15"; those of occurs are in occurs.rs.
 #[test]
 fn nine_in_the_quick_answer() {
     let many = plain(&[vec![1; 300], vec![2; 300]].concat());

@@ -1,5 +1,6 @@
-//! Each of the fifteen rules on a small list, and on lists at both limits ("256 matches or 512 strings") and just over
-//! them. Where a rule's list can't be larger than the one it is made of, being at the limits is all there is to ask.
+//! Each of document 01's fifteen rules on a small list, and on lists at both limits ("256 matches or 512 strings") and just
+//! over them. Where a rule's list can't be larger than the one it is made of, being at the limits is all there is to ask.
+//! Occurs have a file of their own.
 
 use super::*;
 

@@ -48,10 +48,19 @@ impl Derived {
 /// Sentences by their length.
 type ByLength = Vec<Vec<Derived>>;
 
+/// What stands in every sentence: filters, phrases, and what may follow a phrase.
+struct Forms {
+    filters: Vec<Derived>,
+    phrases: Vec<Derived>,
+    times: Vec<Derived>,
+}
+
 /// All that each rule of the grammar derives, up to some length.
 #[derive(Default)]
 pub struct Grammar {
     filters: ByLength,
+    words: ByLength,
+    times: ByLength,
     primaries: ByLength,
     unaries: ByLength,
     mild_nots: ByLength,
@@ -80,6 +89,16 @@ pub fn filters() -> Vec<Derived> {
     ]
 }
 
+/// "`occurs` with one of the four ranges and `times` follows a phrase; `at least` is kind 17."
+pub fn times() -> Vec<Derived> {
+    vec![
+        Derived::new("occurs exactly N times", vec![(16, Operand::Exactly)]),
+        Derived::new("occurs at least N times", vec![(17, Operand::Number)]),
+        Derived::new("occurs at most N times", vec![(16, Operand::AtMost)]),
+        Derived::new("occurs from N to N times", vec![(16, Operand::FromTo)]),
+    ]
+}
+
 /// "A phrase is one to eight word numbers in double quotes."
 fn phrases() -> Vec<Derived> {
     let words = |count: usize| "W ".repeat(count);
@@ -102,21 +121,37 @@ fn pairs<'a>(
 impl Grammar {
     /// All sentences of up to so many tokens.
     pub fn up_to(most: usize) -> Grammar {
+        Grammar::of(&Forms { filters: filters(), phrases: phrases(), times: times() }, most)
+    }
+
+    /// Those that have phrases of one word, with an occurs or without, and of all filters only `ordered` and `at end`: longer
+    /// ones, in which an occurs stands in every place.
+    pub fn about_occurs(most: usize) -> Grammar {
+        let some = |list: Vec<Derived>, of: fn(&Derived) -> bool| list.into_iter().filter(of).collect();
+        let filters = some(filters(), |filter| [6, 14].contains(&filter.codes[0].0));
+        let phrases = some(phrases(), |phrase| phrase.codes.len() == 2);
+        Grammar::of(&Forms { filters, phrases, times: times() }, most)
+    }
+
+    fn of(forms: &Forms, most: usize) -> Grammar {
         let mut all = Grammar::default();
         for length in 0..=most {
-            all.derive(length);
+            all.derive(forms, length);
         }
         all
     }
 
     /// All sentences of just so many tokens, from the shorter ones.
-    fn derive(&mut self, length: usize) {
-        let of_length = |list: Vec<Derived>| list.into_iter().filter(|one| one.tokens.len() == length).collect();
-        self.filters.push(of_length(filters()));
+    fn derive(&mut self, forms: &Forms, length: usize) {
+        let of_length = |list: &[Derived]| list.iter().filter(|one| one.tokens.len() == length).cloned().collect();
+        self.filters.push(of_length(&forms.filters));
+        self.words.push(of_length(&forms.phrases));
+        self.times.push(of_length(&forms.times));
 
-        // FTPrimary ::= FTWords | "(" FTSelection ")"
+        // FTPrimary ::= FTWords FTTimes? | "(" FTSelection ")"
         let (open, close) = (Derived::new("(", vec![]), Derived::new(")", vec![]));
-        let mut primaries: Vec<Derived> = of_length(phrases());
+        let mut primaries = self.words[length].clone();
+        primaries.extend(pairs(&self.words, &self.times, length, 0).map(|(words, times)| words.then(times)));
         if length >= 2 {
             primaries.extend(self.selections[length - 2].iter().map(|inside| open.then(inside).then(&close)));
         }

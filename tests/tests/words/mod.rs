@@ -90,6 +90,14 @@ impl Selection {
         self.then(15, 0)
     }
 
+    pub fn occurs(self, a: u32, b: u32) -> Selection {
+        self.then(16, a * 65_536 + b)
+    }
+
+    pub fn occurs_at_least(self, a: u32) -> Selection {
+        self.then(17, a)
+    }
+
     /// The lent form.
     pub fn numbers(&self) -> Vec<u32> {
         selection::numbers(&self.0)

@@ -12,6 +12,9 @@ combination-of-requires c κs = search needs
 filter-of-requires : tie.Need-filter-of-requires
 filter-of-requires c κs = search needs
 
+times-of-requires : tie.Need-times-of-requires
+times-of-requires c κs = search needs
+
 returns : tie.Need-returns
 returns c = simp (c .match .keys1)
 
@@ -33,10 +36,19 @@ returns-4 c =
 
 returns-5 : tie.Need-returns-5
 returns-5 c =
-    let m = c .before .before in
-    let h : 5 < m .before .args .kind = omega (arith, c .before .if1 .left) in
-    let k : 15 < m .before .args .kind = omega (arith, c .if2 .left) in
-    simp (ne-eqb _ _ (m .match .rest .0 .1), ne-eqb _ _ (m .match .rest .1), lt-leb _ _ h, lt-leb _ _ k)
+    let m = c .before .before .before .before in
+    let h : 5 < m .before .args .kind = omega (arith, c .before .before .before .if1 .left) in
+    let k : 15 < m .before .args .kind = omega (arith, c .before .before .if2 .left) in
+    let l : m .before .args .kind ≤ 17 = omega (arith, c .before .if3 .taken) in
+    simp (ne-eqb _ _ (m .match .rest .0 .1), ne-eqb _ _ (m .match .rest .1), lt-leb _ _ h, lt-leb _ _ k, le-leb _ _ l, c .times-of .ensures)
+
+returns-6 : tie.Need-returns-6
+returns-6 c =
+    let m = c .before .before .before in
+    let h : 5 < m .before .args .kind = omega (arith, c .before .before .if1 .left) in
+    let k : 15 < m .before .args .kind = omega (arith, c .before .if2 .left) in
+    let l : 17 < m .before .args .kind = omega (arith, c .if3 .left) in
+    simp (ne-eqb _ _ (m .match .rest .0 .1), ne-eqb _ _ (m .match .rest .1), lt-leb _ _ h, lt-leb _ _ k, lt-leb _ _ l)
 
 pub code-of-spec : {M : Type 1} → statement M
 code-of-spec =
@@ -44,8 +56,10 @@ code-of-spec =
     (tie.spec
     combination-of-requires
     filter-of-requires
+    times-of-requires
     returns
     returns-2
     returns-3
     returns-4
-    returns-5)
+    returns-5
+    returns-6)

@@ -2,7 +2,7 @@
 use mathlib.Core.Path.{refl}
 use native.Mathlib.Omega.{arith}
 use Rattle.flat_rules.proofs.TokensLaws.{answers-code, answers-refused, one-more}
-use Rattle.flat_rules.proofs.FiltersLaws.{coded-no, coded-yes}
+use Rattle.flat_rules.proofs.RangesLaws.{coded-no, coded-yes}
 use borrow.Author.Needs.{needs}
 use Rattle.flat_rules.proofs.coded.Statement.{statement}
 use Rattle.flat_rules.proofs.coded.Tie as tie

@@ -4,7 +4,8 @@ use native.Mathlib.Omega.{arith}
 use Rattle.model.specs.declared.Code.the-variants.{Filter as Filtered}
 use Rattle.model.specs.declared.Filter.the-variants.{Ordered}
 use Rattle.flat_rules.proofs.TokensLaws.{answers-after, answers-code, answers-refused, one-more}
-use Rattle.flat_rules.proofs.FiltersLaws.{filter-at, filter-different, filter-distance, filter-entire, filter-none, filter-ordered, filter-same, filter-window, makes-window}
+use Rattle.flat_rules.proofs.FiltersLaws.{filter-at, filter-different, filter-distance, filter-entire, filter-none, filter-ordered, filter-same, filter-window}
+use Rattle.flat_rules.proofs.RangesLaws.{makes-distance, makes-least-distance, makes-window}
 use borrow.Author.Needs.{needs}
 use Rattle.flat_rules.proofs.filter.Statement.{statement}
 use Rattle.flat_rules.proofs.filter.Tie as tie
@@ -30,8 +31,8 @@ read-requires c κs =
 measured-requires : tie.Need-measured-requires
 measured-requires c κs = search needs
 
-distance-requires : tie.Need-distance-requires
-distance-requires c κs = search needs
+range-requires : tie.Need-range-requires
+range-requires c κs = search needs
 
 either-requires : tie.Need-either-requires
 either-requires c κs = search needs
@@ -62,7 +63,7 @@ returns-2 c =
 returns-3 : tie.Need-returns-3
 returns-3 c =
     let a = c .before .before .before .before in
-    answers-after (a .before .token-at .ensures) (a .symbol-of .ensures) (c .before .before .match .keys3) (c .before .before .before .end-of .ensures) filter-distance (c .distance .ensures)
+    answers-after (a .before .token-at .ensures) (a .symbol-of .ensures) (c .before .before .match .keys3) (c .before .before .before .end-of .ensures) filter-distance (c .range .ensures _ _ makes-least-distance makes-distance)
 
 returns-4 : tie.Need-returns-4
 returns-4 c =
@@ -100,7 +101,7 @@ filter-spec =
     push-requires
     read-requires
     measured-requires
-    distance-requires
+    range-requires
     either-requires
     either-requires-2
     either-requires-3

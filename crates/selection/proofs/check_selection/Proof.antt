@@ -1,13 +1,15 @@
 -- Each check is reached where those before it have found nothing (to-kinds to to-mild-nots), and refuses at the place that it finds.
-use Rattle.selection.proofs.CheckLaws.{four, five, six, seven, wrong-size, right-size, stops-here, goes-on, none-refused}
+use Rattle.selection.proofs.CheckLaws.{four, five, six, twelve, seven, wrong-size, right-size, stops-here, goes-on, none-refused}
 use Rattle.model.proofs.AnswersLaws.{fault-nowhere}
 use Rattle.model.proofs.WaitingLaws.{misfit-none}
 use Rattle.model.specs.Answers.{checkedOf}
 use Rattle.model.specs.Checks.{Check, tried, wrongShape, selectionRefusal}
 use Rattle.model.specs.Section.{size}
 use Rattle.model.specs.Kinds.{shapesOf}
+use Rattle.model.specs.Parts.{wellFormed}
 use borrow.Author.Needs.{needs}
 use borrow.Author.Tests.{not-true, not-false}
+use mathlib.Core.Bool.{true}
 use mathlib.Core.Path.{_≡_, sym, ap, ap₂, _∙_}
 use mathlib.Core.List.{List, [], _∷_}
 use Prim.Native.Nat.{ℕ}
@@ -21,17 +23,28 @@ input w = w .before .before .args .selection .now
 abbrev Decide : List Check → tie.After-well-sized → Type 0
 Decide cs w = selectionRefusal (input w) ≡ tried cs (input w)
 
-to-kinds : (u : tie.After-unknown-kind) → Decide (four ∷ five ∷ six ∷ seven ∷ []) (u .before .before)
+to-kinds : (u : tie.After-unknown-kind) → Decide (four ∷ five ∷ six ∷ twelve ∷ seven ∷ []) (u .before .before)
 to-kinds u = let w = u .before .before in right-size (input w) (sym (w .well-sized .ensures) ∙ not-false _ (u .before .if1 .left))
 
-to-operands : (o : tie.After-wrong-operand) → Decide (five ∷ six ∷ seven ∷ []) (o .before .before .before .before .before)
+to-operands : (o : tie.After-wrong-operand) → Decide (five ∷ six ∷ twelve ∷ seven ∷ []) (o .before .before .before .before .before)
 to-operands o = let t = o .before in let u = t .before .before in goes-on _ four _ (to-kinds u) (u .unknown-kind .ensures) (t .enum-told .given .1)
 
-to-shape : (h : tie.After-wrong-shape) → Decide (six ∷ seven ∷ []) (h .before .before .before .before .before .before .before .before)
+to-shape : (h : tie.After-wrong-shape) → Decide (six ∷ twelve ∷ seven ∷ []) (h .before .before .before .before .before .before .before .before)
 to-shape h = let t = h .before in let o = t .before .before in goes-on _ five _ (to-operands o) (o .wrong-operand .ensures) (t .enum-told2 .given .1)
 
-to-mild-nots : (n : tie.After-not-under-mild-not) → Decide (seven ∷ []) (n .before .before .before .before .before .before .before .before .before .before .before)
-to-mild-nots n = let t = n .before in let h = t .before .before in goes-on _ six _ (to-shape h) (h .wrong-shape .ensures) (t .enum-told3 .given .1)
+to-occurs : (o : tie.After-not-over-phrase) → Decide (twelve ∷ seven ∷ []) (o .before .before .before .before .before .before .before .before .before .before .before)
+to-occurs o = let t = o .before in let h = t .before .before in goes-on _ six _ (to-shape h) (h .wrong-shape .ensures) (t .enum-told3 .given .1)
+
+to-mild-nots : (n : tie.After-not-under-mild-not) → Decide (seven ∷ []) (n .before .before .before .before .before .before .before .before .before .before .before .before .before .before)
+to-mild-nots n = let t = n .before in let o = t .before .before in goes-on _ twelve _ (to-occurs o) (o .not-over-phrase .ensures) (t .enum-told4 .given .1)
+
+-- what the searches over parts ask for
+passes-shape : (t : tie.After-enum-told3) → wellFormed (shapesOf (input (t .before .before .before .before .before .before .before .before .before .before))) ≡ true
+unfolding wrongShape
+passes-shape t =
+    let h = t .before .before in
+    let s = input (h .before .before .before .before .before .before .before .before) in
+    misfit-none (shapesOf s) .0 (fault-nowhere (wrongShape s) (sym (h .wrong-shape .ensures) ∙ t .enum-told3 .given .1))
 
 well-sized-requires : tie.Need-well-sized-requires
 well-sized-requires c κs = search needs
@@ -77,30 +90,38 @@ returns-4 c = let h = c .before .before .before in ap (checkedOf _) (sym (stops-
 enum-told-3 : tie.Need-enum-told-3
 enum-told-3 c = search needs
 
-not-under-mild-not-requires : tie.Need-not-under-mild-not-requires
-unfolding wrongShape
-not-under-mild-not-requires c κs =
-    let h = c .before .before in
-    let s = h .before .before .before .before .before .before .before .before .before .before .args .selection .now in
-    misfit-none (shapesOf s) .0 (fault-nowhere (wrongShape s) (sym (h .wrong-shape .ensures) ∙ c .enum-told3 .given .1))
+not-over-phrase-requires : tie.Need-not-over-phrase-requires
+not-over-phrase-requires c κs = passes-shape c
 
-enum-known-under : tie.Need-enum-known-under
-enum-known-under c = search needs
+enum-known-elsewhere : tie.Need-enum-known-elsewhere
+enum-known-elsewhere c = search needs
 
 returns-5 : tie.Need-returns-5
-returns-5 c = let n = c .before .before .before in ap (checkedOf _) (sym (stops-here _ seven _ (to-mild-nots n) (n .not-under-mild-not .ensures) (c .before .under .given .1)))
+returns-5 c = let o = c .before .before .before in ap (checkedOf _) (sym (stops-here _ twelve _ (to-occurs o) (o .not-over-phrase .ensures) (c .before .elsewhere .given .1)))
 
 enum-told-4 : tie.Need-enum-told-4
 enum-told-4 c = search needs
 
+not-under-mild-not-requires : tie.Need-not-under-mild-not-requires
+not-under-mild-not-requires c κs = passes-shape (c .before .before .before)
+
+enum-known-under : tie.Need-enum-known-under
+enum-known-under c = search needs
+
+returns-6 : tie.Need-returns-6
+returns-6 c = let n = c .before .before .before in ap (checkedOf _) (sym (stops-here _ seven _ (to-mild-nots n) (n .not-under-mild-not .ensures) (c .before .under .given .1)))
+
+enum-told-5 : tie.Need-enum-told-5
+enum-told-5 c = search needs
+
 number-at-requires : tie.Need-number-at-requires
 number-at-requires c κs = search needs
 
-returns-6 : tie.Need-returns-6
-returns-6 c =
+returns-7 : tie.Need-returns-7
+returns-7 c =
     let t = c .before in
     let n = t .before .before in
-    ap₂ checkedOf (c .number-at .ensures) (sym (none-refused _ (goes-on _ seven _ (to-mild-nots n) (n .not-under-mild-not .ensures) (t .enum-told4 .given .1))))
+    ap₂ checkedOf (c .number-at .ensures) (sym (none-refused _ (goes-on _ seven _ (to-mild-nots n) (n .not-under-mild-not .ensures) (t .enum-told5 .given .1))))
 
 pub check-selection-spec : {M : Type 1} → statement M
 check-selection-spec =
@@ -120,9 +141,13 @@ check-selection-spec =
     enum-known-shape
     returns-4
     enum-told-3
-    not-under-mild-not-requires
-    enum-known-under
+    not-over-phrase-requires
+    enum-known-elsewhere
     returns-5
     enum-told-4
+    not-under-mild-not-requires
+    enum-known-under
+    returns-6
+    enum-told-5
     number-at-requires
-    returns-6)
+    returns-7)

@@ -1,15 +1,18 @@
--- Invariant: no part that ends at the first c codes is a mild not over a not (MildOverNotLaws). Measure: the codes left.
-use Rattle.selection.proofs.MildOverNotLaws.{found, none-after, some-after, found-none, found-some}
+-- Invariant: no part that ends at the first c codes is a mild not over a not (PartSearchLaws, MildOverNotLaws). Measure: the codes left.
+use Rattle.selection.proofs.PartSearchLaws.{found, none-after, some-after, found-none, found-some}
+use Rattle.selection.proofs.MildOverNotLaws.{mildToldAt, mild-told, mild-ends, read-mild}
+use Rattle.model.specs.Checks.{mildOverNot, notUnderMildNot}
 use Rattle.selection.specs.PartCodes.{partCodes}
 use Rattle.model.specs.Trees.{readAll}
 use Rattle.model.specs.Selection.{upTo}
-use Rattle.model.specs.Kinds.{shapeAt, shapeOf, shapesOf}
+use Rattle.model.specs.Kinds.{shapeAt, shapesOf}
 use Rattle.model.specs.Section.{size}
 use Rattle.model.specs.Parts.{isNotCode, isMildNot, waitingParts}
 use Rattle.model.specs.Lists.{anyOf, first}
 use Rattle.model.specs.Answers.{faultOf}
 use mathlib.Core.Option.{none}
 use mathlib.Core.Bool.{_&&_, and-false}
+use Rattle.model.proofs.TestsLaws.{and-join}
 use mathlib.Core.Path.{_≡_, refl, sym, ap, _∙_}
 use borrow.Author.Needs.{needs}
 use native.Mathlib.Omega.{arith}
@@ -18,7 +21,7 @@ use Rattle.selection.proofs.not_under_mild_not.Statement.{statement}
 use Rattle.selection.proofs.not_under_mild_not.Tie as tie
 
 abbrev Inv-loop : tie.InvT-loop
-Inv-loop selection m c₀ c = (c ≤ m) × (found (shapeAt selection) c ≡ none)
+Inv-loop selection m c₀ c = (c ≤ m) × (found mildOverNot (shapeAt selection) c ≡ none)
 
 abbrev μ-loop : tie.MeasureT-loop
 μ-loop selection m c₀ c = m - c
@@ -43,16 +46,18 @@ has-not-requires : tie.Need-has-not-requires Inv-loop μ-loop
 has-not-requires c κs = search needs
 
 returns : tie.Need-returns Inv-loop μ-loop
-unfolding shapesOf
+unfolding shapesOf notUnderMildNot
 returns c =
     let l = c .before .before .before .before .before .before in
     let st = l .before .before .before in
     let s = st .args .selection .now in
     let h : l .loop .c < size s = omega (arith, l .before .number-at .ensures) in
     let n : l .loop .c + 1 ≤ size s = omega arith in
-    ap faultOf (sym (found-some s (st .pre) (l .loop .c + 1) n _
-    (some-after (shapeAt s) (size s) (st .pre) (l .loop .c) h (l .loop .inv .1) _ (ap shapeOf (c .before .before .before .before .code-at .ensures))
-    (sym (c .before .before .before .is-mild-not .ensures) ∙ c .before .before .if1 .taken) (sym (c .before .has-not .ensures) ∙ c .if2 .taken))))
+    let mild = read-mild s _ (c .before .before .before .before .code-at .ensures) (c .before .before .before .is-mild-not .ensures) ∙ c .before .before .if1 .taken in
+    ap faultOf (sym (found-some mildOverNot s (st .pre) (l .loop .c + 1) n _
+    (some-after mildOverNot (shapeAt s) (mildToldAt (shapeAt s)) (mild-told (shapeAt s)) (size s) (st .pre) (l .loop .c) h (l .loop .inv .1)
+    (mild-ends (shapeAt s (l .loop .c + 1)) mild)
+    (and-join mild (sym (c .before .has-not .ensures) ∙ c .if2 .taken)))))
 
 loop-less : tie.Need-loop-less Inv-loop μ-loop
 loop-less c = search needs
@@ -65,8 +70,8 @@ loop-again c =
     let s = st .args .selection .now in
     let h : l .loop .c < size s = omega (arith, l .before .number-at .ensures) in (
       omega arith,
-      none-after (shapeAt s) (size s) (st .pre) (l .loop .c) h (l .loop .inv .1) _ (ap shapeOf (c .before .before .before .before .code-at .ensures))
-          (ap (isMildNot (shapeOf (c .before .before .before .before .code-at .result)) &&_) (sym (c .before .has-not .ensures) ∙ c .if2 .left) ∙ and-false (isMildNot (shapeOf (c .before .before .before .before .code-at .result)))),
+      none-after mildOverNot (shapeAt s) (mildToldAt (shapeAt s)) (mild-told (shapeAt s)) (size s) (st .pre) (l .loop .c) h (l .loop .inv .1)
+          (ap (isMildNot (shapeAt s (l .loop .c + 1)) &&_) (sym (c .before .has-not .ensures) ∙ c .if2 .left) ∙ and-false (isMildNot (shapeAt s (l .loop .c + 1)))),
     )
 
 loop-less-2 : tie.Need-loop-less-2 Inv-loop μ-loop
@@ -80,17 +85,18 @@ loop-again-2 c =
     let s = st .args .selection .now in
     let h : l .loop .c < size s = omega (arith, l .before .number-at .ensures) in (
       omega arith,
-      none-after (shapeAt s) (size s) (st .pre) (l .loop .c) h (l .loop .inv .1) _ (ap shapeOf (c .before .before .code-at .ensures))
-          (ap (_&& anyOf isNotCode (partCodes (shapeAt s) (l .loop .c + 1))) (sym (c .before .is-mild-not .ensures) ∙ c .if1 .left)),
+      none-after mildOverNot (shapeAt s) (mildToldAt (shapeAt s)) (mild-told (shapeAt s)) (size s) (st .pre) (l .loop .c) h (l .loop .inv .1)
+          (ap (_&& anyOf isNotCode (partCodes (shapeAt s) (l .loop .c + 1))) (read-mild s _ (c .before .before .code-at .ensures) (c .before .is-mild-not .ensures) ∙ c .if1 .left)),
     )
 
 returns-2 : tie.Need-returns-2 Inv-loop μ-loop
+unfolding notUnderMildNot
 returns-2 c =
     let l = c .before in
     let st = l .before .before .before in
     let s = st .args .selection .now in
     let z : l .loop .c ≡ size s = omega (arith, l .before .number-at .ensures) in
-    ap faultOf (sym (found-none s (st .pre) (ap (found (shapeAt s)) (sym z) ∙ l .loop .inv .1)))
+    ap faultOf (sym (found-none mildOverNot s (st .pre) (ap (found mildOverNot (shapeAt s)) (sym z) ∙ l .loop .inv .1)))
 
 pub not-under-mild-not-spec : {M : Type 1} → statement M
 not-under-mild-not-spec =

@@ -1,7 +1,7 @@
 -- In each arm the trees that wait give the lists that the rule takes, and the tree that then waits has the rule's list.
 use Rattle.build.proofs.CodesLaws.{phrase-few, phrase-rank, phrase-taken, phrase-after, pair-taken, pair-after}
-use Rattle.build.proofs.CodesLaws.{change-taken, change-after, word-after}
-use Rattle.model.specs.declared.Code.the-variants.{Filter as Filtered}
+use Rattle.build.proofs.CodesLaws.{change-taken, change-after, occurs-taken, occurs-after, word-after}
+use Rattle.model.specs.declared.Code.the-variants.{Filter as Filtered, Occurs}
 use Rattle.model.specs.Kinds.{shapeOf, negated, filtered}
 use mathlib.Core.Path.{ap, _∙_}
 use borrow.Author.Needs.{needs}
@@ -50,6 +50,15 @@ build-filter-requires c κs =
     let w = c .before .before .before .before .before .before .before .pre in
     (λ n q. w .window n (e .1 ∙ ap Filtered q), change-taken (filtered (e .0 .0)) (ap shapeOf (e .1)) (w .waits))
 
+enum-known-code-3 : tie.Need-enum-known-code-3
+enum-known-code-3 c = search needs
+
+build-occurs-requires : tie.Need-build-occurs-requires
+build-occurs-requires c κs =
+    let e = c .before .before .code3 .given in
+    let w = c .before .before .before .before .before .before .before .pre in
+    (λ a b q. w .times a b (e .1 ∙ ap Occurs q), occurs-taken (e .0 .0) (ap shapeOf (e .1)) (w .waits))
+
 returns : tie.Need-returns
 returns c w = word-after (c .enum-told .given .0 .0) (ap shapeOf (c .enum-told .given .1)) (w .waits)
 
@@ -89,6 +98,14 @@ returns-5 c w =
     let e = b .before .before .before .code2 .given in
     change-after (filtered (e .0 .0)) (ap shapeOf (e .1)) (w .waits) (b .build-filter .ensures)
 
+same-length-5 : tie.Need-same-length-5
+same-length-5 c = search needs
+
+returns-6 : tie.Need-returns-6
+returns-6 c w =
+    let e = c .before .before .before .before .before .code3 .given in
+    occurs-after (e .0 .0) (ap shapeOf (e .1)) (w .waits) (c .before .before .build-occurs .ensures)
+
 pub build-code-spec : {M : Type 1} → statement M
 build-code-spec =
     tie.close
@@ -103,6 +120,8 @@ build-code-spec =
     build-not-requires
     enum-known-code-2
     build-filter-requires
+    enum-known-code-3
+    build-occurs-requires
     returns
     same-length
     returns-2
@@ -111,4 +130,6 @@ build-code-spec =
     same-length-3
     returns-4
     same-length-4
-    returns-5)
+    returns-5
+    same-length-5
+    returns-6)

@@ -13,6 +13,9 @@ is-within-requires c κs = search needs
 filter-operand-fits-requires : tie.Need-filter-operand-fits-requires
 filter-operand-fits-requires c κs = search needs
 
+times-operand-fits-requires : tie.Need-times-operand-fits-requires
+times-operand-fits-requires c κs = search needs
+
 returns : tie.Need-returns
 unfolding operandFits
 returns c = simp (c .match .keys1)
@@ -39,10 +42,20 @@ returns-4 c =
 returns-5 : tie.Need-returns-5
 unfolding operandFits
 returns-5 c =
-    let m = c .before .before in
-    let h : 5 < m .before .args .kind = omega (arith, c .before .if1 .left) in
-    let k : 15 < m .before .args .kind = omega (arith, c .if2 .left) in
-    simp (ne-eqb _ _ (m .match .rest .0 .1), ne-eqb _ _ (m .match .rest .1), lt-leb _ _ h, lt-leb _ _ k)
+    let m = c .before .before .before .before in
+    let h : 5 < m .before .args .kind = omega (arith, c .before .before .before .if1 .left) in
+    let k : 15 < m .before .args .kind = omega (arith, c .before .before .if2 .left) in
+    let l : m .before .args .kind ≤ 17 = omega (arith, c .before .if3 .taken) in
+    simp (ne-eqb _ _ (m .match .rest .0 .1), ne-eqb _ _ (m .match .rest .1), lt-leb _ _ h, lt-leb _ _ k, le-leb _ _ l, c .times-operand-fits .ensures)
+
+returns-6 : tie.Need-returns-6
+unfolding operandFits
+returns-6 c =
+    let m = c .before .before .before in
+    let h : 5 < m .before .args .kind = omega (arith, c .before .before .if1 .left) in
+    let k : 15 < m .before .args .kind = omega (arith, c .before .if2 .left) in
+    let l : 17 < m .before .args .kind = omega (arith, c .if3 .left) in
+    simp (ne-eqb _ _ (m .match .rest .0 .1), ne-eqb _ _ (m .match .rest .1), lt-leb _ _ h, lt-leb _ _ k, lt-leb _ _ l)
 
 pub operand-fits-spec : {M : Type 1} → statement M
 operand-fits-spec =
@@ -50,8 +63,10 @@ operand-fits-spec =
     (tie.spec
     is-within-requires
     filter-operand-fits-requires
+    times-operand-fits-requires
     returns
     returns-2
     returns-3
     returns-4
-    returns-5)
+    returns-5
+    returns-6)

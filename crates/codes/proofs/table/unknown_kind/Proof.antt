@@ -44,7 +44,7 @@ returns c =
     let s = l .before .before .before .args .selection .now in
     let e = l .before .number-at .ensures in
     let h : l .loop .c ≤ size s = omega (arith, e) in
-    ap faultOf (sym (first-range-here (isUnknown s) (l .loop .c) (size s) h (ap (leb 16) (sym (c .before .before .number-at2 .ensures)) ∙ sym (c .before .is-unknown .ensures) ∙ c .if1 .taken)) ∙ l .loop .inv .2)
+    ap faultOf (sym (first-range-here (isUnknown s) (l .loop .c) (size s) h (ap (leb 18) (sym (c .before .before .number-at2 .ensures)) ∙ sym (c .before .is-unknown .ensures) ∙ c .if1 .taken)) ∙ l .loop .inv .2)
 
 add-c : tie.Need-add-c Inv-loop μ-loop
 add-c c = search needs
@@ -58,7 +58,7 @@ loop-again c =
     let s = l .before .before .before .args .selection .now in
     let e = l .before .number-at .ensures in
     let h : l .loop .c ≤ size s = omega (arith, e) in
-    (omega arith, omega arith, sym (first-range-later (isUnknown s) (l .loop .c) (size s) h (ap (leb 16) (sym (c .before .before .number-at2 .ensures)) ∙ sym (c .before .is-unknown .ensures) ∙ c .if1 .left)) ∙ l .loop .inv .2)
+    (omega arith, omega arith, sym (first-range-later (isUnknown s) (l .loop .c) (size s) h (ap (leb 18) (sym (c .before .before .number-at2 .ensures)) ∙ sym (c .before .is-unknown .ensures) ∙ c .if1 .left)) ∙ l .loop .inv .2)
 
 returns-2 : tie.Need-returns-2 Inv-loop μ-loop
 returns-2 c =

@@ -17,7 +17,7 @@ use Rattle.flat_rules.specs.Answers.{Ready, Answers}
 use Rattle.flat_rules.proofs.AnswersLaws.{answers-as, at-short, count-short, expect-failed, read-further, ready-next, start-short, symbol-no, wrote-none}
 use Rattle.reader.proofs.CallsLaws.{streamIn, is-reached, passed-up, Begins, begins, expect-is, ready-past}
 use Rattle.reader.proofs.LevelsLaws.{Turns, Rows, turns-start, turns-ready, turns-fails, turns-read, rows-ready, row-stop, row-broken, row-step, orLevel, andLevel, mildLevel, orRule, notRule, not-in, not-only}
-use Rattle.reader.proofs.RulesLaws.{wholeRule, whole-fails, whole-is, Negated, negated-is, negated-not, negated-ready, not-fails, not-plain, not-is, primary-words, primary-not, primary-fails, primary-open, primary-closed}
+use Rattle.reader.proofs.RulesLaws.{wholeRule, whole-fails, whole-is, Negated, negated-is, negated-not, negated-ready, not-fails, not-plain, not-is, primary-phrase, primary-not, primary-fails, primary-open, primary-closed}
 use borrow.Author.Needs.{needs}
 use borrow.Fn.Kinds.{In}
 use borrow.Fn.PlainCycle.{Measures, is, falls, and}
@@ -46,7 +46,7 @@ use Rattle.flat_rules.proofs.steps.count_of.Reads as count-of-reads
 use Rattle.flat_rules.proofs.steps.error_at.Reads as error-at-reads
 use Rattle.flat_rules.proofs.steps.is_failed.Reads as is-failed-reads
 use Rattle.flat_rules.proofs.steps.read.Reads as read-reads
-use Rattle.flat_rules.proofs.words.Reads as words-reads
+use Rattle.flat_rules.proofs.phrase.Reads as phrase-reads
 use Rattle.scanner.proofs.end_of.Reads as end-of-reads
 use Rattle.scanner.proofs.symbol_of.Reads as symbol-of-reads
 use Rattle.scanner.proofs.token_at.Reads as token-at-reads
@@ -206,8 +206,8 @@ primary-claims t = (
   symbol-of-reads.Learnt,
   end-of-reads.Asked,
   end-of-reads.Learnt,
-  words-reads.Asked,
-  words-reads.Learnt,
+  phrase-reads.Asked,
+  phrase-reads.Learnt,
   error-at-reads.Asked,
   error-at-reads.Learnt,
   selection-below t,
@@ -563,11 +563,11 @@ primary-quote : (t : ℕ) (c : primary-lts.After-end-of (primary-claims t) (prim
     Begins s-quote (a .text .now) (a .size) (a .at) (c .end-of .result)
 primary-quote t c = begins (c .before .before .before .token-at .ensures) (c .before .before .symbol-of .ensures) (c .end-of .ensures) s-quote (c .before .if1 .taken) refl
 
-primary-words-requires : (t : ℕ) → primary-lts.Need-words-requires (primary-claims t) (primary-at t) primary.Post
-primary-words-requires t c κs = ready-past (primary-quote t (c .before)) (c .before .before .before .before .before .pre .1)
+primary-phrase-requires : (t : ℕ) → primary-lts.Need-phrase-requires (primary-claims t) (primary-at t) primary.Post
+primary-phrase-requires t c κs = ready-past (primary-quote t (c .before)) (c .before .before .before .before .before .pre .1)
 
 primary-returns : (t : ℕ) → primary-lts.Need-returns (primary-claims t) (primary-at t) primary.Post
-primary-returns t c = primary-words _ (primary-quote t (c .before .before)) (c .words .ensures)
+primary-returns t c = primary-phrase _ (primary-quote t (c .before .before)) (c .phrase .ensures)
 
 -- no quote is there
 primary-unquoted : (t : ℕ) (c : primary-lts.Else1 (primary-claims t) (primary-at t) primary.Post) →
@@ -779,7 +779,7 @@ pub +ands+milds+nots+ors+primary+selection-spec : {M : Type 1} → statement M
     (primary-token-at-requires t)
     (primary-symbol-of-requires t)
     (primary-end-of-requires t)
-    (primary-words-requires t)
+    (primary-phrase-requires t)
     (primary-returns t)
     (primary-error-at-requires t)
     (primary-returns-2 t)

@@ -40,6 +40,12 @@ enum-told-4 c = search needs
 takes-requires-3 : tie.Need-takes-requires-3
 takes-requires-3 c κs = search needs
 
+enum-told-5 : tie.Need-enum-told-5
+enum-told-5 c = search needs
+
+takes-requires-4 : tie.Need-takes-requires-4
+takes-requires-4 c κs = search needs
+
 returns-2 : tie.Need-returns-2
 returns-2 c = rw (c .enum-told .given .1)
 
@@ -54,6 +60,9 @@ returns-5 c = rw (c .before .enum-told3 .given .1) (c .takes2 .ensures)
 
 returns-6 : tie.Need-returns-6
 returns-6 c = rw (c .before .enum-told4 .given .1) (c .takes3 .ensures)
+
+returns-7 : tie.Need-returns-7
+returns-7 c = rw (c .before .enum-told5 .given .1) (c .takes4 .ensures)
 
 pub code-fits-spec : {M : Type 1} → statement M
 code-fits-spec =
@@ -71,8 +80,11 @@ code-fits-spec =
     takes-requires-2
     enum-told-4
     takes-requires-3
+    enum-told-5
+    takes-requires-4
     returns-2
     returns-3
     returns-4
     returns-5
-    returns-6)
+    returns-6
+    returns-7)

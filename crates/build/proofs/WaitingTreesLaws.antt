@@ -1,12 +1,14 @@
--- Every phrase of a part, and of the trees that wait while it is built, is a phrase of the selection: its tree is among the selection's parts.
+-- The parts of a part, and of the trees that wait while it is built, are parts of the selection's tree. So their phrases have ranks of the selection, and
+-- every occurs among them stands over a phrase.
 use Prim.Native.Nat.{ℕ, zero, suc, _+_, _-_, _≤_}
 use native.Mathlib.Omega.{arith}
 use mathlib.Core.Path.{_≡_, refl, sym, ap, _∙_, subst}
-use mathlib.Core.Bool.{true}
+use mathlib.Core.Bool.{true, false}
 use mathlib.Core.List.{List, [], _∷_, _++_}
 use lib.ListN.{length, length-append}
 use Rattle.model.specs.Accepted.{AcceptedSelection, maxPhrases}
 use Rattle.model.specs.AllStrings.{EveryPhrase, RankUpTo, RanksUpTo}
+use Rattle.model.specs.Checks.{occursOverOther}
 use Rattle.model.specs.Kinds.{Shape, aWord, aPhrase, aPair, aChange, shapeAt, shapesOf}
 use Rattle.model.specs.Lists.{Every}
 use Rattle.model.specs.Parts.{PartAt, partStart, phrases, phrasesAll, phrasesEnded, postfix, rankAfter, codesOfTrees, stateAt}
@@ -15,7 +17,7 @@ use Rattle.model.specs.Section.{size}
 use Rattle.model.specs.Selection.{upTo}
 use Rattle.model.specs.Trees.{Tree, phrase, pair, change, State, read, readAll, fresh, parts, topTree, treeOf}
 use Rattle.model.proofs.BuildLaws.{built-parts}
-use Rattle.model.proofs.EveryLaws.{every-append}
+use Rattle.model.proofs.EveryLaws.{every-append, every-none}
 use Rattle.model.proofs.PartsLaws.{part-read, part-well}
 use Rattle.model.proofs.SelectionLaws.{upTo-split}
 use Rattle.model.proofs.TreesLaws.{length-phrase, length-pair, readAll-append}
@@ -50,10 +52,10 @@ module _ (Q : Tree → Type 0) where
   every-waiting [] a = tt
   every-waiting (t ∷ ts) a = let b = every-split Q (waitingParts ts) (parts t) a in (every-whole t (b .1), every-waiting ts (b .0))
 
-  every-top : (ts : List Tree) → 1 ≤ length ts → Every Q ts → Q (topTree ts)
-  unfolding Every topTree
+  every-top : (ts : List Tree) → 1 ≤ length ts → Every Q (waitingParts ts) → Every Q (parts (topTree ts))
+  unfolding waitingParts topTree
   every-top [] h a = absurd (omega arith)
-  every-top (t ∷ ts) h a = a .0
+  every-top (t ∷ ts) h a = every-split Q (waitingParts ts) (parts t) a .1
 
 -- ---- a part of a selection, and the trees that wait while it is built
 
@@ -62,33 +64,39 @@ module _ (sel : List ℕ) (a : AcceptedSelection sel) (hi : ℕ) (w : PartAt (sh
   unfolding shapesOf
   part-formed = part-well (shapeAt sel) hi w (size sel) (a .well) up-to
 
-  ranks-part : RanksUpTo maxPhrases (w .tree)
-  unfolding treeOf topTree shapesOf waitingParts codesOfTrees
-  ranks-part =
-      let at = shapeAt sel in
-      let F = upTo at hi in
-      let R = upTo (λ i. at (hi + i)) (size sel - hi) in
-      let s = fresh 1 1 in
-      let codes : shapesOf sel ≡ F ++ R = upTo-split at hi (size sel) up-to in
-      let f = fitsAll-split F R 0 0 (ap (λ (l : List Shape). fitsAll l 0 0) (sym codes) ∙ formed (shapesOf sel) (a .well) .fit) in
-      let g = steps F s (f .0) in
-      let r = steps R (readAll F s) (rw (g .lists, g .loose) (f .1)) in
-      let P = parsed (shapesOf sel) (a .well) in
-      let whole : waitingParts (readAll (shapesOf sel) s .trees) ≡ parts (treeOf sel) = ap waitingParts (P .alone) ∙ ap parts (sym (ap topTree (P .alone))) in
-      let is : parts (treeOf sel) ≡ waitingParts (readAll F s .trees) ++ r .newer =
-      sym whole ∙ ap (λ (l : List Shape). waitingParts (readAll l s .trees)) codes ∙ ap (λ (z : State). waitingParts (z .trees)) (readAll-append F R s) ∙ r .adds in
-      let every = subst (Every (RanksUpTo maxPhrases)) is (every-parts (RankUpTo maxPhrases) (treeOf sel) (a .ranks)) in
-      let lists = ap (λ (l : List Shape). listsAll l 0) (w .spells) ∙ listsAll-append (codesOfTrees (w .below)) (postfix (w .tree)) 0 ∙ part-lists (w .tree) (listsAll (codesOfTrees (w .below)) 0) in
-      let some : 1 ≤ length (readAll F s .trees) = omega (arith, g .lists, lists) in
-      let waiting = every-waiting (RanksUpTo maxPhrases) (readAll F s .trees) (every-split (RanksUpTo maxPhrases) (waitingParts (readAll F s .trees)) (r .newer) every .0) in
-      subst (RanksUpTo maxPhrases) (part-read at hi w) (every-top (RanksUpTo maxPhrases) (readAll F s .trees) some waiting)
+  module _ (Q : Tree → Type 0) (whole : Every Q (parts (treeOf sel))) where
+    every-part : Every Q (parts (w .tree))
+    unfolding treeOf topTree shapesOf waitingParts codesOfTrees
+    every-part =
+        let at = shapeAt sel in
+        let F = upTo at hi in
+        let R = upTo (λ i. at (hi + i)) (size sel - hi) in
+        let s = fresh 1 1 in
+        let codes : shapesOf sel ≡ F ++ R = upTo-split at hi (size sel) up-to in
+        let f = fitsAll-split F R 0 0 (ap (λ (l : List Shape). fitsAll l 0 0) (sym codes) ∙ formed (shapesOf sel) (a .well) .fit) in
+        let g = steps F s (f .0) in
+        let r = steps R (readAll F s) (rw (g .lists, g .loose) (f .1)) in
+        let P = parsed (shapesOf sel) (a .well) in
+        let all : waitingParts (readAll (shapesOf sel) s .trees) ≡ parts (treeOf sel) = ap waitingParts (P .alone) ∙ ap parts (sym (ap topTree (P .alone))) in
+        let is : parts (treeOf sel) ≡ waitingParts (readAll F s .trees) ++ r .newer =
+        sym all ∙ ap (λ (l : List Shape). waitingParts (readAll l s .trees)) codes ∙ ap (λ (z : State). waitingParts (z .trees)) (readAll-append F R s) ∙ r .adds in
+        let lists = ap (λ (l : List Shape). listsAll l 0) (w .spells) ∙ listsAll-append (codesOfTrees (w .below)) (postfix (w .tree)) 0 ∙ part-lists (w .tree) (listsAll (codesOfTrees (w .below)) 0) in
+        let some : 1 ≤ length (readAll F s .trees) = omega (arith, g .lists, lists) in
+        let waiting = every-split Q (waitingParts (readAll F s .trees)) (r .newer) (subst (Every Q) is whole) .0 in
+        subst (λ (t : Tree). Every Q (parts t)) (part-read at hi w) (every-top Q (readAll F s .trees) some waiting)
 
-  pub ranks-state : (lo : ℕ) → lo ≡ partStart (shapeAt sel) hi → (n : ℕ) → n ≤ hi - lo → Every (RanksUpTo maxPhrases) (stateAt (shapeAt sel) lo (rankAfter (w .below)) n .trees)
-  ranks-state lo e n h =
-      let b = built-parts (shapeAt sel) hi lo w e part-formed n h in
-      let ts = stateAt (shapeAt sel) lo (rankAfter (w .below)) n .trees in
-      let every = subst (Every (RanksUpTo maxPhrases)) (b .1) (every-parts (RankUpTo maxPhrases) (w .tree) ranks-part) in
-      every-waiting (RanksUpTo maxPhrases) ts (every-split (RanksUpTo maxPhrases) (waitingParts ts) (b .0) every .0)
+    every-state : (lo : ℕ) → lo ≡ partStart (shapeAt sel) hi → (n : ℕ) → n ≤ hi - lo → Every Q (stateAt (shapeAt sel) lo (rankAfter (w .below)) n .trees)
+    every-state lo e n h =
+        let b = built-parts (shapeAt sel) hi lo w e part-formed n h in
+        let ts = stateAt (shapeAt sel) lo (rankAfter (w .below)) n .trees in
+        every-waiting Q ts (every-split Q (waitingParts ts) (b .0) (subst (Every Q) (b .1) every-part) .0)
+
+  module _ (lo : ℕ) (e : lo ≡ partStart (shapeAt sel) hi) (n : ℕ) (h : n ≤ hi - lo) where
+    pub ranks-state : Every (RanksUpTo maxPhrases) (stateAt (shapeAt sel) lo (rankAfter (w .below)) n .trees)
+    ranks-state = every-state (RanksUpTo maxPhrases) (every-parts (RankUpTo maxPhrases) (treeOf sel) (a .ranks)) lo e n h
+
+    pub phrases-state : Every (λ t. occursOverOther t ≡ false) (stateAt (shapeAt sel) lo (rankAfter (w .below)) n .trees)
+    phrases-state = every-state (λ t. occursOverOther t ≡ false) (every-none occursOverOther (parts (treeOf sel)) (a .over-phrases)) lo e n h
 
 -- ---- how high ranks go
 

@@ -1,0 +1,10 @@
+pub mod BinomialLaws
+pub mod FindsLaws
+pub mod CountsLaws
+pub mod WithNotLaws
+pub mod FromToLaws
+pub mod IncludesLaws
+pub mod ExcludesLaws
+pub mod JoinedLaws
+pub mod ChoicesLaws
+pub mod OutcomeLaws

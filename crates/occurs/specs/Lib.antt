@@ -1,0 +1,5 @@
+pub mod Finds
+pub mod Binomial
+pub mod WithNot
+pub mod Counts
+pub mod Writing
