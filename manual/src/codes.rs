@@ -19,17 +19,37 @@ impl Code {
     const NOT: u32 = 4;
     const MILD_NOT: u32 = 5;
     pub const WINDOW: u32 = 7;
+    /// From a to b times: a × 65,536 + b.
+    pub const OCCURS: u32 = 16;
+    pub const OCCURS_AT_LEAST: u32 = 17;
 }
 
 /// A phrase of a search; the first is the engine's query position 1.
 #[derive(Clone, Debug, PartialEq, Eq)]
 pub struct Phrase {
-    /// As it stands in the text, with its quotes.
+    /// As it stands in the text, with its quotes and its occurs.
     pub place: Range<usize>,
     /// The selection of this phrase alone.
     pub selection: Vec<u32>,
     /// Does it stand under an odd number of nots, so that what it finds is to be excluded?
     pub is_excluded: bool,
+    pub occurs: Option<Occurs>,
+}
+
+impl Phrase {
+    /// The most finds that its occurs allows. Where there are more, they exclude too.
+    pub fn most(&self) -> Option<usize> {
+        self.occurs.as_ref().and_then(|occurs| occurs.most)
+    }
+}
+
+/// The occurs of a phrase.
+#[derive(Clone, Debug, PartialEq, Eq)]
+pub struct Occurs {
+    /// Its code, counted from 1.
+    pub code: usize,
+    /// The larger of its numbers; `at least` has none.
+    pub most: Option<usize>,
 }
 
 /// The codes of a selection that the reader made of a search.
@@ -51,6 +71,12 @@ pub fn phrases(codes: &[Code]) -> Vec<Phrase> {
                 lists.push(phrases.len());
                 phrases.push(phrase(&codes[index - code.operand as usize..=index]));
             }
+            Code::OCCURS | Code::OCCURS_AT_LEAST => {
+                let most = (code.kind == Code::OCCURS).then_some((code.operand & 0xFFFF) as usize);
+                let phrase = phrases.last_mut().expect("an occurs follows its phrase");
+                phrase.place.end = code.place.end;
+                phrase.occurs = Some(Occurs { code: index + 1, most });
+            }
             Code::OR | Code::AND | Code::MILD_NOT => _ = lists.pop(),
             Code::NOT => {
                 for phrase in &mut phrases[lists[lists.len() - 1]..] {
@@ -71,10 +97,12 @@ fn phrase(codes: &[Code]) -> Phrase {
         place: codes[codes.len() - 1].place.clone(),
         selection: std::iter::once(codes.len() as u32).chain(kinds).chain(operands).collect(),
         is_excluded: false,
+        occurs: None,
     }
 }
 
-/// The places of codes in their order: they follow the text, but an operator's code comes after its operands'.
+/// The places of codes in their order: they follow the text, but an operator's code comes after its operands'. That of
+/// an occurs comes directly after its phrase's.
 #[derive(Default)]
 struct Places {
     placed: Vec<Range<usize>>,
@@ -127,6 +155,7 @@ fn places(search: &Search) -> Vec<Range<usize>> {
             b"ftnot" => places.waiting.push((FTNOT, place)),
             b"ordered" => places.filter(place),
             b"window" | b"distance" => places.filter(place.start..end(tokens.find(|(token, _)| *token == b"words"))),
+            b"occurs" => places.placed.push(place.start..end(tokens.find(|(token, _)| *token == b"times"))),
             b"same" | b"different" | b"at" | b"entire" => places.filter(place.start..end(tokens.next())),
             b"\"" => {
                 while let Some((_, word)) = tokens.next_if(|(token, _)| *token != b"\"") {

@@ -31,6 +31,9 @@ a word are found. The file is UTF-8.
 SEARCH. It stands in single quotes, so that the shell leaves the double ones.
 Its words are those of XQuery Full Text. A and B are searches:
   "needle bed"               one to eight words in double quotes, side by side
+  "bolt" occurs at least N times
+                             so many finds of the phrase; also: exactly N,
+                             at most N, from N to N
   ftnot A                    without A
   A not in B                 A where it isn't part of B
   A ftand B                  both
@@ -51,6 +54,15 @@ Filters work from left to right. A window or a distance makes one find of
 several: after it 'ordered' always holds and 'different ..' never, so they stand
 before it.
 
+'occurs' counts the finds of the phrase just before it. Each choice of so many
+finds is a match, and many finds have too many choices. Up to seven in a section
+'at least N' is answered; beyond that only if N is nearly their number, or more.
+A larger number first helps: up to ten finds are answered by
+  "bolt" occurs at least 8 times ftor "bolt" occurs at least 3 times
+Finds beyond what 'exactly', 'at most' or 'from N to N' allow exclude, and two
+too many aren't answered. 'At most 2' of up to seven finds are asked by
+  ftnot "bolt" occurs at least 3 times
+
 A section says yes if it has a match that nothing excludes. In 'A ftand ftnot B'
 every B of the section excludes; after it a filter leaves only what lies in the
 same sentence, in order, within its words, and so on. So a filter may turn a no
@@ -62,6 +74,7 @@ excluded: it decides.
 
 examples:
   manual search manual.md '"needle bed" ftand "oil"'
+  manual search manual.md '"bolt" occurs at least 3 times'
   manual search manual.md '"cam" ftand ftnot "cover" same sentence'
   manual search manual.md '"cam" ftand ftnot "cover" distance at most 4 words'
   manual search --all manual.md '("yarn" ftand "break" ordered) ftor "E12"'

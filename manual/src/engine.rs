@@ -47,6 +47,12 @@ pub struct Str {
     pub contiguous: bool,
 }
 
+impl Str {
+    pub fn covers(&self, other: &Str) -> bool {
+        self.start <= other.start && other.end <= self.end
+    }
+}
+
 #[derive(Clone, Debug, Default, PartialEq, Eq)]
 pub struct Match {
     pub includes: Vec<Str>,

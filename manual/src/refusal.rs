@@ -24,27 +24,38 @@ pub fn of_text(refusal: Refusal, search: &Search) -> Explained {
             "the search is too long: with a number for each word it has over 2,048 bytes".to_string()
         }
         (Refusal::TOO_MANY_CODES, _) => {
-            "the search is too long: words, phrases, operators and filters, each counted, are more than 64".to_string()
+            "the search is too long: words, phrases, 'occurs', operators and filters, each counted, are more than 64"
+                .to_string()
         }
         _ => unexpected(refusal),
     };
     Explained { refusal, what, place }
 }
 
-/// A refusal at one of the search's codes.
-pub fn of_code(refusal: Refusal, codes: &[Code]) -> Explained {
+/// A refusal at one of the search's codes; at an occurs, in a section with so many finds of its phrase.
+pub fn of_code(refusal: Refusal, codes: &[Code], finds: Option<usize>) -> Explained {
     let code = refusal.place.checked_sub(1).and_then(|index| codes.get(index));
     let what = match (refusal.number, code.map(|code| code.kind)) {
         (Refusal::OPERAND, Some(Code::WINDOW)) => "a window has 1 to 4,096 words".to_string(),
+        (Refusal::OPERAND, Some(Code::OCCURS | Code::OCCURS_AT_LEAST)) => {
+            "a phrase occurs 0 to 4,095 times, from the smaller number to the larger".to_string()
+        }
         (Refusal::OPERAND, _) => "a distance is 0 to 4,095 words, from the smaller number to the larger".to_string(),
         (Refusal::WAITING, _) => {
             "too deep to the right: with this phrase more than eight wait for their operator".to_string()
         }
-        (Refusal::NOT_UNDER_MILD_NOT, _) => "an 'ftnot' can't stand on either side of 'not in'".to_string(),
-        (Refusal::TOO_LONG, _) => "too many matches: over 256, or over 512 finds in them".to_string(),
+        (Refusal::NOT_UNDER_MILD_NOT, _) => {
+            "an 'ftnot', or an 'occurs' other than 'at least', can't stand on either side of 'not in'".to_string()
+        }
+        (Refusal::TOO_LONG, _) => too_long(finds),
         _ => unexpected(refusal),
     };
     Explained { refusal, what, place: code.map(|code| code.place.clone()) }
+}
+
+fn too_long(finds: Option<usize>) -> String {
+    let what = finds.map_or("matches".to_string(), |finds| format!("choices among {finds} finds"));
+    format!("too many {what}: over 256, or over 512 finds in them")
 }
 
 fn unexpected(refusal: Refusal) -> String {
@@ -69,10 +80,24 @@ fn not_allowed(search: &Search, place: &Range<usize>) -> String {
     if count(&before, "\"") % 2 == 1 {
         return in_phrase(&search.text[place.clone()]).to_string();
     }
+    if lacks_occurs(&before, rest) {
+        return "'occurs' has to stand between a phrase and its number of times".to_string();
+    }
     match awaited(&before) {
         Some(awaited) => format!("{awaited} has to stand here"),
         None => misplaced(search, place, &before),
     }
+}
+
+/// Does a phrase go on with a number of times?
+fn lacks_occurs(before: &[&str], rest: &str) -> bool {
+    let is_of_range = |word: &&str| WORDS_OF_RANGES.contains(word) || is_number(word);
+    let next = rest.split_whitespace().find(|word| !is_of_range(word)).map(first_word);
+    matches!(before, [.., "\""] | [.., "\"", "at"]) && matches!(next, Some("times" | "time"))
+}
+
+fn is_number(token: &str) -> bool {
+    token.starts_with(|c: char| c.is_ascii_digit())
 }
 
 fn in_phrase(token: &str) -> &'static str {
@@ -87,7 +112,7 @@ fn in_phrase(token: &str) -> &'static str {
 fn misplaced(search: &Search, place: &Range<usize>, before: &[&str]) -> String {
     let (token, rest) = (&search.text[place.clone()], &search.text[place.start..]);
     let last = before.last().copied().unwrap_or("");
-    let after_operand = last == "\"" || last == ")";
+    let after_operand = ["\"", ")", "times"].contains(&last);
     let after_filter = ENDS_OF_FILTERS.contains(&last);
     let next = first_word(rest[token.len()..].trim_start());
     let what = match token {
@@ -102,6 +127,9 @@ fn misplaced(search: &Search, place: &Range<usize>, before: &[&str]) -> String {
         "ftnot" if after_operand && next == "in" => "'ftnot in' can't stand here; is it 'not in'?",
         "ftnot" if after_operand => "'ftand ftnot' has to join two searches",
         "not" => "'not' can't stand here; is it 'ftnot'?",
+        "occurs" if last == "times" => "a phrase has one 'occurs'; for two numbers there is 'from .. to'",
+        "occurs" => OCCURS,
+        "and" if next == "occurs" => OCCURS,
         "and" if BEGINNINGS_OF_FILTERS.contains(&next) => "a filter follows as it is, without 'and'",
         _ if BEGINNINGS_OF_FILTERS.contains(&token) && last == "ftand" => "a filter follows as it is, without 'ftand'",
         _ if token.trim().is_empty() => "outside quotes only blanks part words",
@@ -153,13 +181,12 @@ fn count(tokens: &[&str], token: &str) -> usize {
 
 /// What alone can follow some tokens, if that is a word or a number.
 fn awaited(before: &[&str]) -> Option<&'static str> {
-    let is_number = |token: &str| token.starts_with(|c: char| c.is_ascii_digit());
     match before {
         [.., "window" | "exactly" | "least" | "most" | "from" | "to"] => Some("a number"),
         [.., "from", number] if is_number(number) => Some("'to'"),
-        [.., number] if is_number(number) => Some("'words'"),
-        [.., "distance"] => Some("'exactly', 'at least', 'at most' or 'from'"),
-        [.., "distance", "at"] => Some("'least' or 'most'"),
+        [.., number] if is_number(number) => Some(counted(before)),
+        [.., "distance" | "occurs"] => Some("'exactly', 'at least', 'at most' or 'from'"),
+        [.., "distance" | "occurs", "at"] => Some("'least' or 'most'"),
         [.., "at"] => Some("'start' or 'end'"),
         [.., "same" | "different"] => Some("'sentence' or 'paragraph'"),
         [.., "entire"] => Some("'content'"),
@@ -168,13 +195,23 @@ fn awaited(before: &[&str]) -> Option<&'static str> {
     }
 }
 
+/// What the last number counts: it is that of an occurs, or of a window or a distance.
+fn counted(before: &[&str]) -> &'static str {
+    match before.iter().rfind(|token| ["occurs", "window", "distance"].contains(token)) {
+        Some(&"occurs") => "'times'",
+        _ => "'words'",
+    }
+}
+
 /// The words of the language, as `docs/REFERENCE.md` has them.
-const KEYWORDS: [&str; 23] = [
+const KEYWORDS: [&str; 25] = [
     "ftor",
     "ftand",
     "not",
     "in",
     "ftnot",
+    "occurs",
+    "times",
     "ordered",
     "window",
     "words",
@@ -200,5 +237,8 @@ const OTHER_QUOTES: [char; 10] =
 
 const JOINS: &str = "'ftand', 'ftor' or 'not in' joins two searches, and a filter follows as it is";
 
+const OCCURS: &str = "'occurs' counts the finds of one phrase, and stands directly after its quote";
+
+const WORDS_OF_RANGES: [&str; 6] = ["exactly", "at", "least", "most", "from", "to"];
 const BEGINNINGS_OF_FILTERS: [&str; 7] = ["ordered", "window", "distance", "same", "different", "at", "entire"];
 const ENDS_OF_FILTERS: [&str; 7] = ["ordered", "words", "sentence", "paragraph", "start", "end", "content"];

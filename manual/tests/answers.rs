@@ -182,6 +182,51 @@ fn ftand_binds_more_than_ftor() {
     yes(r#"("yarn" ftand "break" distance at most 3 words) ftor "E12""#, &[9, 16, 22, 33, 40, 42]);
 }
 
+#[test]
+fn a_phrase_so_many_times() {
+    yes(r#""bolt" occurs at least 3 times"#, &[34, 41]);
+    yes(r#""bolt" occurs exactly 2 times"#, &[32]);
+    yes(r#""oil" occurs from 2 to 4 times"#, &[14, 27, 28]);
+    yes(r#""cover" occurs at most 2 times"#, &all_but(&[7, 19, 29, 34]));
+    yes(r#""needle bed" occurs at least 3 times"#, &[7, 29]);
+    // as often as can be asked, and never
+    yes(r#""bolt" occurs at least 4095 times"#, &[]);
+    yes(r#""gloves" occurs exactly 0 times"#, &all_but(&[29]));
+    yes(r#""gloves" occurs at least 0 times"#, &all_but(&[]));
+}
+
+#[test]
+fn an_occurs_belongs_to_the_phrase_before_it() {
+    yes(r#""cam" ftand "bolt" occurs at least 2 times"#, &[32, 34, 41]);
+    yes(r#""cam" occurs at least 2 times ftand "bolt""#, &[30, 32, 41]);
+    yes(r#""cam" occurs at least 2 times ftand "bolt" occurs exactly 3 times"#, &[41]);
+    yes(r#""e40" ftor "bolt" occurs at least 3 times"#, &[21, 34, 41, 42]);
+}
+
+#[test]
+fn an_occurs_under_ftnot() {
+    // 30 and 41 have one 'cover', 32 has none, the others two or three
+    yes(r#""cam" ftand ftnot "cover" occurs at least 2 times"#, &[30, 32, 41]);
+    yes(r#""cam" ftand ftnot "cover" occurs exactly 3 times"#, &[30, 32, 37, 39, 41]);
+    // 34 has one 'cam'
+    yes(r#""cam" ftand ftnot "cam" occurs at least 2 times"#, &[34]);
+    yes(r#"ftnot "cover" occurs at least 3 times"#, &all_but(&[7, 19, 29, 34]));
+}
+
+#[test]
+fn filters_over_an_occurs() {
+    yes(r#""cam" occurs at least 2 times same sentence"#, &[30]);
+    yes(r#""cam" occurs at least 2 times same paragraph"#, &[30, 41]);
+    yes(r#""cam" occurs at least 3 times different sentence"#, &[32, 41]);
+    // seven words lie between the two in 30
+    yes(r#""cam" occurs at least 2 times window 9 words"#, &[30]);
+    yes(r#""cam" occurs at least 2 times window 8 words"#, &[]);
+    yes(r#""bulletin" occurs at least 2 times at start"#, &(28..=41).collect::<Vec<i64>>());
+    // 'the bed' covers one of the four in 7; what is covered wholly is dropped
+    yes(r#""bed" occurs at least 4 times not in "the bed""#, &[7]);
+    yes(r#""bed" occurs at least 4 times not in "bed" occurs at least 4 times"#, &[]);
+}
+
 // From a text to sections, paragraphs, sentences and words
 
 /// The headings of a manual's sections with their lines; every section says yes to this search.
@@ -577,6 +622,146 @@ fn a_caret_ends_with_its_line() {
     assert!(ran.out().contains(&wanted), "{ran:?}");
 }
 
+/// Sections with one 'cam', with two, and with none.
+fn twice() -> &'static str {
+    file("twice.md", "# Once\n\nThe cam is hot.\n\n# Twice\n\nThe cam is hot. Lift\nthe cam.\n\n# Never\n\nLift it.\n")
+}
+
+#[test]
+fn every_choice_of_finds_is_a_match() {
+    let wanted = r#"Section 1, line 1: Once
+  Match 1: "cam" in line 3, not excluded.
+      3: The [cam] is hot.
+  Match 1 of 1 decides: "cam" in line 3.
+
+Section 2, line 5: Twice
+  Match 1: "cam" in line 7, not excluded.
+      7: The [cam] is hot.
+  Match 2: "cam" in line 8, not excluded.
+      7: Lift the [cam].
+  Match 3: "cam" in line 7 and "cam" in line 8, not excluded.
+      7: The [cam] is hot.
+      7: Lift the [cam].
+  Match 1 of 3 decides: "cam" in line 7.
+
+2 of 3 sections say yes.
+"#;
+    gives(&["search", "--all", twice(), r#""cam" occurs at least 1 times"#], wanted, 0);
+    gives(&["search", "--all", twice(), r#""cam" occurs from 1 to 2 times"#], wanted, 0);
+    // shown together
+    let wanted = r#"Section 31, line 290: Bulletin 4: grease for hot rooms
+    290: Bulletin 4: [grease] for hot rooms
+    292: The standard [grease] becomes thin, leaves the racking spindle dry and leads to fault E21 in long patterns.
+    296: Wash the spindle with spirit and dry it, because two kinds of [grease] must not be mixed.
+    296: Then apply high-temperature [grease] with part number 52330, and move the back bed ten times from end to end.
+  Match 1 of 5 decides: "grease" in line 290 and "grease" in line 293 and "grease" in line 296.
+
+1 of 43 sections says yes.
+"#;
+    gives(&["search", EXAMPLE, r#""grease" occurs at least 3 times"#], wanted, 0);
+}
+
+#[test]
+fn a_choice_may_need_no_words() {
+    let wanted = r#"Section 1, line 1: Once
+      3: The [cam] is hot.
+  Match 1 of 2 decides: no word has to be found.
+
+Section 3, line 10: Never
+  Match 1 of 1 decides: no word has to be found.
+
+2 of 3 sections say yes.
+"#;
+    gives(&["search", twice(), r#""cam" occurs at most 1 times"#], wanted, 0);
+}
+
+#[test]
+fn finds_beyond_the_larger_number_exclude() {
+    let wanted = r#"Section 1, line 1: Once
+  Match 1: "cam" in line 3, not excluded.
+      3: The [cam] is hot.
+  Match 1 of 1 decides: "cam" in line 3.
+
+Section 2, line 5: Twice
+  Match 1: "cam" in line 7, excluded by "cam" in line 7.
+      7: The [cam] is hot.
+  Match 2: "cam" in line 7, excluded by "cam" in line 8.
+      7: The [cam] is hot.
+      7: Lift the {cam}.
+  Match 3: "cam" in line 8, excluded by "cam" in line 7.
+      7: The {cam} is hot.
+      7: Lift the [cam].
+  Match 4: "cam" in line 8, excluded by "cam" in line 8.
+      7: Lift the [cam].
+  Match 5: "cam" in line 7 and "cam" in line 8, excluded by "cam" in line 7.
+      7: The [cam] is hot.
+      7: Lift the [cam].
+  Match 6: "cam" in line 7 and "cam" in line 8, excluded by "cam" in line 8.
+      7: The [cam] is hot.
+      7: Lift the [cam].
+  No: every match is excluded.
+
+1 of 3 sections says yes.
+"#;
+    gives(&["search", "--all", twice(), r#""cam" occurs exactly 1 times"#], wanted, 0);
+}
+
+/// As it takes away other excludes.
+#[test]
+fn a_filter_takes_away_finds_beyond_the_larger_number() {
+    let wanted = r#"Section 1, line 1: Once
+      3: The [cam] is hot.
+  Match 1 of 1 decides: "cam" in line 3.
+
+Section 2, line 5: Twice
+      7: The [cam] is hot.
+      7: Lift the [cam].
+  Match 2 of 4 decides: "cam" in line 7, not excluded by "cam" occurs exactly 1 times (line 8).
+
+2 of 3 sections say yes.
+"#;
+    gives(&["search", twice(), r#""cam" occurs exactly 1 times same sentence"#], wanted, 0);
+    // the find in line 7 is part of the one include
+    let joined = r#"Section 2, line 5: Twice
+      7: The [cam is hot].
+  Match 2 of 2 decides: "cam is hot" in line 7, not excluded by "cam" occurs exactly 1 times (line 8).
+"#;
+    let ran = search(twice(), r#""hot" ftand "cam" occurs exactly 1 times window 3 words"#);
+    assert!(ran.out().contains(joined), "{ran:?}");
+    // the match never had these excludes
+    let ran = search(twice(), r#""hot" ftor "cam" occurs exactly 1 times"#);
+    for decides in [
+        r#"Match 1 of 2 decides: "hot" in line 3."#,
+        r#"Match 1 of 7 decides: "hot" in line 7, not excluded by "cam" occurs exactly 1 times (lines 7, 8)."#,
+    ] {
+        assert!(ran.out().contains(decides), "{decides}\n{ran:?}");
+    }
+}
+
+#[test]
+fn finds_that_are_too_few_to_exclude_are_named() {
+    let wanted = r#"Section 1, line 1: Once
+      3: The [cam] is hot.
+  Match 1 of 1 decides: "cam" in line 3, not excluded by "cam" occurs at least 2 times (line 3).
+
+1 of 3 sections says yes.
+"#;
+    gives(&["search", twice(), r#""cam" ftand ftnot "cam" occurs at least 2 times"#], wanted, 0);
+    let wanted = r#"Section 1, line 1: Once
+  Match 1 of 1 decides: no word has to be found, not excluded by "cam" occurs exactly 2 times (line 3).
+
+Section 3, line 10: Never
+  Match 1 of 1 decides: no word has to be found, not excluded by "cam" occurs exactly 2 times (not in this section).
+
+2 of 3 sections say yes.
+"#;
+    gives(&["search", twice(), r#"ftnot "cam" occurs exactly 2 times"#], wanted, 0);
+    // every find is included
+    let included = r#"Match 2 of 2 decides: "cam" in line 3 and "cam" in line 3."#;
+    let ran = search(twice(), r#"ftnot "cam" occurs exactly 0 times"#);
+    assert!(ran.out().contains(included), "{ran:?}");
+}
+
 #[test]
 fn quiet_gives_nothing_but_the_status() {
     gives(&["search", "--quiet", small(), r#""cam""#], "", 0);
@@ -649,6 +834,74 @@ Section 2, line 5: Few
     gives(&["search", "--quiet", many(), search], "", 2);
 }
 
+/// Sections in which 'w' stands not at all, once, and so on up to fourteen times.
+fn counted() -> &'static str {
+    let section = |count: usize| format!("# Section\n\n{}\n\n", vec!["w"; count].join(" x "));
+    file("counted.md", (0..=14).map(section).collect::<String>())
+}
+
+/// How often 'w' stands in the sections that say yes, and in those that aren't answered.
+fn counts(search: &str) -> (Vec<i64>, Vec<i64>) {
+    let object = object(counted(), search);
+    let counts = |answer| answered(&object, answer).into_iter().map(|section| section - 1).collect();
+    (counts("yes"), counts("refused"))
+}
+
+/// Are the choices of so many finds or more among `count` at most 256, with at most 512 finds in them?
+fn can_be_listed(count: i64, least: i64) -> bool {
+    let choices = |chosen: i64| (0..chosen).fold(1, |product, index| product * (count - index) / (index + 1));
+    let sizes = || (least..=count).map(choices);
+    sizes().sum::<i64>() <= 256 && sizes().zip(least..).map(|(choices, chosen)| choices * chosen).sum::<i64>() <= 512
+}
+
+#[test]
+fn up_to_seven_finds_are_never_too_many_for_at_least() {
+    for least in 0..=15 {
+        let wanted: (Vec<i64>, Vec<i64>) = (least..=14).partition(|&count| can_be_listed(count, least));
+        assert!(wanted.1.iter().all(|&count| count > 7 && count > least), "{least}");
+        assert_eq!(counts(&format!(r#""w" occurs at least {least} times"#)), wanted, "{least}");
+    }
+}
+
+/// An `ftor` asks its right side only after a no.
+#[test]
+fn a_larger_number_first_answers_more() {
+    let range = |from: i64, to: i64| (from..=to).collect::<Vec<i64>>();
+    assert_eq!(counts(r#""w" occurs at least 1 times"#), (range(1, 7), range(8, 14)));
+    assert_eq!(counts(r#""w""#), (range(1, 14), vec![]));
+    assert_eq!(counts(r#""w" occurs at least 3 times"#), (range(3, 7), range(8, 14)));
+    let two = r#""w" occurs at least 8 times ftor "w" occurs at least 3 times"#;
+    assert_eq!(counts(two), (range(3, 10), range(11, 14)));
+    assert_eq!(counts(&format!(r#""w" occurs at least 11 times ftor {two}"#)), (range(3, 12), range(13, 14)));
+    let ran = search(counted(), two);
+    let listed = r#"Yes, but its matches can't be listed: too many choices among 9 finds: over 256, or over 512 finds in them (refusal 9)
+    "w" occurs at least 8 times ftor "w" occurs at least 3 times
+                                         ^~~~~~~~~~~~~~~~~~~~~~~
+"#;
+    assert!(ran.out().contains(listed), "{ran:?}");
+}
+
+#[test]
+fn finds_beyond_the_larger_number_are_better_asked_by_ftnot() {
+    let range = |from: i64, to: i64| (from..=to).collect::<Vec<i64>>();
+    assert_eq!(counts(r#""w" occurs at most 2 times"#), (range(0, 2), range(4, 14)));
+    assert_eq!(counts(r#"ftnot "w" occurs at least 3 times"#), (range(0, 2), range(8, 14)));
+    assert_eq!(counts(r#""w" occurs exactly 1 times"#), (range(1, 1), range(3, 14)));
+    assert_eq!(counts(r#""w" ftand ftnot "w" occurs at least 2 times"#), (range(1, 1), range(8, 14)));
+    assert_eq!(counts(r#""w" occurs exactly 2 times"#), (range(2, 2), range(4, 14)));
+    let two = r#""w" occurs at least 2 times ftand ftnot "w" occurs at least 3 times"#;
+    assert_eq!(counts(two), (range(2, 2), range(8, 14)));
+    assert_eq!(counts(r#""w" occurs from 2 to 3 times"#), (range(2, 3), range(5, 14)));
+    let two = r#""w" occurs at least 2 times ftand ftnot "w" occurs at least 4 times"#;
+    assert_eq!(counts(two), (range(2, 3), range(8, 14)));
+    // two too many aren't answered, unless none are allowed
+    assert_eq!(counts(r#""w" occurs at most 0 times"#), (range(0, 0), range(3, 14)));
+    for (most, least) in (1..=12).flat_map(|most| (0..=most).map(move |least| (most, least))) {
+        let (_, refused) = counts(&format!(r#""w" occurs from {least} to {most} times"#));
+        assert!(refused.ends_with(&range(most + 2, 14)), "from {least} to {most}: {refused:?}");
+    }
+}
+
 // JSON
 
 /// A search of the small manual prints this object.
@@ -682,6 +935,40 @@ fn json_of_a_find_that_is_not_contiguous() {
         }]
     }"#;
     prints_object(small(), r#""raising" ftand "bolt" ftand ftnot "cover" window 5 words"#, wanted);
+}
+
+#[test]
+fn json_of_finds_beyond_the_larger_number() {
+    let wanted = r#"{
+        "search": "\"lift\" ftand ftnot \"once\" occurs at least 1 times ftand \"cam\"  occurs exactly 1 times same sentence",
+        "unknown_words": [],
+        "sections_asked": 3,
+        "split": [],
+        "sections": [{
+            "section": 2, "heading": "Twice", "part": 1, "parts": 1, "line": 5, "answer": "yes",
+            "matches": [{
+                "includes": [
+                    {"phrase": 1, "start": 6, "end": 6, "contiguous": true, "line": 7, "text": "Lift"},
+                    {"phrase": 3, "start": 8, "end": 8, "contiguous": true, "line": 8, "text": "cam"}
+                ],
+                "excludes": []
+            }, {
+                "includes": [
+                    {"phrase": 1, "start": 6, "end": 6, "contiguous": true, "line": 7, "text": "Lift"},
+                    {"phrase": 3, "start": 8, "end": 8, "contiguous": true, "line": 8, "text": "cam"}
+                ],
+                "excludes": [{"phrase": 3, "start": 8, "end": 8, "contiguous": true, "line": 8, "text": "cam"}]
+            }],
+            "deciding": 1,
+            "not_excluded": [{"phrase": 2, "typed": "\"once\" occurs at least 1 times", "finds": []}, {
+                "phrase": 3, "typed": "\"cam\"  occurs exactly 1 times",
+                "finds": [{"phrase": 3, "start": 3, "end": 3, "contiguous": true, "line": 7, "text": "cam"}]
+            }]
+        }]
+    }"#;
+    let search =
+        r#""lift" ftand ftnot "once" occurs at least 1 times ftand "cam"  occurs exactly 1 times same sentence"#;
+    prints_object(twice(), search, wanted);
 }
 
 #[test]
@@ -800,6 +1087,10 @@ fn encode_writes_the_search_after_the_section() {
     // bolt, phrase, the, bolts, phrase, not, and, window
     let codes = [8, 0, 1, 0, 0, 1, 4, 3, 7, 5, 1, 18, 6, 2, 0, 0, 3];
     let search = r#""bolt" ftand ftnot "The Bolts" window 3 words"#;
+    assert_eq!(encoded(&[small(), "3", search]), [&section[..], &codes].concat());
+    // bolt, phrase, occurs from 2 to 3, bolts, phrase, occurs at least 1, not, or
+    let codes = [8, 0, 1, 16, 0, 1, 17, 4, 2, 5, 1, 0x2_0003, 6, 1, 1, 0, 0];
+    let search = r#""bolt" occurs from 2 to 3 times ftor ftnot "bolts" occurs at least 1 times"#;
     assert_eq!(encoded(&[small(), "3", search]), [&section[..], &codes].concat());
 }
 
@@ -950,7 +1241,8 @@ fn help_names_every_command_option_and_filter() {
     let filters =
         ["same sentence", "same paragraph", "different sentence", "different paragraph", "ordered", "window N"];
     let more = ["distance", "exactly", "at least", "at most", "from N to N", "at start", "at end", "entire content"];
-    for name in operators.iter().chain(&filters).chain(&more) {
+    let occurs = ["occurs at least N times"];
+    for name in operators.iter().chain(&filters).chain(&more).chain(&occurs) {
         assert!(help.contains(name), "{name}\n{help}");
     }
     for status in
@@ -969,6 +1261,11 @@ fn the_searches_of_the_help_text_are_read() {
     let (_, after) = help.split_once("\nexamples:\n").expect("examples");
     let examples: Vec<&str> = after.lines().take_while(|line| line.starts_with("  manual ")).collect();
     assert!(examples.len() >= 5, "{examples:?}");
+    let of_occurs: Vec<&str> = help.lines().filter(|line| line.ends_with(" occurs at least 3 times")).collect();
+    assert_eq!(of_occurs.len(), 2);
+    for line in of_occurs {
+        gives(&["search", "--quiet", EXAMPLE, line], "", 0);
+    }
     for example in examples {
         let typed = example.split('\'').nth(1).unwrap();
         let ran = search(EXAMPLE, typed);

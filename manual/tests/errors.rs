@@ -447,6 +447,14 @@ a number here is at most 4,096 (refusal 11)
 a number here is at most 4,096 (refusal 11)
   "hällmann" distance from 1 to 5000 and
                                 ^~~~
+
+a number here is at most 4,096 (refusal 11)
+  "cam" occurs at least 4097 times
+                        ^~~~
+
+a number here is at most 4,096 (refusal 11)
+  "hällmann" occurs from 1 to 5000 words
+                              ^~~~
 "#,
     );
 }
@@ -475,18 +483,64 @@ a window has 1 to 4,096 words (refusal 5)
 }
 
 #[test]
+fn an_occurs_that_no_phrase_can_have() {
+    all_refused(
+        r#"
+a phrase occurs 0 to 4,095 times, from the smaller number to the larger (refusal 5)
+  "cam" occurs from 3 to 2 times
+        ^~~~~~~~~~~~~~~~~~~~~~~~
+
+a phrase occurs 0 to 4,095 times, from the smaller number to the larger (refusal 5)
+  "cam" occurs at least 4096 times
+        ^~~~~~~~~~~~~~~~~~~~~~~~~~
+
+a phrase occurs 0 to 4,095 times, from the smaller number to the larger (refusal 5)
+  "cam" occurs from 1 to 4096 times
+        ^~~~~~~~~~~~~~~~~~~~~~~~~~~
+
+a phrase occurs 0 to 4,095 times, from the smaller number to the larger (refusal 5)
+  ("cam" ftor ftnot "hällmann"occurs exactly 4096 times) ftand "cover" occurs at least 4096 times
+                              ^~~~~~~~~~~~~~~~~~~~~~~~~
+"#,
+    );
+    for occurs in ["at least 4095", "at most 4095", "exactly 4095", "from 4095 to 4095"] {
+        let search = format!("{CAM} occurs {occurs} times");
+        let ran = run(&["search", "--quiet", EXAMPLE, &search]);
+        assert_eq!(ran, Ran::new("", "", i32::from(occurs != "at most 4095")), "{search}");
+    }
+}
+
+#[test]
+fn occurs_under_not_in() {
+    all_refused(
+        r#"
+an 'ftnot', or an 'occurs' other than 'at least', can't stand on either side of 'not in' (refusal 7)
+  "cam" not in "cams" occurs at most 2 times
+        ^~~~~~
+
+an 'ftnot', or an 'occurs' other than 'at least', can't stand on either side of 'not in' (refusal 7)
+  ("hällmann" occurs exactly 2 times same sentence) not in "cams"
+                                                    ^~~~~~
+"#,
+    );
+    // 'at least' can
+    let search = r#""bed" occurs at least 2 times not in "needle bed""#;
+    assert_eq!(run(&["search", "--quiet", EXAMPLE, search]), Ran::new("", "", 0));
+}
+
+#[test]
 fn ftnot_under_not_in() {
     all_refused(
         r#"
-an 'ftnot' can't stand on either side of 'not in' (refusal 7)
+an 'ftnot', or an 'occurs' other than 'at least', can't stand on either side of 'not in' (refusal 7)
   "cam" not in ftnot "cover"
         ^~~~~~
 
-an 'ftnot' can't stand on either side of 'not in' (refusal 7)
+an 'ftnot', or an 'occurs' other than 'at least', can't stand on either side of 'not in' (refusal 7)
   ftnot "cam" not in "cover"
               ^~~~~~
 
-an 'ftnot' can't stand on either side of 'not in' (refusal 7)
+an 'ftnot', or an 'occurs' other than 'at least', can't stand on either side of 'not in' (refusal 7)
   "needle" not in "bed" ftor ("Dubréau" ftand ftnot "hällmann" ordered) not in "bed"
                                                                         ^~~~~~
 "#,
@@ -533,7 +587,7 @@ fn carets_stand_under_their_place_whatever_words_are_before_them() {
   "unknownwords ééééé ü" or "x"
                          ^~
 
-an 'ftnot' can't stand on either side of 'not in' (refusal 7)
+an 'ftnot', or an 'occurs' other than 'at least', can't stand on either side of 'not in' (refusal 7)
   ("Oberlühn technicians" ftor ftnot "ü") not in "1999" ftand "a" ftand "unknownwords"
                                           ^~~~~~
 
@@ -572,10 +626,14 @@ fn searches_of_too_many_bytes() {
 fn searches_of_over_64_codes() {
     // a word and its phrase are two
     let of_codes = |codes: usize| format!("{CAM}{}", " ordered".repeat(codes - 2));
-    let says = "the search is too long: words, phrases, operators and filters, each counted, are more than 64";
+    let says =
+        "the search is too long: words, phrases, 'occurs', operators and filters, each counted, are more than 64";
     assert_eq!(run(&["search", "--quiet", EXAMPLE, &of_codes(64)]), Ran::new("", "", 0));
     refused_as_a_whole(&of_codes(65), says, 3);
     refused_as_a_whole(&of_codes(200), says, 3);
+    let with_occurs = |filters: usize| format!("{CAM} occurs at least 1 times{}", " ordered".repeat(filters));
+    assert_eq!(run(&["search", "--quiet", EXAMPLE, &with_occurs(61)]), Ran::new("", "", 0));
+    refused_as_a_whole(&with_occurs(62), says, 3);
 }
 
 // Lists that get too long
@@ -587,7 +645,11 @@ fn seven() -> &'static str {
 
 /// The only section can't be answered: at this code, over the caret, its list gets too long.
 fn too_many(place: i64, search: &str, caret: &str) {
-    let says = "too many matches: over 256, or over 512 finds in them";
+    too_many_of("matches", place, search, caret);
+}
+
+fn too_many_of(what: &str, place: i64, search: &str, caret: &str) {
+    let says = &*format!("too many {what}: over 256, or over 512 finds in them");
     let wanted = format!(
         "Section 1, line 1: Größe\n  Neither yes nor no is known: {says} (refusal 9)\n    {search}\n    {caret}\n\n\
          0 of 1 section says yes, 1 can't be answered.\n"
@@ -638,6 +700,34 @@ fn too_many_matches_under_a_filter() {
     assert_eq!(run(&["search", "--quiet", seven(), r#""w" ftand "w" same sentence"#]), Ran::new("", "", 0));
 }
 
+/// It says among how many finds there are too many choices, so that one can see what the answer would be.
+#[test]
+fn too_many_choices_of_finds() {
+    let blocks = r#"
+3
+  "w" occurs exactly 1 times
+      ^~~~~~~~~~~~~~~~~~~~~~
+
+5
+  "größe" ftand "w"occurs from 0 to 5 times same sentence
+                   ^~~~~~~~~~~~~~~~~~~~~~~~
+
+6
+  "w" occurs at least 1 times ftand ftnot "w" occurs at most 3 times
+                                              ^~~~~~~~~~~~~~~~~~~~~~
+"#;
+    for block in blocks.trim().split("\n\n") {
+        let [place, search, caret] = three_lines(block);
+        too_many_of("choices among 7 finds", place.parse().unwrap(), search, caret);
+    }
+    // a list over an occurs, and a phrase under one, are lists like others
+    too_many(4, r#""w" occurs at least 6 times window 40 words"#, "                            ^~~~~~~~~~~~~~~");
+    let many = file("w.md", vec!["w"; 257].join(" "));
+    let ran = run(&["search", many, r#""w" occurs at least 300 times"#]);
+    assert!(ran.out().contains(": too many matches: over 256, or over 512 finds in them (refusal 9)\n"), "{ran:?}");
+    assert_eq!(ran.status, 2);
+}
+
 // JSON
 
 /// What `--json` prints for a refused search, wholly.
@@ -664,7 +754,8 @@ fn a_refusal_in_json_has_the_engines_place_and_the_bytes_of_the_search() {
     // the place of a code counts codes: a word, its phrase, 'ftnot', a word, its phrase, 'not in'
     prints(
         r#"ftnot "hällmann" not in "cam""#,
-        r#"{"number": 7, "place": 6, "says": "an 'ftnot' can't stand on either side of 'not in'",
+        r#"{"number": 7, "place": 6,
+            "says": "an 'ftnot', or an 'occurs' other than 'at least', can't stand on either side of 'not in'",
             "from_byte": 18, "to_byte": 24}"#,
     );
     prints(
@@ -812,6 +903,142 @@ a number has to stand here (refusal 10)
 a number has to stand here (refusal 10)
   "cam" distance at least "3" words
                           ^
+"#,
+    );
+}
+
+#[test]
+fn the_words_of_an_occurs_are_named_where_they_are_missing() {
+    all_refused(
+        r#"
+'exactly', 'at least', 'at most' or 'from' has to stand here (refusal 10)
+  "cam" occurs
+              ^
+
+'exactly', 'at least', 'at most' or 'from' has to stand here (refusal 10)
+  "cam" occurs 3 times
+               ^
+
+'least' or 'most' has to stand here (refusal 10)
+  "cam" occurs at 3 times
+                  ^
+
+a number has to stand here (refusal 10)
+  "cam" occurs at least three times
+                        ^~~~~
+
+a number has to stand here (refusal 10)
+  "cam" occurs from 2 to times
+                         ^~~~~
+
+'to' has to stand here (refusal 10)
+  "cam" occurs from 2 times
+                      ^~~~~
+
+'times' has to stand here (refusal 10)
+  ("cam" occurs at least 3)
+                          ^
+
+'times' has to stand here (refusal 10)
+  "cam" occurs from 1 to 3 words
+                           ^~~~~
+
+'times' has to stand here (refusal 10)
+  "window" occurs exactly 1 time
+                            ^~~~
+
+'words' has to stand here (refusal 10)
+  "cam" occurs exactly 1 times distance at most 3 times
+                                                  ^~~~~
+
+'words' has to stand here (refusal 10)
+  "occurs" window 3 times
+                    ^~~~~
+"#,
+    );
+}
+
+#[test]
+fn an_occurs_that_is_missing() {
+    let says = "'occurs' has to stand between a phrase and its number of times";
+    for (search, caret) in [
+        (r#""cam" at least 3 times"#, "         ^~~~~"),
+        (r#""cam" exactly 3 times ftor "cover""#, "      ^~~~~~~"),
+        (r#"("cam" from 2 to 3 times)"#, "       ^~~~"),
+        (r#""cam" 3 times"#, "      ^"),
+        (r#""cam" 1 time"#, "      ^"),
+        (r#""cam" times"#, "      ^~~~~"),
+    ] {
+        refused(search, says, 10, caret);
+    }
+}
+
+#[test]
+fn an_occurs_at_a_wrong_place() {
+    let says = "'occurs' counts the finds of one phrase, and stands directly after its quote";
+    for (search, caret) in [
+        (r#"("cam" ftor "cams") occurs at least 3 times"#, "                    ^~~~~~"),
+        (r#"("cam") occurs at least 3 times"#, "        ^~~~~~"),
+        (r#""cam" same sentence occurs at least 3 times"#, "                    ^~~~~~"),
+        (r#"occurs at least 3 times "cam""#, "^~~~~~"),
+        (r#""cam" ftand occurs at least 3 times"#, "            ^~~~~~"),
+        (r#""cam" and occurs at least 3 times"#, "      ^~~"),
+    ] {
+        refused(search, says, 10, caret);
+    }
+    all_refused(
+        r#"
+a phrase has one 'occurs'; for two numbers there is 'from .. to' (refusal 10)
+  "cam" occurs at least 2 times occurs at most 3 times
+                                ^~~~~~
+
+'occur' is no word of the search language; is it 'occurs'? (refusal 10)
+  "cam" occur at least 3 times
+        ^~~~~
+
+'occures' is no word of the search language; is it 'occurs'? (refusal 10)
+  "cam" occures at least 3 times
+        ^~~~~~~
+
+outside quotes all letters are small (refusal 10)
+  "cam" Occurs at least 3 times
+        ^
+
+'times' can't stand here (refusal 10)
+  "cam" ordered times
+                ^~~~~
+"#,
+    );
+}
+
+/// After its last word stands what stands after a phrase.
+#[test]
+fn after_an_occurs() {
+    all_refused(
+        r#"
+'ftand', 'ftor' or 'not in' has to join two searches (refusal 10)
+  "cam" occurs at least 2 times "cover"
+                                ^
+
+'ftand ftnot' has to join two searches (refusal 10)
+  "cam" occurs at least 2 times ftnot "cover"
+                                ^~~~~
+
+'ftnot in' can't stand here; is it 'not in'? (refusal 10)
+  "cam" occurs at least 2 times ftnot in "cover"
+                                ^~~~~
+
+',' can't stand here; 'ftand', 'ftor' or 'not in' joins two searches, and a filter follows as it is (refusal 10)
+  "cam" occurs at least 2 times, ordered
+                               ^
+
+'times' can't stand here (refusal 10)
+  "cam" occurs at least 2 times times
+                                ^~~~~
+
+a parenthesis isn't closed (refusal 10)
+  ("cam" occurs at least 2 times
+                                ^
 "#,
     );
 }

@@ -8,7 +8,7 @@ use manual::run::{run, NO, TROUBLE, YES};
 use second_engine::engine::SecondEngine;
 use second_engine::gen::Rng;
 use second_engine::json::{self, Json};
-use second_engine::selection::{self, Rule, Tree};
+use second_engine::selection::{self, Occurs, Rule, Tree};
 use second_engine::typed::{self, Pair, Reader};
 use second_engine::typed_gen::typed_case;
 use second_engine::{rules, section, Match, Quick, Refusal, Str, BUFFER, WORK};
@@ -211,7 +211,7 @@ struct Listed {
     not_excluded: Vec<Excluded>,
 }
 
-/// A phrase that the search excludes, and its finds.
+/// A phrase that might exclude, and its finds.
 #[derive(Debug, PartialEq, Eq)]
 struct Excluded {
     query: u32,
@@ -228,25 +228,57 @@ fn expected(search: &str, numbers: &[u32], selection: &[u32], tree: &Tree) -> An
         Quick::Answered { yes: true, .. } => match second.list(numbers, selection, WORK, BUFFER) {
             Err(refusal) => Answer::Unlisted(refusal.into()),
             Ok(matches) => {
-                let deciding = 1 + matches.iter().position(|found| found.excludes.is_empty()).expect("it says yes");
-                let mut not_excluded = vec![];
-                excluded(search, &section::read(numbers).unwrap(), tree, false, &mut not_excluded);
-                Answer::Yes(Listed { matches, deciding, not_excluded })
+                let deciding = matches.iter().position(|found| found.excludes.is_empty()).expect("it says yes");
+                let section = section::read(numbers).unwrap();
+                let mut seen =
+                    NotExcluded { search, section: &section, includes: &matches[deciding].includes, list: vec![] };
+                seen.look(tree, false, u32::MAX);
+                let not_excluded = seen.list;
+                Answer::Yes(Listed { matches, deciding: deciding + 1, not_excluded })
             }
         },
     }
 }
 
-/// The phrases of a tree that stand under an odd number of nots. The first phrase lies after the first quote.
-fn excluded(search: &str, section: &section::Section, tree: &Tree, odd: bool, list: &mut Vec<Excluded>) {
-    if let (Rule::Phrase { words, query }, true) = (&tree.rule, odd) {
-        let phrase = search.split('"').nth(2 * *query as usize - 1).unwrap();
-        let finds = rules::phrase(section, words, *query).into_iter().map(|found| found.includes[0]).collect();
-        list.push(Excluded { query: *query, typed: format!("\"{phrase}\""), finds });
+/// The phrases that might exclude a match with these includes.
+struct NotExcluded<'a> {
+    search: &'a str,
+    section: &'a section::Section,
+    includes: &'a [Str],
+    list: Vec<Excluded>,
+}
+
+impl NotExcluded<'_> {
+    /// The phrases of a tree that stand under an odd number of nots; and the phrases with more finds than their occurs
+    /// allows, with those that aren't included, if there are any.
+    fn look(&mut self, tree: &Tree, odd: bool, most: u32) {
+        if let Rule::Phrase { words, query } = &tree.rule {
+            let finds = rules::phrase(self.section, words, *query);
+            let mut finds: Vec<Str> = finds.into_iter().map(|found| found.includes[0]).collect();
+            let too_many = finds.len() > most as usize;
+            if too_many {
+                finds.retain(|find| self.includes.iter().all(|one| find.start < one.start || find.end > one.end));
+            }
+            if too_many && !finds.is_empty() || !too_many && odd {
+                self.list.push(Excluded { query: *query, typed: phrase_typed(self.search, *query), finds });
+            }
+        }
+        let most = if let Rule::Occurs(Occurs::FromTo(_, most)) = tree.rule { most } else { u32::MAX };
+        for below in &tree.below {
+            self.look(below, odd ^ (tree.rule == Rule::Not), most);
+        }
     }
-    for below in &tree.below {
-        excluded(search, section, below, odd ^ (tree.rule == Rule::Not), list);
-    }
+}
+
+/// A phrase as it is typed, with its occurs. The first phrase lies after the first quote.
+fn phrase_typed(search: &str, query: u32) -> String {
+    let mut pieces = search.split('"').skip(2 * query as usize - 1);
+    let (phrase, after) = (pieces.next().unwrap(), pieces.next().unwrap());
+    let occurs = match after.trim_start().starts_with("occurs") {
+        true => &after[..after.find("times").unwrap() + "times".len()],
+        false => "",
+    };
+    format!("\"{phrase}\"{occurs}")
 }
 
 /// The JSON that the tool prints for a search, and its exit status.
@@ -285,7 +317,7 @@ fn number(object: &Json, name: &str) -> usize {
 }
 
 /// What a code of each kind begins with in a search.
-const BEGINS: [&str; 16] = [
+const BEGINS: [&str; 18] = [
     "",
     "\"",
     "ftor",
@@ -302,6 +334,8 @@ const BEGINS: [&str; 16] = [
     "at",
     "at",
     "entire",
+    "occurs",
+    "occurs",
 ];
 
 /// A search, and how the tool's answers to it are read.
@@ -389,15 +423,19 @@ struct Seen {
     refused: BTreeMap<u32, usize>,
     answered: usize,
     kinds: BTreeSet<u32>,
+    /// Answered searches that have an occurs.
+    occurs: usize,
     /// Sections, by their answers.
     yes: usize,
     no: usize,
     unlisted: usize,
     unknown: usize,
-    /// Sections that say yes with a find, by a match after the first, with what the search excludes in them.
+    /// Sections that say yes with a find, by a match after the first, with what the search excludes in them, with finds
+    /// of a phrase that has an occurs among it.
     found: usize,
     later: usize,
     passed: usize,
+    passed_occurs: usize,
     /// Searches to which some sections say yes and some no.
     mixed: usize,
 }
@@ -414,6 +452,8 @@ impl Seen {
                 self.later += usize::from(listed.deciding > 1);
                 let has_finds = |phrase: &Excluded| !phrase.finds.is_empty();
                 self.passed += usize::from(listed.not_excluded.iter().any(has_finds));
+                let has_occurs = |phrase: &Excluded| has_finds(phrase) && phrase.typed.ends_with("times");
+                self.passed_occurs += usize::from(listed.not_excluded.iter().any(has_occurs));
             }
         }
     }
@@ -482,6 +522,7 @@ impl Comparison {
                     self.seen.see(answer);
                 }
                 self.seen.kinds.extend(codes.iter().map(|(kind, _)| kind));
+                self.seen.occurs += usize::from(codes.iter().any(|(kind, _)| *kind >= 16));
                 self.seen.mixed += usize::from(status == YES && answers.contains(&Answer::No));
                 self.seen.answered += 1;
             }
@@ -559,11 +600,37 @@ const ANSWERED: &[&str] = &[
     r#"("full speed" at end) ftor ("log" at end)"#,
     r#""Service manual for the HV 180 and" ftand "HV 220 flat knitting machines" entire content"#,
     r#"ftnot ("the" entire content)"#,
+    // occurs
+    r#""bolt" occurs at least 3 times"#,
+    r#""needle" occurs at least 0 times"#,
+    r#""needle" occurs at least 8 times ftor "needle" occurs at least 3 times"#,
+    r#""cover" occurs exactly 3 times"#,
+    r#""cams" occurs at most 2 times ftand "cover""#,
+    r#""oil" occurs from 2 to 4 times"#,
+    r#""needle bed" occurs at least 2 times ftand "cover" occurs at least 3 times"#,
+    r#""bed" occurs at least 2 times not in ("needle bed" occurs at least 1 times)"#,
+    r#"ftnot "cover" occurs at least 2 times ftand "cam""#,
+    r#"ftnot ("cover" occurs exactly 2 times ftor "bolt" occurs at most 1 times)"#,
+    r#""xyzzy" occurs exactly 0 times ftand "xyzzy" occurs at most 3 times ftand "gloves""#,
+    r#""cam" ftor ftnot "cover" occurs exactly 0 times"#,
+    // occurs below filters
+    r#""cam" occurs exactly 1 times same sentence"#,
+    r#"("cam" occurs exactly 1 times same paragraph) ftand "bolt""#,
+    r#""cam" occurs at least 2 times same sentence window 20 words"#,
+    r#""switch" occurs at least 4 times different sentence ordered"#,
+    r#""cam" ftand "cover" occurs from 1 to 2 times distance at most 30 words"#,
+    r#""cover" ftand ftnot "cam" occurs at least 2 times same sentence"#,
+    r#""yarn" occurs at most 2 times at start"#,
     // lists that are too long in some sections
     r#""the" ftand "the""#,
     r#""the" ftor ("the" ftand "a" ftand "and")"#,
     r#""the" ftand "the" ftand "the" same sentence"#,
     r#""the" window 20 words"#,
+    r#""needle" occurs at least 3 times"#,
+    r#""cam" occurs exactly 1 times"#,
+    r#""cam" ftor "cams" occurs at most 1 times"#,
+    r#""the" occurs from 2 to 7 times same paragraph"#,
+    r#"ftnot ("carriage" occurs at least 2 times) ordered"#,
     r#"ftnot ("the" ftand "of") window 9 words"#,
 ];
 
@@ -576,9 +643,9 @@ fn written_searches_are_answered_as_by_the_second_engine() {
     let seen = &comparison.seen;
     println!("{seen:?}");
     assert_eq!(seen.answered, ANSWERED.len());
-    assert!(seen.kinds.iter().copied().eq(0..16), "{seen:?}");
+    assert!(seen.kinds.iter().copied().eq(0..18), "{seen:?}");
     assert!(seen.yes > 400 && seen.no > 1_200 && seen.unlisted > 10 && seen.unknown > 60, "{seen:?}");
-    assert!(seen.found > 200 && seen.passed > 60 && seen.mixed > 35, "{seen:?}");
+    assert!(seen.found > 200 && seen.passed > 60 && seen.passed_occurs > 10 && seen.mixed > 35, "{seen:?}");
 }
 
 /// Each search and the number of its refusal.
@@ -586,9 +653,19 @@ const REFUSED: &[(u32, &str)] = &[
     (5, r#""cam" window 0 words"#),
     (5, r#""cam" ftand "bolt" distance from 5 to 2 words ordered"#),
     (5, r#"("cam" distance exactly 4096 words) ftor "bolt""#),
+    (5, r#""cam" occurs at least 4096 times"#),
+    (5, r#""bolt" ftor ftnot "cam"occurs from 3 to 2 times at start"#),
+    (5, r#""needle bed" occurs exactly 4096 times ftand "cam" distance from 5 to 2 words"#),
     (6, r#""a" ftor ("b" ftor ("c" ftor ("d" ftor ("e" ftor ("f" ftor ("g" ftor ("h" ftor "cam")))))))"#),
     (7, r#""cam" not in (ftnot "cover")"#),
     (7, r#""bolt" ftand (("cam" ftand ftnot "cover" same sentence) not in "cams")"#),
+    (7, r#""cam" not in "cover" occurs exactly 1 times"#),
+    (7, r#""bolt" ftand (("cam" occurs at most 2 times same sentence) not in "cams")"#),
+    (10, r#"("needle bed") occurs at least 2 times"#),
+    (10, r#""needle bed" occurs 2 times"#),
+    (10, r#""needle bed" occurs at least 2 words"#),
+    (10, r#""needle bed" occurs at least 2 times occurs at most 3 times"#),
+    (10, r#""needle bed" ordered occurs at least 2 times"#),
     (10, ""),
     (10, "   "),
     (10, r#""cam" ftand "#),
@@ -607,6 +684,7 @@ const REFUSED: &[(u32, &str)] = &[
     (10, r#"needle bed"#),
     (11, r#""drive belt" window 4097 words"#),
     (11, r#""drive belt" distance from 1 to 99999999999999999999 and"#),
+    (11, r#""drive belt" occurs at least 4097 words"#),
 ];
 
 #[test]
@@ -686,9 +764,10 @@ fn random_searches_are_answered_as_by_the_second_engine() {
     }
     let seen = &comparison.seen;
     println!("{seen:?}");
-    assert!(seen.kinds.iter().copied().eq(0..16), "{seen:?}");
+    assert!(seen.kinds.iter().copied().eq(0..18), "{seen:?}");
     assert!(seen.refused.keys().copied().eq([3, 5, 6, 7, 10, 11]), "{seen:?}");
     assert!(seen.refused[&10] > 900 && seen.answered > 1_500 && seen.mixed > 900, "{seen:?}");
     assert!(seen.yes > 20_000 && seen.no > 45_000 && seen.unlisted > 90 && seen.unknown > 350, "{seen:?}");
     assert!(seen.found > 13_000 && seen.later > 250 && seen.passed > 2_000, "{seen:?}");
+    assert!(seen.occurs > 400 && seen.passed_occurs > 150, "{seen:?}");
 }

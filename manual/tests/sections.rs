@@ -1,11 +1,12 @@
 //! How a text becomes sections of words, and a search the engine's numbers and codes.
 
-use manual::codes::{codes, phrases, Code};
+use manual::codes::{codes, phrases, Code, Occurs};
 use manual::document::{Manual, Section, Token};
 use manual::engine::Engine;
 use manual::search::Search;
 use manual::tokens::{folded, tokens};
 use manual::words::{Words, UNKNOWN};
+use second_engine::typed;
 
 fn manual(text: &str) -> Manual {
     Manual::new(text.to_string())
@@ -776,6 +777,81 @@ fn a_filter_stands_after_all_that_it_works_on() {
     ]);
 }
 
+#[test]
+fn an_occurs_stands_with_all_its_words_after_its_phrase() {
+    let all = [
+        (17, "occurs at least 2 times"),
+        (17, "occurs at  least 002times"),
+        (16, "occurs exactly 2 times"),
+        (16, "occurs at most 2 times"),
+        (16, "occurs from 1 to 2 times"),
+        (16, "occurs  from1to2times"),
+    ];
+    for (kind, occurs) in all {
+        stand(&[(&format!(r#""a" {occurs} "#), &format!(r#"0@1 a, 1@0 "a", {kind}@4 {occurs}"#))]);
+        stand(&[(
+            &format!(r#"(ftnot"b c"{occurs})at start"#),
+            &format!(r#"0@7 b, 0@9 c, 1@6 "b c", {kind}@11 {occurs}, 4@1 ftnot, 13@{} at start"#, 12 + occurs.len()),
+        )]);
+    }
+}
+
+#[test]
+fn an_occurs_stands_before_its_phrases_operators_and_filters() {
+    stand(&[
+        (
+            r#""a" occurs at least 2 times ftor "b""#,
+            r#"0@1 a, 1@0 "a", 17@4 occurs at least 2 times, 0@34 b, 1@33 "b", 2@28 ftor"#,
+        ),
+        (
+            r#""a" ftand "b" occurs at most 2 times ftor "c""#,
+            r#"0@1 a, 1@0 "a", 0@11 b, 1@10 "b", 16@14 occurs at most 2 times, 3@4 ftand, 0@43 c, 1@42 "c", 2@37 ftor"#,
+        ),
+        (
+            r#""a" occurs at least 1 times not in "b" occurs at least 3 times at end"#,
+            r#"0@1 a, 1@0 "a", 17@4 occurs at least 1 times, 0@36 b, 1@35 "b", 17@39 occurs at least 3 times, 5@28 not in, 14@63 at end"#,
+        ),
+        (
+            r#"ftnot ("a" occurs exactly 2 times window 3 words)"#,
+            r#"0@8 a, 1@7 "a", 16@11 occurs exactly 2 times, 7@34 window 3 words, 4@0 ftnot"#,
+        ),
+        // words in quotes that are alike
+        (r#""occurs" occurs exactly 2 times"#, r#"0@1 occurs, 1@0 "occurs", 16@9 occurs exactly 2 times"#),
+        (
+            r#""a times" ftor "b times""#,
+            r#"0@1 a, 0@3 times, 1@0 "a times", 0@16 b, 0@18 times, 1@15 "b times", 2@10 ftor"#,
+        ),
+    ]);
+}
+
+/// Also where the second engine reads the codes that are placed.
+#[test]
+fn codes_of_occurs_are_the_second_engines() {
+    for text in [
+        r#""a" occurs at least 0 times"#,
+        r#""a" occurs at least 4096 times"#,
+        r#""a" occurs exactly 4096 times"#,
+        r#""a" occurs from 4096 to 0 times"#,
+        r#""a b" occurs at most 4095 times same sentence ordered"#,
+        r#"ftnot "a" occurs from 1 to 3 times ftand ("b"occurs at least 2times ftor ftnot "c" occurs exactly 1 times)"#,
+        r#"("a" occurs exactly 2 times) not in ("b c d" occurs at most 7 times at end) window 12 words"#,
+    ] {
+        let words = Words::of(&manual("a b c d e f g h"));
+        let search = Search::new(text, &words);
+        let pairs = typed::read(&search.typed).unwrap();
+        let codes = codes(&search, &typed::numbers(&pairs));
+        assert_eq!(codes.iter().map(|code| (code.kind, code.operand)).collect::<Vec<_>>(), pairs, "{text}");
+        assert_eq!(codes_of(text), codes, "{text}");
+        let of_occurs = codes.iter().filter(|code| code.kind >= Code::OCCURS);
+        assert!(of_occurs.clone().count() > 0, "{text}");
+        for code in of_occurs {
+            let typed = &text[code.place.clone()];
+            assert!(typed.starts_with("occurs ") && typed.ends_with("times"), "{text}: {typed}");
+            assert_eq!(typed.contains("at least"), code.kind == Code::OCCURS_AT_LEAST, "{text}: {typed}");
+        }
+    }
+}
+
 /// The phrases of a search, with a `-` before those that are excluded.
 fn phrases_of(text: &str) -> String {
     let phrases = phrases(&codes_of(text));
@@ -800,6 +876,37 @@ fn a_phrase_is_excluded_under_an_odd_number_of_nots() {
     ];
     for (text, expected) in cases {
         assert_eq!(phrases_of(text), expected, "{text}");
+    }
+}
+
+#[test]
+fn an_occurs_belongs_to_its_phrase() {
+    let cases = [
+        (r#""a" occurs exactly 1 times"#, r#""a" occurs exactly 1 times"#),
+        (r#"ftnot "a b"occurs at least 2 times"#, r#"-"a b"occurs at least 2 times"#),
+        (r#""a" ftand ftnot ("b" occurs at most 2 times ftor "c") ordered"#, r#""a" -"b" occurs at most 2 times -"c""#),
+        (r#"ftnot (ftnot "a" occurs from 1 to 2 times at start)"#, r#""a" occurs from 1 to 2 times"#),
+    ];
+    for (text, expected) in cases {
+        assert_eq!(phrases_of(text), expected, "{text}");
+    }
+}
+
+#[test]
+fn the_most_finds_are_the_larger_number_and_at_least_has_none() {
+    let cases = [
+        (r#""b" ftor "a""#, None),
+        (r#""b" ftor "a" occurs at least 3 times"#, Some((5, None))),
+        (r#""b c" ftor "a" occurs exactly 3 times"#, Some((6, Some(3)))),
+        (r#""b" ftor ftnot "a" occurs at most 4095 times"#, Some((5, Some(4_095)))),
+        (r#""b" occurs at most 9 times ftor "a" occurs from 4095 to 0 times"#, Some((6, Some(0)))),
+    ];
+    for (text, expected) in cases {
+        let expected = expected.map(|(code, most)| Occurs { code, most });
+        let phrase = &phrases(&codes_of(text))[1];
+        assert_eq!(phrase.most(), expected.as_ref().and_then(|occurs| occurs.most), "{text}");
+        assert_eq!(phrase.occurs, expected, "{text}");
+        assert_eq!(phrase.selection, [2, 0, 1, 1, 1], "{text}");
     }
 }
 
