@@ -15,7 +15,7 @@ use Rattle.model.specs.declared.Times.the-variants.{FromTo}
 use Rattle.model.specs.Accepted.{AcceptedSelection}
 use Rattle.model.specs.Checks.{operandFits, filterOperandFits, timesOperandFits}
 use Rattle.model.specs.Kinds.{Shape, aWord, aPhrase, aPair, aChange, isWord, shapeAt}
-use Rattle.model.specs.Limits.{maxWindow, maxTimes, radix}
+use Rattle.model.specs.Limits.{maxWindow, maxDistance, radix}
 use Rattle.model.specs.Parts.{stateAt}
 use Rattle.model.specs.Section.{size}
 use Rattle.model.specs.Selection.{codeAt, kindAt, operandAt, kindOf, operandOf, codeOf}
@@ -61,7 +61,7 @@ module _ (sel : List ℕ) (a : AcceptedSelection sel) (c : ℕ) (from-one : 1 �
       let l : o / radix ≡ least = cc in
       let m : o % radix ≡ most = cc in
       let f : operandFits 16 o ≡ true = ap (λ (n : ℕ). operandFits n o) k ∙ a .operands c from-one up-to in
-      let up = leb-true (o / radix) (o % radix) (both-true (leb (o / radix) (o % radix)) (leb (o % radix) maxTimes) f .0) in
+      let up = leb-true (o / radix) (o % radix) (both-true (leb (o / radix) (o % radix)) (leb (o % radix) maxDistance) f .0) in
       omega (arith, up, l, m)
 
   pub phrase-words : (k : ℕ) (ws : List ℕ) → codeAt sel c ≡ Phrase k → length ws ≡ k → Loose sel c ws → phraseWords sel c ≡ ws

@@ -9,7 +9,7 @@ ghost use mathlib.Core.Bool.{_&&_};
 ghost use mathlib.Core.Path.{_≡_};
 ghost use lib.Dec.{leb};
 ghost use Rattle.model.specs.Answers.{faultOf};
-ghost use Rattle.model.specs.Checks.{filterOperandFits, operandFits, timesOperandFits, unknownKind, wrongOperand};
+ghost use Rattle.model.specs.Checks.{filterOperandFits, operandFits, rangeFits, timesOperandFits, unknownKind, wrongOperand};
 
 // F-3: "18 and up are unknown"
 fn is_unknown(kind: u32) -> bool
@@ -33,13 +33,20 @@ fn is_within(least: u32, number: u32, most: u32) -> bool
     number <= most
 }
 
+// "a × 65,536 + b, a ≤ b ≤ 4,095"
+fn range_fits(operand: u32) -> bool
+    ensures { λ r. ⌜ r ≡ rangeFits operand ⌝ }
+{
+    is_within(operand / RADIX, operand % RADIX, MAX_DISTANCE)
+}
+
 // The operands of the filters.
 fn filter_operand_fits(kind: u32, operand: u32) -> bool
     ensures { λ r. ⌜ r ≡ filterOperandFits kind operand ⌝ }
 {
     match kind {
         7 => is_within(1, operand, MAX_WINDOW),
-        8 => is_within(operand / RADIX, operand % RADIX, MAX_DISTANCE),
+        8 => range_fits(operand),
         _ => operand == 0,
     }
 }
@@ -49,7 +56,7 @@ fn times_operand_fits(kind: u32, operand: u32) -> bool
     ensures { λ r. ⌜ r ≡ timesOperandFits kind operand ⌝ }
 {
     match kind {
-        16 => is_within(operand / RADIX, operand % RADIX, MAX_TIMES),
+        16 => range_fits(operand),
         _ => operand <= MAX_TIMES,
     }
 }

@@ -13,13 +13,13 @@ use Rattle.model.specs.declared.Filter.{Filter}
 use Rattle.model.specs.declared.Pair.the-variants.{Or, And, MildNot}
 use Rattle.model.specs.declared.Times.{Times}
 use Rattle.model.specs.Limits.{maxWords}
-use Rattle.model.specs.Productions.{Sign, Keyword, Words, no-word, word-more, FTWords, quoted, FTTimes, times-exactly, times-least, times-most, times-from, FTPosFilter, ordered, window, distance-exactly, distance-least, distance-most, distance-from, same-sentence, same-paragraph, different-sentence, different-paragraph, at-start, at-end, entire-content, FTSelection, selection-or, selection-filter, or-and, or-more, and-mild, and-more, mild-unary, mild-more, unary-primary, unary-not, FTPrimary, phrase, phrase-times, nested}
+use Rattle.model.specs.Productions.{Sign, Keyword, Words, no-word, word-more, FTWords, quoted, FTTimes, times, FTPosFilter, ordered, window, distance, same-sentence, same-paragraph, different-sentence, different-paragraph, at-start, at-end, entire-content, FTSelection, selection-or, selection-filter, or-and, or-more, and-mild, and-more, mild-unary, mild-more, unary-primary, unary-not, FTPrimary, phrase, phrase-times, nested}
 use Rattle.model.specs.Tokens.{Token, quote, opening, closing}
 use Rattle.grammar.specs.Stream.{Stream, ends, token, valueIn}
 use Rattle.grammar.specs.Symbols.{k-ftor, k-ftand, k-ftnot, k-not, k-in, k-ordered, k-entire, k-occurs, k-words, k-times, sameBytes, numberAmong, symbolOf, symbolIn}
 use Rattle.grammar.specs.Grammar.{Outcome, read, Rule, prefixed, _then_, expect, coded, measured, words, anyTimes, phrase as phraseRule, either, startsFilter, filter, filters, row, notIn, ftPrimary, ftUnaryNot, ftMildNot, ftAnd, ftOr, ftSelection}
 use Rattle.grammar.proofs.JoiningLaws.{_⊕_, size, join-append, size-join, prefixed-prefixed}
-use Rattle.grammar.proofs.RangesLaws.{exactly, from-to, ranging, at-least, at-most, levelled, range-complete}
+use Rattle.grammar.proofs.RangesLaws.{range-complete}
 use Rattle.grammar.proofs.SymbolsLaws.{keyword-symbol, sign-symbol, number-symbol, number-within}
 
 -- ---- filters
@@ -28,10 +28,7 @@ filter-complete : {us : List Token} {f : Filter} (rest : Stream) → FTPosFilter
 unfolding _⊕_ filter either coded measured numberAmong sameBytes valueIn _then_ prefixed
 filter-complete rest (ordered a) = rw (keyword-symbol a)
 filter-complete rest (window a n z) = rw (keyword-symbol a, number-symbol n, number-within n, keyword-symbol z)
-filter-complete rest (distance-exactly a b n z) = rw (keyword-symbol a) (range-complete k-words refl rest (exactly b n z))
-filter-complete rest (distance-least a b c n z) = rw (keyword-symbol a) (range-complete k-words refl rest (levelled b (at-least c n z)))
-filter-complete rest (distance-most a b c n z) = rw (keyword-symbol a) (range-complete k-words refl rest (levelled b (at-most c n z)))
-filter-complete rest (distance-from a b m c n z) = rw (keyword-symbol a) (range-complete k-words refl rest (ranging b (from-to m c n z)))
+filter-complete rest (distance a r z) = rw (keyword-symbol a) (range-complete k-words refl Filtered rest r z)
 filter-complete rest (same-sentence a b) = rw (keyword-symbol a, keyword-symbol b)
 filter-complete rest (same-paragraph a b) = rw (keyword-symbol a, keyword-symbol b)
 filter-complete rest (different-sentence a b) = rw (keyword-symbol a, keyword-symbol b)
@@ -44,10 +41,7 @@ filter-starts : {us : List Token} {f : Filter} (rest : Stream) → FTPosFilter u
 unfolding _⊕_ startsFilter numberAmong sameBytes
 filter-starts rest (ordered a) = rw (keyword-symbol a)
 filter-starts rest (window a n z) = rw (keyword-symbol a)
-filter-starts rest (distance-exactly a b n z) = rw (keyword-symbol a)
-filter-starts rest (distance-least a b c n z) = rw (keyword-symbol a)
-filter-starts rest (distance-most a b c n z) = rw (keyword-symbol a)
-filter-starts rest (distance-from a b m c n z) = rw (keyword-symbol a)
+filter-starts rest (distance a r z) = rw (keyword-symbol a)
 filter-starts rest (same-sentence a b) = rw (keyword-symbol a)
 filter-starts rest (same-paragraph a b) = rw (keyword-symbol a)
 filter-starts rest (different-sentence a b) = rw (keyword-symbol a)
@@ -83,10 +77,7 @@ words-complete (suc left) k rest s h l (word-more {k = j} n d) =
 
 times-complete : {us : List Token} {k : Times} (rest : Stream) → FTTimes us k → anyTimes (us ⊕ rest) ≡ read (Occurs k ∷ []) rest
 unfolding _⊕_ anyTimes numberAmong sameBytes
-times-complete rest (times-exactly a b n z) = rw (keyword-symbol a) (range-complete k-times refl rest (exactly b n z))
-times-complete rest (times-least a b c n z) = rw (keyword-symbol a) (range-complete k-times refl rest (levelled b (at-least c n z)))
-times-complete rest (times-most a b c n z) = rw (keyword-symbol a) (range-complete k-times refl rest (levelled b (at-most c n z)))
-times-complete rest (times-from a b m c n z) = rw (keyword-symbol a) (range-complete k-times refl rest (ranging b (from-to m c n z)))
+times-complete rest (times a r z) = rw (keyword-symbol a) (range-complete k-times refl Occurs rest r z)
 
 times-none : (rest : Stream) → eqb (symbolIn rest) k-occurs ≡ false → anyTimes rest ≡ read [] rest
 unfolding anyTimes

@@ -14,13 +14,13 @@ use Rattle.model.specs.declared.Filter.{Filter}
 use Rattle.model.specs.declared.Filter.the-variants.{Ordered, Window, SameSentence, SameParagraph, DifferentSentence, DifferentParagraph, AtStart, AtEnd, EntireContent}
 use Rattle.model.specs.declared.Times.{Times}
 use Rattle.model.specs.Limits.{maxWords, maxWord}
-use Rattle.model.specs.Productions.{Sign, Keyword, Words, no-word, word-more, FTTimes, times-exactly, times-least, times-most, times-from, FTPosFilter, ordered, window, distance-exactly, distance-least, distance-most, distance-from, same-sentence, same-paragraph, different-sentence, different-paragraph, at-start, at-end, entire-content}
+use Rattle.model.specs.Productions.{Sign, Keyword, Words, no-word, word-more, FTTimes, times, FTPosFilter, ordered, window, distance, same-sentence, same-paragraph, different-sentence, different-paragraph, at-start, at-end, entire-content}
 use Rattle.model.specs.Tokens.{Token, quote, valueOf}
 use Rattle.grammar.specs.Stream.{Stream, restOf}
 use Rattle.grammar.specs.Symbols.{k-ordered, k-window, k-distance, k-same, k-different, k-at, k-entire, k-start, k-end, k-sentence, k-paragraph, k-content, k-occurs, k-words, k-times, s-quote, symbolOf, symbolIn}
-use Rattle.grammar.specs.Grammar.{read, Rule, _then_, refused, expect, number, coded, measured, distance, times, words, anyTimes, phrase, either, filter}
+use Rattle.grammar.specs.Grammar.{read, Rule, _then_, refused, expect, number, coded, measured, distance as distanceRule, times as timesRule, words, anyTimes, phrase, either, filter}
 use Rattle.grammar.proofs.GoingLaws.{Production, Within, Joins, NumberJoins, Viable, Went, went-map, Seq, seq, went-both, Wrote, wrote, went-read, went-refused, Taken, went-case, went-keyword, One, one, aWord, a-word, aSign, a-sign, went-word, went-number}
-use Rattle.grammar.proofs.RangesLaws.{Coded, coded-by, Measured, measured-by, from-to, at-least, at-most, exactly, ranging, levelled, went-coded, went-measured, went-range, Distances, Occurrences}
+use Rattle.grammar.proofs.RangesLaws.{Coded, coded-by, Measured, measured-by, range-by, went-coded, went-measured, went-range, Distances, Occurrences}
 use Rattle.grammar.proofs.SymbolsLaws.{spelling, isKeyword, symbol-sort}
 
 -- ---- filters
@@ -56,10 +56,7 @@ window-join : Joins (Keyword "window") (Measured "words" windowCode) FilterCodes
 window-join t vs ds a (measured-by n z) = filter-codes (window a n z)
 
 distance-join : Joins (Keyword "distance") Distances FilterCodes
-distance-join t vs ds a (exactly b n z) = filter-codes (distance-exactly a b n z)
-distance-join t vs ds a (ranging b (from-to m c n z)) = filter-codes (distance-from a b m c n z)
-distance-join t vs ds a (levelled b (at-least c n z)) = filter-codes (distance-least a b c n z)
-distance-join t vs ds a (levelled b (at-most c n z)) = filter-codes (distance-most a b c n z)
+distance-join t vs ds a (range-by r z) = filter-codes (distance a r z)
 
 abbrev UnitFilter : Filter → Filter → Production
 UnitFilter f g = Either (Keyword "sentence") (Keyword "paragraph") (Filtered f) (Filtered g)
@@ -90,11 +87,11 @@ went-filter ts =
     let f5 : Rule = λ us. cond (eqb (symbolIn us) k-at) (at (restOf us)) (f6 us) in
     let f4 : Rule = λ us. cond (eqb (symbolIn us) k-different) (different (restOf us)) (f5 us) in
     let f3 : Rule = λ us. cond (eqb (symbolIn us) k-same) (same (restOf us)) (f4 us) in
-    let f2 : Rule = λ us. cond (eqb (symbolIn us) k-distance) (distance (restOf us)) (f3 us) in
+    let f2 : Rule = λ us. cond (eqb (symbolIn us) k-distance) (distanceRule (restOf us)) (f3 us) in
     let f1 : Rule = λ us. cond (eqb (symbolIn us) k-window) (measured k-words windowCode (restOf us)) (f2 us) in
     went-keyword k-ordered refl (λ us. read (Filtered Ordered ∷ []) us) f1 ordered-join ts (went-read (Filtered Ordered ∷ []))
     (went-keyword k-window refl (measured k-words windowCode) f2 window-join ts (went-measured k-words refl windowCode)
-    (went-keyword k-distance refl distance f3 distance-join ts (went-range k-words refl _ _)
+    (went-keyword k-distance refl distanceRule f3 distance-join ts (went-range k-words refl _ _ _)
     (went-keyword k-same refl same f4 same-join ts (went-either k-sentence refl _ k-paragraph refl _)
     (went-keyword k-different refl different f5 different-join ts (went-either k-sentence refl _ k-paragraph refl _)
     (went-keyword k-at refl at f6 at-join ts (went-either k-start refl _ k-end refl _)
@@ -160,17 +157,14 @@ pub data AnyTimes : List Token → List Code → Type 0 where
   some-times : {us : List Token} {k : Times} → FTTimes us k → AnyTimes us (Occurs k ∷ [])
 
 times-join : Joins (Keyword "occurs") Occurrences AnyTimes
-times-join t vs ds a (exactly b n z) = some-times (times-exactly a b n z)
-times-join t vs ds a (ranging b (from-to m c n z)) = some-times (times-from a b m c n z)
-times-join t vs ds a (levelled b (at-least c n z)) = some-times (times-least a b c n z)
-times-join t vs ds a (levelled b (at-most c n z)) = some-times (times-most a b c n z)
+times-join t vs ds a (range-by r z) = some-times (times a r z)
 
 none-join : Within (Wrote []) AnyTimes
 none-join vs ds wrote = no-times
 
 went-times : (ts : Stream) → Went AnyTimes (λ i. anyTimes) ts (anyTimes ts)
 unfolding anyTimes
-went-times ts = went-keyword k-occurs refl times (λ us. read [] us) times-join ts (went-range k-times refl _ _) (went-map none-join (went-read [] ts))
+went-times ts = went-keyword k-occurs refl timesRule (λ us. read [] us) times-join ts (went-range k-times refl _ _ _) (went-map none-join (went-read [] ts))
 
 pub went-phrase : (ts : Stream) → Went (Seq (Tail maxWords 0) AnyTimes) (λ i. phrase) ts (phrase ts)
 unfolding phrase

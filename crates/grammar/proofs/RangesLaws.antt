@@ -3,7 +3,7 @@ use Prim.Native.Nat.{ℕ}
 use Prim.Native.String.{String}
 use mathlib.Core.Path.{_≡_, refl, _∙_}
 use mathlib.Core.Bool.{true, cond}
-use mathlib.Core.List.{List, [], _∷_}
+use mathlib.Core.List.{List, [], _∷_, _++_}
 use mathlib.Core.Logic.{inr}
 use borrow.Author.Tests.{eq-eqb}
 use lib.Dec.{eqb}
@@ -13,7 +13,7 @@ use Rattle.model.specs.declared.Filter.the-variants.{Distance}
 use Rattle.model.specs.declared.Times.the-variants.{FromTo, AtLeast}
 use Rattle.model.specs.Bytes.{bytes}
 use Rattle.model.specs.Limits.{maxDistance, maxNumber}
-use Rattle.model.specs.Productions.{Keyword, Number}
+use Rattle.model.specs.Productions.{Keyword, Number, FTRange, range-exactly, range-least, range-most, range-from}
 use Rattle.model.specs.Tokens.{Token, valueOf}
 use Rattle.grammar.specs.Stream.{Stream, restOf, valueIn}
 use Rattle.grammar.specs.Symbols.{k-at, k-exactly, k-from, k-to, k-least, k-most, keywords, sameBytes, numberAmong, symbolOf, symbolIn}
@@ -32,22 +32,10 @@ pub data Coded (T : Token → Type 0) (c : Code) : List Token → List Code → 
 pub data Measured (last : String) (f : ℕ → Code) : List Token → List Code → Type 0 where
   measured-by : {n z : Token} → Number maxNumber n → Keyword last z → Measured last f (n ∷ z ∷ []) (f (valueOf n) ∷ [])
 
--- what stands after `from`, and after `at`
-pub data AfterFrom (last : String) (between : ℕ → ℕ → Code) : List Token → List Code → Type 0 where
-  from-to : {m c n z : Token} → Number maxNumber m → Keyword "to" c → Number maxNumber n → Keyword last z
-      → AfterFrom last between (m ∷ c ∷ n ∷ z ∷ []) (between (valueOf m) (valueOf n) ∷ [])
-
-pub data AfterAt (last : String) (least : ℕ → Code) (between : ℕ → ℕ → Code) : List Token → List Code → Type 0 where
-  at-least : {c n z : Token} → Keyword "least" c → Number maxNumber n → Keyword last z
-      → AfterAt last least between (c ∷ n ∷ z ∷ []) (least (valueOf n) ∷ [])
-  at-most : {c n z : Token} → Keyword "most" c → Number maxNumber n → Keyword last z
-      → AfterAt last least between (c ∷ n ∷ z ∷ []) (between 0 (valueOf n) ∷ [])
-
-pub data Range (last : String) (least : ℕ → Code) (between : ℕ → ℕ → Code) : List Token → List Code → Type 0 where
-  exactly : {c n z : Token} → Keyword "exactly" c → Number maxNumber n → Keyword last z
-      → Range last least between (c ∷ n ∷ z ∷ []) (between (valueOf n) (valueOf n) ∷ [])
-  ranging : {t : Token} {vs : List Token} {ds : List Code} → Keyword "from" t → AfterFrom last between vs ds → Range last least between (t ∷ vs) ds
-  levelled : {t : Token} {vs : List Token} {ds : List Code} → Keyword "at" t → AfterAt last least between vs ds → Range last least between (t ∷ vs) ds
+-- a range and a last word, and the code of what the range makes
+pub data Range {A : Type 0} (last : String) (code : A → Code) (least : ℕ → A) (between : ℕ → ℕ → A) : List Token → List Code → Type 0 where
+  range-by : {us : List Token} {x : A} {z : Token} → FTRange least between us x → Keyword last z
+      → Range last code least between (us ++ (z ∷ [])) (code x ∷ [])
 
 -- ---- it is read
 
@@ -56,16 +44,15 @@ module _ {last : String} (z : ℕ) (is : numberAmong 1 keywords (bytes last) ≡
   last-symbol : {t : Token} → Keyword last t → eqb (symbolOf t) z ≡ true
   last-symbol e = eq-eqb _ _ (keyword-symbol e ∙ is)
 
-  pub range-complete : {least : ℕ → Code} {between : ℕ → ℕ → Code} {us : List Token} {cs : List Code} (rest : Stream)
-      → Range last least between us cs → range z least between (us ⊕ rest) ≡ read cs rest
+  pub range-complete : {A : Type 0} (code : A → Code) {least : ℕ → A} {between : ℕ → ℕ → A} {us : List Token} {x : A} {t : Token} (rest : Stream)
+      → FTRange least between us x → Keyword last t
+      → range z (λ a. code (least a)) (λ a b. code (between a b)) ((us ++ (t ∷ [])) ⊕ rest) ≡ read (code x ∷ []) rest
   unfolding _⊕_ range rangeAt rangeFrom coded measured numberAmong sameBytes valueIn _then_ prefixed
-  range-complete rest (exactly b n e) = rw (keyword-symbol b, number-symbol n, number-within n, last-symbol e)
-  range-complete rest (ranging b (from-to m c n e)) =
+  range-complete code rest (range-exactly b n) e = rw (keyword-symbol b, number-symbol n, number-within n, last-symbol e)
+  range-complete code rest (range-least b c n) e = rw (keyword-symbol b, keyword-symbol c, number-symbol n, number-within n, last-symbol e)
+  range-complete code rest (range-most b c n) e = rw (keyword-symbol b, keyword-symbol c, number-symbol n, number-within n, last-symbol e)
+  range-complete code rest (range-from b m c n) e =
       rw (keyword-symbol b, number-symbol m, number-within m, keyword-symbol c, number-symbol n, number-within n, last-symbol e)
-  range-complete rest (levelled b (at-least c n e)) =
-      rw (keyword-symbol b, keyword-symbol c, number-symbol n, number-within n, last-symbol e)
-  range-complete rest (levelled b (at-most c n e)) =
-      rw (keyword-symbol b, keyword-symbol c, number-symbol n, number-within n, last-symbol e)
 
 -- ---- how the rules go
 
@@ -103,66 +90,77 @@ module _ (last : ℕ) (k : isKeyword last ≡ true) where
 abbrev ToNumber : String → (ℕ → Code) → Production
 ToNumber w f = Seq (One (Keyword "to")) (Measured w f)
 
-module _ (w : String) (least : ℕ → Code) (between : ℕ → ℕ → Code) where
-  from-join : NumberJoins maxNumber (λ v. ToNumber w (between v)) (AfterFrom w between)
-  from-join t vs ds n (seq (one c) (measured-by m e)) = from-to n c m e
+-- what makes R after a word
+abbrev After : String → Production → Production
+After s R vs ds = (t : Token) → Keyword s t → R (t ∷ vs) ds
 
-  least-join : Joins (Keyword "least") (Measured w least) (AfterAt w least between)
-  least-join t vs ds c (measured-by n e) = at-least c n e
-
-  most-join : Within (Seq (One (Keyword "most")) (Measured w (between 0))) (AfterAt w least between)
-  most-join vs ds (seq (one c) (measured-by n e)) = at-most c n e
-
-  at-some : Viable (AfterAt w least between) []
-  at-some = record {
-    more = aWord "most" ∷ aNumber ∷ aWord w ∷ [];
-    codes = _;
-    holds = at-most (a-word "most") (a-number maxNumber) (a-word w);
-  }
-
-  exactly-join : Joins (Keyword "exactly") (Measured w (λ n. between n n)) (Range w least between)
-  exactly-join t vs ds c (measured-by n e) = exactly c n e
-
-  levelled-join : Within (Seq (One (Keyword "at")) (AfterAt w least between)) (Range w least between)
-  levelled-join vs ds (seq (one c) d) = levelled c d
-
-module _ (last : ℕ) (k : isKeyword last ≡ true) (least : ℕ → Code) (between : ℕ → ℕ → Code) where
+module _ {A : Type 0} (last : ℕ) (k : isKeyword last ≡ true) (code : A → Code) (least : ℕ → A) (between : ℕ → ℕ → A) where
   abbrev w : String
   w = spelling last
 
-  went-from : (ts : Stream) → Went (AfterFrom w between) (λ i. rangeFrom last between) ts (rangeFrom last between ts)
+  abbrev R : Production
+  R = Range w code least between
+
+  abbrev leastCode : ℕ → Code
+  leastCode a = code (least a)
+
+  abbrev codeBetween : ℕ → ℕ → Code
+  codeBetween a b = code (between a b)
+
+  exactly-join : Joins (Keyword "exactly") (Measured w (λ n. codeBetween n n)) R
+  exactly-join t vs ds b (measured-by n e) = range-by (range-exactly b n) e
+
+  least-join : Joins (Keyword "least") (Measured w leastCode) (After "at" R)
+  least-join t vs ds c (measured-by n e) u b = range-by (range-least b c n) e
+
+  most-join : Within (Seq (One (Keyword "most")) (Measured w (codeBetween 0))) (After "at" R)
+  most-join vs ds (seq (one c) (measured-by n e)) u b = range-by (range-most b c n) e
+
+  from-join : NumberJoins maxNumber (λ v. ToNumber w (codeBetween v)) (After "from" R)
+  from-join t vs ds m (seq (one c) (measured-by n e)) u b = range-by (range-from b m c n) e
+
+  at-join : Within (Seq (One (Keyword "at")) (After "at" R)) R
+  at-join vs ds (seq (one b) d) = d _ b
+
+  at-some : Viable (After "at" R) []
+  at-some = record {
+    more = aWord "most" ∷ aNumber ∷ aWord w ∷ [];
+    codes = _;
+    holds = λ t b. range-by (range-most b (a-word "most") (a-number maxNumber)) (a-word w);
+  }
+
+  went-from : (ts : Stream) → Went (After "from" R) (λ i. rangeFrom last codeBetween) ts (rangeFrom last codeBetween ts)
   unfolding rangeFrom
   went-from ts =
-      let next : ℕ → Rule = λ v us. expect k-to us then measured last (between v) in
-      went-number (λ v. ToNumber w (between v)) maxNumber (inr refl) (λ i. next) next (from-join w least between)
+      let next : ℕ → Rule = λ v us. expect k-to us then measured last (codeBetween v) in
+      went-number (λ v. ToNumber w (codeBetween v)) maxNumber (inr refl) (λ i. next) next from-join
       (λ v l. record {
-        more = aWord "to" ∷ measured-some w (between v) .more;
+        more = aWord "to" ∷ measured-some w (codeBetween v) .more;
         codes = _;
-        holds = seq (one (a-word "to")) (measured-some w (between v) .holds);
+        holds = seq (one (a-word "to")) (measured-some w (codeBetween v) .holds);
       })
-      ts (λ t us e n. went-worded last k k-to refl (between (valueOf t)) us)
+      ts (λ t us e n. went-worded last k k-to refl (codeBetween (valueOf t)) us)
 
-  went-at : (ts : Stream) → Went (AfterAt w least between) (λ i. rangeAt last least between) ts (rangeAt last least between ts)
+  went-at : (ts : Stream) → Went (After "at" R) (λ i. rangeAt last leastCode codeBetween) ts (rangeAt last leastCode codeBetween ts)
   unfolding rangeAt
   went-at ts =
-      went-keyword k-least refl (measured last least) (λ us. expect k-most us then measured last (between 0)) (least-join w least between) ts
-      (went-measured last k least) (went-map (most-join w least between) (went-worded last k k-most refl (between 0) ts))
+      went-keyword k-least refl (measured last leastCode) (λ us. expect k-most us then measured last (codeBetween 0)) least-join ts
+      (went-measured last k leastCode) (went-map most-join (went-worded last k k-most refl (codeBetween 0) ts))
 
-  pub went-range : (ts : Stream) → Went (Range w least between) (λ i. range last least between) ts (range last least between ts)
+  pub went-range : (ts : Stream) → Went R (λ i. range last leastCode codeBetween) ts (range last leastCode codeBetween ts)
   unfolding range
   went-range ts =
-      let exact : Rule = measured last (λ n. between n n) in
-      let past : Rule = λ us. expect k-at us then rangeAt last least between in
-      let next : Rule = λ us. cond (eqb (symbolIn us) k-from) (rangeFrom last between (restOf us)) (past us) in
-      went-keyword k-exactly refl exact next (exactly-join w least between) ts (went-measured last k (λ n. between n n))
-      (went-keyword k-from refl (rangeFrom last between) past (λ t vs ds c d. ranging c d) ts went-from
-      (went-map (levelled-join w least between)
-      (went-both (expect k-at) (rangeAt last least between) (at-some w least between) ts (went-word k-at refl ts) went-at)))
+      let exact : Rule = measured last (λ n. codeBetween n n) in
+      let past : Rule = λ us. expect k-at us then rangeAt last leastCode codeBetween in
+      let next : Rule = λ us. cond (eqb (symbolIn us) k-from) (rangeFrom last codeBetween (restOf us)) (past us) in
+      went-keyword k-exactly refl exact next exactly-join ts (went-measured last k (λ n. codeBetween n n))
+      (went-keyword k-from refl (rangeFrom last codeBetween) past (λ t vs ds b d. d t b) ts went-from
+      (went-map at-join (went-both (expect k-at) (rangeAt last leastCode codeBetween) at-some ts (went-word k-at refl ts) went-at)))
 
 -- ---- those of a distance, and of a phrase's times
 
 abbrev pub Distances : Production
-Distances = Range "words" (λ a. Filtered (Distance a maxDistance)) (λ a b. Filtered (Distance a b))
+Distances = Range "words" Filtered (λ a. Distance a maxDistance) Distance
 
 abbrev pub Occurrences : Production
-Occurrences = Range "times" (λ a. Occurs (AtLeast a)) (λ a b. Occurs (FromTo a b))
+Occurrences = Range "times" Occurs AtLeast FromTo

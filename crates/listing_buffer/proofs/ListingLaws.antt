@@ -9,7 +9,6 @@ use Rattle.model.specs.Answers.{spansIn, tagsIn, listingNumbers}
 use Rattle.model.specs.Limits.{bufferLength}
 use Rattle.model.specs.Matches.{Match, stringsIn, strings}
 use Rattle.model.proofs.AnswersLaws.{length-listingNumbers}
-use Rattle.model.proofs.ListsLaws.{flatMap-same}
 use Rattle.store.specs.Layout.{matchesAt, stringsAt}
 use Rattle.store.specs.Put.{Put}
 use Rattle.store.specs.Slot.{SlotHolds}
@@ -18,6 +17,12 @@ use Rattle.store.proofs.PutLaws.{put-append}
 use Rattle.store.proofs.SlotsLaws.{matches-held, strings-held, slot-stream}
 use Rattle.listing_buffer.specs.Columns.{columnIn, ColumnAt}
 use Rattle.listing_buffer.proofs.ColumnsLaws.{length-columns, column-spans, column-tags}
+
+-- what is equal of each element is equal of all
+flatMap-same : {A B : Type 0} (f g : A → List B) → ((x : A) → f x ≡ g x) → (xs : List A) → flatMap f xs ≡ flatMap g xs
+unfolding flatMap
+flatMap-same f g e [] = refl
+flatMap-same f g e (x ∷ xs) = ap₂ _++_ (e x) (flatMap-same f g e xs)
 
 -- m and k are the two counts of the slot at src
 pub record CountsAre (mem : List ℕ) (src m k : ℕ) : Type 0 where

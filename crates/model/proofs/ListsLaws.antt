@@ -2,7 +2,7 @@
 use Prim.Native.Nat.{ℕ, zero, suc, _+_, _-_, _≤_, _<_}
 use native.Mathlib.Nat.{eq-or-lt-of-le}
 use native.Mathlib.Omega.{arith}
-use mathlib.Core.Path.{_≡_, refl, ap, ap₂, sym, _∙_}
+use mathlib.Core.Path.{_≡_, refl, ap, sym, _∙_}
 use mathlib.Core.Bool.{Bool, true, false, _&&_, _||_, cond, and-assoc, or-assoc}
 use mathlib.Core.List.{List, [], _∷_, _++_, append-assoc, flatMap, Sublistᴰ, Sublistᴰ·slnil, Sublistᴰ·cons, Sublistᴰ·cons-cons, Sublistᴰ·nil-sublist}
 use mathlib.Core.Logic.{⊎-elim}
@@ -17,12 +17,6 @@ pub flatMap-append : {A B : Type 0} (f : A → List B) (xs ys : List A) → flat
 unfolding flatMap
 flatMap-append f [] ys = refl
 flatMap-append f (x ∷ xs) ys = ap (λ zs. f x ++ zs) (flatMap-append f xs ys) ∙ sym (append-assoc (f x) (flatMap f xs) (flatMap f ys))
-
--- what is equal of each element is equal of all
-pub flatMap-same : {A B : Type 0} (f g : A → List B) → ((x : A) → f x ≡ g x) → (xs : List A) → flatMap f xs ≡ flatMap g xs
-unfolding flatMap
-flatMap-same f g e [] = refl
-flatMap-same f g e (x ∷ xs) = ap₂ _++_ (e x) (flatMap-same f g e xs)
 
 -- ---- all, any
 

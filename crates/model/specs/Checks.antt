@@ -56,18 +56,20 @@ unfoldable pub unknownKind : List ℕ → Option ℕ
 unknownKind selection = first (λ c. leb 18 (kindAt selection c)) (fromTo 1 (size selection))
 
 -- 5, first such code: "operand outside the table"
--- of a filter: "N, 1 to 4,096"; "a × 65,536 + b, a ≤ b ≤ 4,095"; 0 for the rest
+-- "a × 65,536 + b, a ≤ b ≤ 4,095"
+abbrev pub rangeFits : ℕ → Bool
+rangeFits operand = leb (operand / radix) (operand % radix) && leb (operand % radix) maxDistance
+
+-- of a filter: "N, 1 to 4,096"; a range; 0 for the rest
 unfoldable pub filterOperandFits : ℕ → ℕ → Bool
 filterOperandFits kind operand =
     cond (eqb kind 7) (leb 1 operand && leb operand maxWindow)
-    (cond (eqb kind 8) (leb (operand / radix) (operand % radix) && leb (operand % radix) maxDistance)
+    (cond (eqb kind 8) (rangeFits operand)
     (eqb operand 0))
 
 -- of an occurs: "from a to b (operand as kind 8)"; "at least a (0 to 4,095)"
 unfoldable pub timesOperandFits : ℕ → ℕ → Bool
-timesOperandFits kind operand =
-    cond (eqb kind 16) (leb (operand / radix) (operand % radix) && leb (operand % radix) maxTimes)
-    (leb operand maxTimes)
+timesOperandFits kind operand = cond (eqb kind 16) (rangeFits operand) (leb operand maxTimes)
 
 -- any word number; "k, 1 to 8"; 0 for a combination. An unknown kind has no row in the table, and is refused before its operand is asked for.
 unfoldable pub operandFits : ℕ → ℕ → Bool
@@ -101,7 +103,8 @@ occursOverOther (change (occurring k) c t) = not (isPhrase t)
 unfoldable pub notOverPhrase : List ℕ → Option ℕ
 notOverPhrase selection = Option·map placeOf (first occursOverOther (parts (treeOf selection)))
 
--- 7, the first such kind 5: "a not under a mild not"; "No kind 4 may stand in either side of a kind 5." Nor may a kind 16.
+-- 7, the first such kind 5: "a not under a mild not"; "No kind 4 may stand in either side of a kind 5." F-3: it
+-- "now counts kind 16 too". What counts is a not here.
 abbrev pub isNot : Tree → Bool
 isNot (phrase c r ws) = false
 isNot (pair k c t u) = false

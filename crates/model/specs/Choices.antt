@@ -1,5 +1,6 @@
 -- A not by mixed radix digits: what the laws and the code's contracts say of a not. Each of its matches is a choice of one string from each match
--- of the list, and the choices are numbered from 0, the first match's string being the digit of most weight.
+-- of the list, and the choices are numbered from 0, the first match's string being the digit of most weight. (The choices of an occurs are `choose`, in
+-- `Lists`.)
 use Prim.Native.Nat.{ℕ, _*_, _/_, _%_}
 use mathlib.Core.List.{List, [], _∷_, _++_, map}
 use lib.ListN.{getD}

@@ -174,7 +174,7 @@ entries =
       selection = select (0 ∷ 1 ∷ 0 ∷ 1 ∷ 3 ∷ 7 ∷ []) (10 ∷ 1 ∷ 20 ∷ 1 ∷ 0 ∷ 3 ∷ []);
       claims = answers true ∷ hasMatches 4 ∷ hasStrings 4 ∷ lists (one true 1 1 2 ∷ one true 1 1 2 ∷ one false 1 2 4 ∷ one false 1 4 6 ∷ []) ∷ [];
     }
-    -- F-3, at least: of three finds, of two, of none; fewer than three
+    -- F-3: at least 2, 3 and 4 of three finds, 0 of two and of none; fewer than three of two
     ∷ record {
       section = sevens 3;
       selection = occurs 7 17 2;
@@ -206,14 +206,18 @@ entries =
     ∷ record { section = six; selection = select (0 ∷ 1 ∷ 16 ∷ 9 ∷ []) (10 ∷ 1 ∷ (1 * radix + 1) ∷ 0 ∷ []); claims = answers true ∷ [] }
     -- at the limits and over them
     ∷ record { section = sevens 7; selection = occurs 7 17 0; claims = hasMatches 128 ∷ hasStrings 448 ∷ [] }
-    ∷ record { section = sevens 8; selection = occurs 7 17 0; claims = refused 9 3 ∷ [] }
+    ∷ record { section = sevens 8; selection = occurs 7 17 5; claims = hasMatches 93 ∷ hasStrings 512 ∷ [] }
+    ∷ record { section = sevens 8; selection = occurs 7 17 4; claims = refused 9 3 ∷ [] }
     ∷ record { section = sevens 3; selection = occurs 7 16 (1 * radix + 1); claims = refused 9 3 ∷ [] }
-    -- over an and; under a mild not; an unknown kind; an operand outside the table
+    -- over an and, over an occurs; under a mild not, 12 before 7; an unknown kind; operands outside the table
     ∷ record { section = six; selection = select (0 ∷ 1 ∷ 0 ∷ 1 ∷ 3 ∷ 17 ∷ []) (10 ∷ 1 ∷ 20 ∷ 1 ∷ 0 ∷ 1 ∷ []); claims = refused 12 6 ∷ [] }
+    ∷ record { section = six; selection = select (0 ∷ 1 ∷ 17 ∷ 17 ∷ []) (10 ∷ 1 ∷ 1 ∷ 1 ∷ []); claims = refused 12 4 ∷ [] }
     ∷ record { section = six; selection = select (0 ∷ 1 ∷ 0 ∷ 1 ∷ 16 ∷ 5 ∷ []) (10 ∷ 1 ∷ 20 ∷ 1 ∷ 2 ∷ 0 ∷ []); claims = refused 7 6 ∷ [] }
     ∷ record { section = six; selection = select (0 ∷ 1 ∷ 0 ∷ 1 ∷ 17 ∷ 5 ∷ []) (10 ∷ 1 ∷ 20 ∷ 1 ∷ 2 ∷ 0 ∷ []); claims = hasMatches 2 ∷ answers true ∷ [] }
+    ∷ record { section = six; selection = select (0 ∷ 1 ∷ 4 ∷ 0 ∷ 1 ∷ 5 ∷ 17 ∷ []) (10 ∷ 1 ∷ 0 ∷ 20 ∷ 1 ∷ 0 ∷ 1 ∷ []); claims = refused 12 7 ∷ [] }
     ∷ record { section = six; selection = occurs 10 18 0; claims = refused 4 3 ∷ [] }
     ∷ record { section = six; selection = occurs 10 17 4096; claims = refused 5 3 ∷ [] }
+    ∷ record { section = six; selection = occurs 10 16 (3 * radix + 2); claims = refused 5 3 ∷ [] }
     ∷ []
 
 pub examples-hold : allOf right entries ≡ true

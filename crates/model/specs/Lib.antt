@@ -1,4 +1,4 @@
--- The meaning of document 01, in its order ..
+-- The meaning of document 01, in its order, with document 02's F-3 ..
 pub mod Limits
 pub mod Lists
 pub mod Section
@@ -12,14 +12,14 @@ pub mod AllMatches
 pub mod Checks
 pub mod Walk
 pub mod Answers
--- .. of typed searches, document 02's F-1 ..
+-- .. of typed searches, F-1 and F-3 ..
 pub mod Bytes
 pub mod Tokens
 pub mod Productions
 pub mod TextAnswer
 pub mod Typed
 pub mod TypedExamples
--- .. document 01's worked examples ..
+-- .. worked examples ..
 pub mod Examples
 -- .. and what the laws and the code's contracts say besides: no part of the meaning.
 pub mod Parts

@@ -21,7 +21,7 @@ maxWindow = 4096
 abbrev pub maxDistance : ℕ
 maxDistance = 4095
 
--- F-3: "occurs from a to b (operand as kind 8), and kind 17, occurs at least a (0 to 4,095)"
+-- F-3: "occurs at least a (0 to 4,095)"
 abbrev pub maxTimes : ℕ
 maxTimes = 4095
 
@@ -39,7 +39,7 @@ workLength = 12800
 abbrev pub bufferLength : ℕ
 bufferLength = 1282
 
--- "A place is paragraph × 65,536 + sentence"; a span and the operand of kind 8 hold two numbers in the same way
+-- "A place is paragraph × 65,536 + sentence"; a span and the operands of kinds 8 and 16 hold two numbers in the same way
 abbrev pub radix : ℕ
 radix = 65536
 

@@ -51,7 +51,7 @@ module _ {A : Type 0} where
   sort le [] = []
   sort le (x ∷ xs) = insertSorted le x (sort le xs)
 
-  -- every choice of k elements, which keep their order; "in order of first difference by position": those with an earlier element come first
+  -- every choice of k elements, which keep their order: first the choices that have the first element, then those without it
   unfoldable pub choose : ℕ → List A → List (List A)
   choose zero xs = [] ∷ []
   choose (suc k) [] = []

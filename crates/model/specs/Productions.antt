@@ -8,6 +8,8 @@
 --   FTUnaryNot   = FTPrimary | 'ftnot' FTPrimary
 --   FTPrimary    = FTWords | FTWords FTTimes | '(' FTSelection ')'
 --   FTWords      = '"' words '"'
+--   FTTimes      = 'occurs' FTRange 'times'
+--   FTRange      = 'exactly' number | 'at' 'least' number | 'at' 'most' number | 'from' number 'to' number
 --
 -- One constructor for each production. `FTOr ts cs`: the tokens ts are an FTOr, and cs are its codes, in postfix order.
 use Prim.Native.Nat.{ℕ, suc, _≤_}
@@ -41,7 +43,7 @@ pub record Number (most : ℕ) (t : Token) : Type 0 where
   pub digits : t .sort ≡ digit
   pub within : valueOf t ≤ most
 
--- ---- words, times and filters
+-- ---- words, ranges, times and filters
 
 -- k word numbers
 pub data Words : ℕ → List Token → List Code → Type 0 where
@@ -53,29 +55,26 @@ pub data FTWords : List Token → List Code → Type 0 where
   quoted : {k : ℕ} {ts : List Token} {cs : List Code} {t u : Token} → Sign quote t → Words k ts cs → 1 ≤ k → k ≤ maxWords → Sign quote u
       → FTWords (t ∷ (ts ++ (u ∷ []))) (cs ++ (Phrase k ∷ []))
 
+-- "`exactly`, `at least` .., `at most` .. or `from .. to`": `between a b` is what `from a to b` makes, `least a` what `at least a` does
+pub data FTRange {A : Type 0} (least : ℕ → A) (between : ℕ → ℕ → A) : List Token → A → Type 0 where
+  range-exactly : {b n : Token} → Keyword "exactly" b → Number maxNumber n → FTRange least between (b ∷ n ∷ []) (between (valueOf n) (valueOf n))
+  range-least : {b c n : Token} → Keyword "at" b → Keyword "least" c → Number maxNumber n → FTRange least between (b ∷ c ∷ n ∷ []) (least (valueOf n))
+  range-most : {b c n : Token} → Keyword "at" b → Keyword "most" c → Number maxNumber n
+      → FTRange least between (b ∷ c ∷ n ∷ []) (between 0 (valueOf n))
+  range-from : {b m c n : Token} → Keyword "from" b → Number maxNumber m → Keyword "to" c → Number maxNumber n
+      → FTRange least between (b ∷ m ∷ c ∷ n ∷ []) (between (valueOf m) (valueOf n))
+
 -- F-3: "`at least` is kind 17", the other ranges kind 16
 pub data FTTimes : List Token → Times → Type 0 where
-  times-exactly : {a b n z : Token} → Keyword "occurs" a → Keyword "exactly" b → Number maxNumber n → Keyword "times" z
-      → FTTimes (a ∷ b ∷ n ∷ z ∷ []) (FromTo (valueOf n) (valueOf n))
-  times-least : {a b c n z : Token} → Keyword "occurs" a → Keyword "at" b → Keyword "least" c → Number maxNumber n → Keyword "times" z
-      → FTTimes (a ∷ b ∷ c ∷ n ∷ z ∷ []) (AtLeast (valueOf n))
-  times-most : {a b c n z : Token} → Keyword "occurs" a → Keyword "at" b → Keyword "most" c → Number maxNumber n → Keyword "times" z
-      → FTTimes (a ∷ b ∷ c ∷ n ∷ z ∷ []) (FromTo 0 (valueOf n))
-  times-from : {a b m c n z : Token} → Keyword "occurs" a → Keyword "from" b → Number maxNumber m → Keyword "to" c → Number maxNumber n
-      → Keyword "times" z → FTTimes (a ∷ b ∷ m ∷ c ∷ n ∷ z ∷ []) (FromTo (valueOf m) (valueOf n))
+  times : {us : List Token} {k : Times} {a z : Token} → Keyword "occurs" a → FTRange AtLeast FromTo us k → Keyword "times" z
+      → FTTimes (a ∷ (us ++ (z ∷ []))) k
 
 pub data FTPosFilter : List Token → Filter → Type 0 where
   ordered : {a : Token} → Keyword "ordered" a → FTPosFilter (a ∷ []) Ordered
   window : {a n z : Token} → Keyword "window" a → Number maxNumber n → Keyword "words" z → FTPosFilter (a ∷ n ∷ z ∷ []) (Window (valueOf n))
   -- "Distance takes `exactly`, `at least` (to 4,095), `at most` (from 0) or `from .. to`."
-  distance-exactly : {a b n z : Token} → Keyword "distance" a → Keyword "exactly" b → Number maxNumber n → Keyword "words" z
-      → FTPosFilter (a ∷ b ∷ n ∷ z ∷ []) (Distance (valueOf n) (valueOf n))
-  distance-least : {a b c n z : Token} → Keyword "distance" a → Keyword "at" b → Keyword "least" c → Number maxNumber n → Keyword "words" z
-      → FTPosFilter (a ∷ b ∷ c ∷ n ∷ z ∷ []) (Distance (valueOf n) maxDistance)
-  distance-most : {a b c n z : Token} → Keyword "distance" a → Keyword "at" b → Keyword "most" c → Number maxNumber n → Keyword "words" z
-      → FTPosFilter (a ∷ b ∷ c ∷ n ∷ z ∷ []) (Distance 0 (valueOf n))
-  distance-from : {a b m c n z : Token} → Keyword "distance" a → Keyword "from" b → Number maxNumber m → Keyword "to" c → Number maxNumber n
-      → Keyword "words" z → FTPosFilter (a ∷ b ∷ m ∷ c ∷ n ∷ z ∷ []) (Distance (valueOf m) (valueOf n))
+  distance : {us : List Token} {f : Filter} {a z : Token} → Keyword "distance" a → FTRange (λ n. Distance n maxDistance) Distance us f
+      → Keyword "words" z → FTPosFilter (a ∷ (us ++ (z ∷ []))) f
   same-sentence : {a b : Token} → Keyword "same" a → Keyword "sentence" b → FTPosFilter (a ∷ b ∷ []) SameSentence
   same-paragraph : {a b : Token} → Keyword "same" a → Keyword "paragraph" b → FTPosFilter (a ∷ b ∷ []) SameParagraph
   different-sentence : {a b : Token} → Keyword "different" a → Keyword "sentence" b → FTPosFilter (a ∷ b ∷ []) DifferentSentence

@@ -232,7 +232,7 @@ abbrev pub entireContent : Section → Keeping
 entireContent s = keepsWhole (λ is. allOf (covered (keep (λ i. i .contiguous) is)) (fromTo 1 (s .tokens)))
 
 -- Document 02, F-3. Occurs at least a: "every choice of a or more of the phrase's matches, fewest first, equal sizes in order of first difference by
--- position, each choice joined as and would."
+-- position, each choice joined as and would." So the choices of a, of a + 1, .. up to that of all.
 
 unfoldable pub joinedAll : List Match → Match
 joinedAll [] = noStrings

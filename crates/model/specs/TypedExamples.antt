@@ -53,6 +53,8 @@ examples =
     (codes (Word 1 ∷ Word 2 ∷ Phrase 2 ∷ Occurs (FromTo 2 2) ∷ Word 3 ∷ Phrase 1 ∷ Occurs (FromTo 0 2) ∷ Not ∷ Combine Or ∷ []))
     ∷ reads "(\"1\"occurs from 3 to 9 times)window 3 words" (codes (Word 1 ∷ Phrase 1 ∷ Occurs (FromTo 3 9) ∷ Filtered (Window 3) ∷ []))
     -- codes that document 01 refuses
+    ∷ reads "\"1\" occurs from 3 to 2 times ftor \"2\" occurs at least 4096 times"
+    (codes (Word 1 ∷ Phrase 1 ∷ Occurs (FromTo 3 2) ∷ Word 2 ∷ Phrase 1 ∷ Occurs (AtLeast 4096) ∷ Combine Or ∷ []))
     ∷ reads "\"1\" window 0 words distance from 3 to 2 words " (codes (Word 1 ∷ Phrase 1 ∷ Filtered (Window 0) ∷ Filtered (Distance 3 2) ∷ []))
     -- 10, the grammar doesn't allow the token, or the end
     ∷ reads "" (fails 10 1)

@@ -10,7 +10,7 @@ pub const MAX_WAITING: u32 = 8;
 pub const MAX_WINDOW: u32 = 4096;
 // "a ≤ b ≤ 4,095"
 pub const MAX_DISTANCE: u32 = 4095;
-// Document 02, F-3: "occurs from a to b (operand as kind 8), and kind 17, occurs at least a (0 to 4,095)"
+// Document 02, F-3: "occurs at least a (0 to 4,095)"
 pub const MAX_TIMES: u32 = 4095;
 // "its list has over 256 matches or 512 strings"
 pub const MAX_MATCHES: u32 = 256;
@@ -20,7 +20,7 @@ pub const MAX_STRINGS: u32 = 512;
 pub const WORK_LENGTH: usize = 12800;
 
 pub const BUFFER_LENGTH: usize = 1282;
-// "A place is paragraph × 65,536 + sentence"; a span and the operand of kind 8 hold two numbers in the same way
+// "A place is paragraph × 65,536 + sentence"; a span and the operands of kinds 8 and 16 hold two numbers in the same way
 pub const RADIX: u32 = 65536;
 // Document 02, F-1: "text of at most 2,048 bytes"
 pub const MAX_TEXT: usize = 2048;

@@ -1,5 +1,5 @@
--- Laws of binomial, of choose and of chosen: how the number of choices of one size comes from the next by a product and a quotient, that there are so many
--- choices, and that choice number c stands at c among them.
+-- Laws of binomial, choose and chosen: the number of choices of one size comes from that of the next by a product and a quotient; there are so many
+-- choices; and choice number c stands at c among them.
 use Prim.Native.Nat.{ℕ, zero, suc, _+_, _-_, _*_, _/_, _≤_, _<_}
 use native.Mathlib.Omega.{arith}
 use native.Mathlib.Nat.{suc-mul, mul-zero, mul-add, add-mul, mul-comm, div-eq-of-eq-mul-right}
@@ -12,7 +12,7 @@ use lib.ListN.{length, getD, length-append, length-map, List·getD-append}
 use lib.Seq.{getD-append-add}
 use Rattle.model.specs.Lists.{Every, choose}
 use Rattle.model.proofs.EveryLaws.{every-append, every-map, every-getD}
-use Rattle.model.proofs.RulesLaws.{getD-map}
+use Rattle.model.proofs.RulesLaws.{length-none, getD-map}
 use Rattle.occurs.specs.Binomial.{binomial, chosen}
 
 -- ---- binomial
@@ -80,7 +80,7 @@ size-down n k h = div-eq-of-eq-mul-right (omega arith) (mul-comm (binomial n (su
 
 -- ---- choose
 
--- the choices with an element, and those after them
+-- the choices that have the first element, x
 abbrev withFirst : {A : Type 0} → A → ℕ → List A → List (List A)
 withFirst x k xs = map (λ ys. x ∷ ys) (choose k xs)
 
@@ -109,10 +109,7 @@ module _ {A : Type 0} where
 
   -- of more elements than there are, no choice; and of all of them, one
   choose-none : (k : ℕ) (xs : List A) → length xs < k → choose k xs ≡ []
-  unfolding choose
-  choose-none zero xs h = absurd (omega arith)
-  choose-none (suc k) [] h = refl
-  choose-none (suc k) (x ∷ xs) h = ap₂ (λ ys zs. map (λ y. x ∷ y) ys ++ zs) (choose-none k xs (omega arith)) (choose-none (suc k) xs (omega arith))
+  choose-none k xs h = length-none (choose k xs) (length-choose k xs ∙ binomial-none (length xs) k h)
 
   pub choose-all : (xs : List A) → choose (length xs) xs ≡ xs ∷ []
   unfolding choose
@@ -124,8 +121,8 @@ unfolding choose
 choose-map f zero xs = refl
 choose-map f (suc k) [] = refl
 choose-map f (suc k) (x ∷ xs) =
-    ap₂ _++_ (ap (map (λ ys. f x ∷ ys)) (choose-map f k xs) ∙ map-map (λ ys. f x ∷ ys) (map f) (choose k xs) ∙ sym (map-map (map f) (λ ys. x ∷ ys) (choose k xs)))
-    (choose-map f (suc k) xs)
+    let front = map-map (λ ys. f x ∷ ys) (map f) (choose k xs) ∙ sym (map-map (map f) (λ ys. x ∷ ys) (choose k xs)) in
+    ap₂ _++_ (ap (map (λ ys. f x ∷ ys)) (choose-map f k xs) ∙ front) (choose-map f (suc k) xs)
     ∙ sym (map-append (map f) (withFirst x k xs) (choose (suc k) xs))
 
 -- ---- chosen
@@ -167,4 +164,6 @@ module _ {A : Type 0} where
           ∙ getD-append-add (withFirst x k xs) (choose (suc k) xs) (c - binomial (length xs) k) [] ∙ without (omega arith)
 
   pub length-chosen : (k : ℕ) (xs : List A) (c : ℕ) → c < binomial (length xs) k → length (chosen k xs c) ≡ k
-  length-chosen k xs c h = ap length (sym (choose-at k xs c h)) ∙ every-getD (λ ys. length ys ≡ k) (choose k xs) [] c (omega (arith, length-choose k xs)) (lengths-choose k xs)
+  length-chosen k xs c h =
+      ap length (sym (choose-at k xs c h))
+      ∙ every-getD (λ ys. length ys ≡ k) (choose k xs) [] c (omega (arith, length-choose k xs)) (lengths-choose k xs)

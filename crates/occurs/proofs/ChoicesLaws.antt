@@ -1,4 +1,4 @@
--- Three loops, each of which writes the next after the others (Rows): a choice joined with every match of the not, every choice of a size, every size.
+-- Three loops, each of which writes the next after the others (Rows): a choice with every match of the not, every choice of a size, every size.
 use Prim.Native.Nat.{ℕ, suc, _+_, _-_, _*_, _/_, _≤_, _<_}
 use native.Mathlib.Omega.{arith}
 use native.Mathlib.Numerals.{add-one}
@@ -38,13 +38,15 @@ pub record Joining (excess : ℕ) (ss is : List Str) (mem₀ : List ℕ) (at n :
   pub rows : Rows (joinedNumbers excess ss is) (upFrom 0 n) (upFrom d (n - d)) mem₀ mem at q
 
 module _ {mem₀ : List ℕ} {src k total c excess at : ℕ} (w : ChoiceAt mem₀ src k total c excess at) where
-  pub join-start : {m n : ℕ} → m ≡ matchesAt mem₀ src → n ≡ notMatches excess m → Joining excess (w .finds) (chosen k (w .finds) c) mem₀ at n mem₀ at 0
+  pub join-start : {m n : ℕ} → m ≡ matchesAt mem₀ src → n ≡ notMatches excess m
+      → Joining excess (w .finds) (chosen k (w .finds) c) mem₀ at n mem₀ at 0
   join-start {n = n} e f =
       let none : n - 0 ≡ n = omega arith in
       record { n-is = f ∙ ap (notMatches excess) (e ∙ finds-counted (w .finds) (w .source .slot)); rows = rw none rows-start }
 
   module _ {n : ℕ} {mem : List ℕ} {q d : ℕ} (g : Joining excess (w .finds) (chosen k (w .finds) c) mem₀ at n mem q d) where
-    numbers : matchesNumbers (choiceWithNot excess (w .finds) (chosen k (w .finds) c)) ≡ flatMap (joinedNumbers excess (w .finds) (chosen k (w .finds) c)) (upFrom 0 n)
+    numbers : matchesNumbers (choiceWithNot excess (w .finds) (chosen k (w .finds) c))
+        ≡ flatMap (joinedNumbers excess (w .finds) (chosen k (w .finds) c)) (upFrom 0 n)
     numbers =
         choice-numbers excess (w .finds) (chosen k (w .finds) c)
         ∙ ap (λ j. flatMap (joinedNumbers excess (w .finds) (chosen k (w .finds) c)) (upFrom 0 j)) (sym (g .n-is))
@@ -66,10 +68,12 @@ module _ {mem₀ : List ℕ} {src k total c excess at : ℕ} (w : ChoiceAt mem�
             room = rows-room (g .rows) next-match (subst (λ xs. at + length xs ≤ length mem₀) numbers (w .room));
           }
 
-      pub join-step : {mem' : List ℕ} {q' : ℕ} → Put mem mem' q (matchNumbers (matchOf (chosen k (joined-at .finds) c) (notExcludes excess (joined-at .finds) d))) q'
+      pub join-step : {mem' : List ℕ} {q' : ℕ}
+          → ((x : JoinedAt mem src k total c excess d q)
+          → Put mem mem' q (matchNumbers (matchOf (chosen k (x .finds) c) (notExcludes excess (x .finds) d))) q')
           → Joining excess (w .finds) (chosen k (w .finds) c) mem₀ at n mem' q' (d + 1)
       unfolding joined-at
-      join-step v = record { n-is = g .n-is; rows = rows-step (g .rows) next-match v }
+      join-step v = record { n-is = g .n-is; rows = rows-step (g .rows) next-match (v joined-at) }
 
     pub join-finish : n ≤ d → Put mem₀ mem at (matchesNumbers (choiceWithNot excess (w .finds) (chosen k (w .finds) c))) q
     unfolding upFrom
@@ -113,10 +117,11 @@ module _ {mem₀ : List ℕ} {src k total excess at : ℕ} (w : ChoicesAt mem₀
             room = rows-room g next-choice (subst (λ xs. at + length xs ≤ length mem₀) (choices-numbers excess (w .finds) k) (w .room));
           }
 
-      pub choose-step : {mem' : List ℕ} {q' : ℕ} → Put mem mem' q (matchesNumbers (choiceWithNot excess (choice-at .finds) (chosen k (choice-at .finds) c))) q'
+      pub choose-step : {mem' : List ℕ} {q' : ℕ}
+          → ((x : ChoiceAt mem src k total c excess q) → Put mem mem' q (matchesNumbers (choiceWithNot excess (x .finds) (chosen k (x .finds) c))) q')
           → Choosing excess (w .finds) k mem₀ at mem' q' (c + 1)
       unfolding choice-at
-      choose-step v = rows-step g next-choice v
+      choose-step v = rows-step g next-choice (v choice-at)
 
     pub choose-finish : c ≤ total → total ≤ c → Put mem₀ mem at (matchesNumbers (choicesWithNot excess (w .finds) k)) q
     choose-finish h l =
@@ -186,7 +191,8 @@ module _ {mem₀ : List ℕ} {src a fewest excess at : ℕ} (w : SizesAt mem₀ 
             room = rows-room (g .rows) next-size (subst (λ xs. at + length xs ≤ length mem₀) (all-numbers a excess (w .finds)) (w .room));
           }
 
-      pub size-step : {mem' : List ℕ} {q' : ℕ} → Put mem mem' q (matchesNumbers (choicesWithNot excess (choices-at .finds) k)) q'
+      pub size-step : {mem' : List ℕ} {q' : ℕ}
+          → ((x : ChoicesAt mem src k total excess q) → Put mem mem' q (matchesNumbers (choicesWithNot excess (x .finds) k)) q')
           → Sizing excess (w .finds) a mem₀ at m mem' q' (k + 1) (total * (m - k) / (k + 1))
       unfolding choices-at
       size-step v =
@@ -195,7 +201,7 @@ module _ {mem₀ : List ℕ} {src a fewest excess at : ℕ} (w : SizesAt mem₀ 
             few-finds = g .few-finds;
             from-a = omega (arith, g .from-a);
             total-is = ap (λ t. t * (m - k) / (k + 1)) (g .total-is) ∙ size-up m k h;
-            rows = rows-step (g .rows) next-size v;
+            rows = rows-step (g .rows) next-size (v choices-at);
           }
 
     pub size-finish : m < k → Put mem₀ mem at (matchesNumbers (atLeastWithNot a excess (w .finds))) q

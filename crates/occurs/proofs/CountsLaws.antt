@@ -1,5 +1,5 @@
--- The choices counted from the one of all m finds down to those of a. What is counted so far are the choices of k or more, so that too many on the way are
--- too many at the end.
+-- The choices counted from the one of all m finds down to those of a. What is counted so far are the choices of k or more, so that too many on the
+-- way are too many at the end.
 use Prim.Native.Nat.{ℕ, zero, suc, _+_, _-_, _*_, _/_, _≤_, _<_}
 use native.Mathlib.Omega.{arith}
 use native.Mathlib.Nat.{mul-le-mul, mul-one, mul-comm, div-le-self}
@@ -75,7 +75,8 @@ module _ (m a : ℕ) where
   answer-counted {choices} {includes} {fewest} e = at (ltb maxMatches (choicesFrom m a) || ltb maxStrings (includesFrom m a)) refl e
     where
       at : (t : Bool) → (ltb maxMatches (choicesFrom m a) || ltb maxStrings (includesFrom m a)) ≡ t
-          → Choices choices includes fewest ≡ cond t TooMany (Choices (choicesFrom m a) (includesFrom m a) (binomial m a)) → Known choices includes fewest
+          → Choices choices includes fewest ≡ cond t TooMany (Choices (choicesFrom m a) (includesFrom m a) (binomial m a))
+          → Known choices includes fewest
       at true q e' = absurd (let z : _≡_ {A = ℕ} 0 1 = cc in omega arith)
       at false q e' =
           let b = both-false (ltb maxMatches (choicesFrom m a)) (ltb maxStrings (includesFrom m a)) q in
@@ -94,7 +95,8 @@ module _ (m a : ℕ) where
   answer-many e = at (ltb maxMatches (choicesFrom m a)) refl (ltb maxStrings (includesFrom m a)) refl e
     where
       at : (s : Bool) → ltb maxMatches (choicesFrom m a) ≡ s → (t : Bool) → ltb maxStrings (includesFrom m a) ≡ t
-          → TooMany ≡ cond (s || t) TooMany (Choices (choicesFrom m a) (includesFrom m a) (binomial m a)) → (maxMatches < choicesFrom m a) ⊎ (maxStrings < includesFrom m a)
+          → TooMany ≡ cond (s || t) TooMany (Choices (choicesFrom m a) (includesFrom m a) (binomial m a))
+          → (maxMatches < choicesFrom m a) ⊎ (maxStrings < includesFrom m a)
       at true p t q e' = inl (ltb-true maxMatches (choicesFrom m a) p)
       at false p true q e' = inr (ltb-true maxStrings (includesFrom m a) q)
       at false p false q e' = absurd (let z : _≡_ {A = ℕ} 0 1 = cc in omega arith)
@@ -133,7 +135,8 @@ record Next (m a j choices includes f : ℕ) : Type 0 where
   includes-are : includes + f * j ≡ includesFrom m j
   no-more : (choicesFrom m j ≤ choicesFrom m a) × (includesFrom m j ≤ includesFrom m a)
 
-next-of : {m a k fewest choices includes : ℕ} (j : ℕ) → Counting m a k fewest choices includes → a < k → k ≡ suc j → Next m a j choices includes (fewest * k / (m - k + 1))
+next-of : {m a k fewest choices includes : ℕ} (j : ℕ) → Counting m a k fewest choices includes → a < k → k ≡ suc j
+    → Next m a j choices includes (fewest * k / (m - k + 1))
 next-of {m} {a} {k} {fewest} {choices} {includes} j g h e =
     let d : m - k + 1 ≡ m - j = omega (arith, g .up-to) in
     let f : fewest * k / (m - k + 1) ≡ binomial m j =
@@ -142,7 +145,15 @@ next-of {m} {a} {k} {fewest} {choices} {includes} j g h e =
     record {
       f-is = f;
       choices-are = omega (arith, f, g .choices-are, choices-more m j (omega (arith, g .up-to)), ap (choicesFrom m) more);
-      includes-are = omega (arith, ap (λ x. x * j) f, mul-comm (binomial m j) j, g .includes-are, includes-more m j (omega (arith, g .up-to)), ap (includesFrom m) more);
+      includes-are =
+          omega (
+            arith,
+            ap (λ x. x * j) f,
+            mul-comm (binomial m j) j,
+            g .includes-are,
+            includes-more m j (omega (arith, g .up-to)),
+            ap (includesFrom m) more,
+          );
       no-more = choices-grow m j a (omega arith) (omega (arith, g .up-to));
     }
 
@@ -186,4 +197,6 @@ module _ {m a k fewest choices includes : ℕ} (g : Counting m a k fewest choice
 pub finish : {m a k fewest choices includes : ℕ} → Counting m a k fewest choices includes → k ≤ a → Choices choices includes fewest ≡ countedOf m a
 finish {m} {a} {k} g h =
     let e : k ≡ a = omega (arith, g .from-a) in
-    counted m a (g .choices-are ∙ ap (choicesFrom m) e) (g .includes-are ∙ ap (includesFrom m) e) (g .fewest-is ∙ ap (binomial m) e) (g .few) (g .short)
+    let c = g .choices-are ∙ ap (choicesFrom m) e in
+    let i = g .includes-are ∙ ap (includesFrom m) e in
+    counted m a c i (g .fewest-is ∙ ap (binomial m) e) (g .few) (g .short)

@@ -1,5 +1,5 @@
--- The excludes of a match of the not: none, one find, or both finds and then one of them again, each written after the other. A find becomes an exclude by its
--- tag's last bit.
+-- The excludes of a match of the not: none, one find, or both finds and then one of them again, each written after the other. A find becomes an
+-- exclude by its tag's last bit.
 use Prim.Native.Nat.{ℕ, _+_, _*_, _/_, _≤_, _<_}
 use native.Mathlib.Omega.{arith}
 use mathlib.Core.Path.{_≡_, refl, sym, ap, ap₂, _∙_, subst}
@@ -59,10 +59,10 @@ module _ {mem : List ℕ} {src excess d at : ℕ} (w : ExcludesAt mem src excess
           room = subst (λ x. at + 2 * notStrings x (length (w .finds)) ≤ length mem) e (w .room);
         }
 
-    pub one-exclude : {mem' : List ℕ} {next : ℕ} → Put mem mem' at (strsOf 1 (take 1 (drop d (single .finds)))) next
+    pub one-exclude : {mem' : List ℕ} {next : ℕ} → ((x : ExcludeAt mem src d at) → Put mem mem' at (strsOf 1 (take 1 (drop d (x .finds)))) next)
         → Put mem mem' at (strsOf 1 (notExcludes excess (w .finds) d)) next
     unfolding single notExcludes
-    one-exclude v = rw e v
+    one-exclude v = rw e (v single)
 
   -- three excludes, one by one
   module _ (no-none : excess ≡ 0 → ⊥) (no-one : excess ≡ 1 → ⊥) where
@@ -81,10 +81,13 @@ module _ {mem : List ℕ} {src excess d at : ℕ} (w : ExcludesAt mem src excess
     pub first : ExcludeAt mem src 0 at
     first = record { finds = w .finds; source = w .source; in-range = omega (arith, two-finds); room = omega (arith, room) }
 
-    module _ {E : List ℕ} {p : ℕ} (v : Put mem E at (strsOf 1 (take 1 (drop 0 (first .finds)))) p) where
+    module _ {E : List ℕ} {p : ℕ} (v : (x : ExcludeAt mem src 0 at) → Put mem E at (strsOf 1 (take 1 (drop 0 (x .finds)))) p) where
       first-put : Put mem E at (strsOf 1 (take 1 (drop 0 (w .finds)))) p
       unfolding first
-      first-put = v
+      first-put = v first
+
+      room-left : p + 4 ≤ length E
+      room-left = omega (arith, room, length-put first-put, first-put .next-is, length-one 0)
 
       pub second : ExcludeAt E src 1 p
       second =
@@ -92,13 +95,13 @@ module _ {mem : List ℕ} {src excess d at : ℕ} (w : ExcludesAt mem src excess
             finds = w .finds;
             source = source-below (w .source) (omega arith) first-put;
             in-range = omega (arith, two-finds);
-            room = omega (arith, room, length-put first-put, first-put .next-is, length-one 0);
+            room = omega (arith, room-left);
           }
 
-      module _ {F : List ℕ} {q : ℕ} (u : Put E F p (strsOf 1 (take 1 (drop 1 (second .finds)))) q) where
+      module _ {F : List ℕ} {q : ℕ} (u : (x : ExcludeAt E src 1 p) → Put E F p (strsOf 1 (take 1 (drop 1 (x .finds)))) q) where
         second-put : Put E F p (strsOf 1 (take 1 (drop 1 (w .finds)))) q
         unfolding second
-        second-put = u
+        second-put = u second
 
         pub third : ExcludeAt F src d q
         third =
@@ -106,15 +109,15 @@ module _ {mem : List ℕ} {src excess d at : ℕ} (w : ExcludesAt mem src excess
               finds = w .finds;
               source = source-below (source-below (w .source) (omega arith) first-put) (omega arith) second-put;
               in-range = subst (λ x. d < notMatches x (length (w .finds))) e (w .in-range);
-              room = omega (arith, room, length-put first-put, first-put .next-is, length-one 0, length-put second-put, second-put .next-is, length-one 1);
+              room = omega (arith, room-left, length-put second-put, second-put .next-is, length-one 1);
             }
 
-        pub three-excludes : {G : List ℕ} {next : ℕ} → Put F G q (strsOf 1 (take 1 (drop d (third .finds)))) next
+        pub three-excludes : {G : List ℕ} {next : ℕ} → ((x : ExcludeAt F src d q) → Put F G q (strsOf 1 (take 1 (drop d (x .finds)))) next)
             → Put mem G at (strsOf 1 (notExcludes excess (w .finds) d)) next
         unfolding third notExcludes
         three-excludes {G} {next} t =
             let ss = w .finds in
             let both : strsOf 1 (take 1 (drop 0 ss)) ++ strsOf 1 (take 1 (drop 1 ss)) ≡ strsOf 1 ss =
             sym (strsOf-append 1 (take 1 (drop 0 ss)) (take 1 (drop 1 ss))) ∙ ap (strsOf 1) (both-finds ss two-finds) in
-            rw e (subst (λ xs. Put mem G at xs next) (ap (λ xs. xs ++ strsOf 1 (take 1 (drop d ss))) both ∙ sym (strsOf-append 1 ss (take 1 (drop d ss))))
-            (put-append (put-append first-put second-put) t))
+            let all = ap (λ xs. xs ++ strsOf 1 (take 1 (drop d ss))) both ∙ sym (strsOf-append 1 ss (take 1 (drop d ss))) in
+            rw e (subst (λ xs. Put mem G at xs next) all (put-append (put-append first-put second-put) (t third)))

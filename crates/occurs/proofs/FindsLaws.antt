@@ -42,11 +42,10 @@ pub record FirstFind (mem : List ℕ) (from : ℕ) (s : Str) (ss : List Str) : T
 pub first-find : {mem : List ℕ} {from : ℕ} (s : Str) (ss : List Str) → Holds mem from (matchesNumbers (map find (s ∷ ss))) → FirstFind mem from s ss
 unfolding matchNumbers strsOf
 first-find {mem} {from} s ss h =
-    let both : Holds mem from (matchNumbers (find s) ++ matchesNumbers (map find ss)) = subst (Holds mem from) (matches-cons (find s) (map find ss)) h in
-    record {
-      string = holds-tail _ (holds-left (matchNumbers (find s)) (matchesNumbers (map find ss)) both);
-      after = holds-right (matchNumbers (find s)) (matchesNumbers (map find ss)) both;
-    }
+    let xs = matchNumbers (find s) in
+    let ys = matchesNumbers (map find ss) in
+    let both : Holds mem from (xs ++ ys) = subst (Holds mem from) (matches-cons (find s) (map find ss)) h in
+    record { string = holds-tail _ (holds-left xs ys both); after = holds-right xs ys both }
 
 -- find number d's string
 pub record FindAt (mem : List ℕ) (from : ℕ) (ss : List Str) (d : ℕ) : Type 0 where
@@ -57,11 +56,14 @@ pub record FindAt (mem : List ℕ) (from : ℕ) (ss : List Str) (d : ℕ) : Type
 
 pub find-at : {mem : List ℕ} {from : ℕ} (ss : List Str) (d : ℕ) → Holds mem from (matchesNumbers (map find ss)) → d < length ss → FindAt mem from ss d
 find-at [] d h k = absurd (omega arith)
-find-at {mem} (s ∷ ss) zero h k =
-    record { first = s; others = ss; is = refl; string = subst (λ p. Holds mem p (spanOf s ∷ tagOf 0 s ∷ [])) (omega arith) (first-find s ss h .string) }
-find-at {mem} (s ∷ ss) (suc d) h k =
+find-at {mem} {from} (s ∷ ss) zero h k =
+    let e : from + 1 ≡ from + 3 * 0 + 1 = omega arith in
+    record { first = s; others = ss; is = refl; string = subst (λ p. Holds mem p (spanOf s ∷ tagOf 0 s ∷ [])) e (first-find s ss h .string) }
+find-at {mem} {from} (s ∷ ss) (suc d) h k =
     let f = find-at ss d (first-find s ss h .after) (omega arith) in
-    record { first = f .first; others = f .others; is = f .is; string = subst (λ p. Holds mem p (spanOf (f .first) ∷ tagOf 0 (f .first) ∷ [])) (omega arith) (f .string) }
+    let t = f .first in
+    let e : from + 3 + 3 * d + 1 ≡ from + 3 * suc d + 1 = omega arith in
+    record { first = t; others = f .others; is = f .is; string = subst (λ p. Holds mem p (spanOf t ∷ tagOf 0 t ∷ [])) e (f .string) }
 
 -- ---- in a slot
 
@@ -76,7 +78,7 @@ module _ {mem : List ℕ} {src : ℕ} (finds : List Str) (s : SlotHolds mem src 
   finds-hold = slot-stream s (src + 2) _ refl refl .holds
 
 -- stores above the finds leave them, and what is to come lies above them too
-pub source-below : {finds : List Str} {mem mem' : List ℕ} {src at q next : ℕ} {xs : List ℕ} → Source finds mem src at → at ≤ q → Put mem mem' q xs next
-    → Source finds mem' src next
+pub source-below : {finds : List Str} {mem mem' : List ℕ} {src at q next : ℕ} {xs : List ℕ} → Source finds mem src at → at ≤ q
+    → Put mem mem' q xs next → Source finds mem' src next
 source-below {finds} s h v =
     record { slot = slot-below v {ms = map find finds} (omega (arith, s .below)) (s .slot); below = omega (arith, s .below, v .next-is) }

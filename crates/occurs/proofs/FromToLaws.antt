@@ -1,5 +1,5 @@
--- From a to b goes by how many finds are too many. With none, one, or both of two, it is at least a with the not that specs/WithNot.antt says. With two or
--- more, and three finds or more, it is too long: of four finds or more the not alone has over 256 matches, and of three the list has over 512 strings.
+-- From a to b goes by how many finds are too many. With none, one, or both of two, it is at least a with the not that specs/WithNot.antt says. With
+-- any other excess it is too long: of four finds or more the not alone has over 256 matches, and of three finds the list has over 512 strings.
 use Prim.Native.Nat.{ℕ, zero, suc, _+_, _-_, _*_, _≤_, _<_}
 use native.Mathlib.Omega.{arith}
 use native.Mathlib.Nat.{mul-le-mul, mul-one, one-le-mul, mul-assoc, eq-or-lt-of-le}
@@ -25,7 +25,9 @@ use Rattle.occurs.proofs.BinomialLaws.{binomial-some, binomial-almost, 
 use Rattle.occurs.proofs.CountsLaws.{choices-more}
 use Rattle.occurs.proofs.WithNotLaws.{choices-alone, atLeast-finds, nots, atLeast-and, length-choices, lengths-choices, length-alone}
 
-from-to : (a b excess : ℕ) (ss : List Str) → notList (atLeast (b + 1) (map find ss)) ≡ nots excess ss → fromToTimes a b (map find ss) ≡ atLeastWithNot a excess ss
+-- the not decides
+from-to : (a b excess : ℕ) (ss : List Str) → notList (atLeast (b + 1) (map find ss)) ≡ nots excess ss
+    → fromToTimes a b (map find ss) ≡ atLeastWithNot a excess ss
 unfolding fromToTimes
 from-to a b excess ss e = ap₂ andList (atLeast-finds a ss) e ∙ atLeast-and excess ss a
 
@@ -33,7 +35,8 @@ from-to a b excess ss e = ap₂ andList (atLeast-finds a ss) e ∙ atLeast-and e
 
 none-over : (a b : ℕ) (ss : List Str) → length ss ≤ b → fromToTimes a b (map find ss) ≡ atLeastWithNot a 0 ss
 unfolding notList upFrom notExcludes choiceWithNot atLeastWithNot flatMap
-none-over a b ss h = from-to a b 0 ss (ap notList (atLeast-finds (b + 1) ss ∙ ap (flatMap (choicesWithNot 0 ss)) (range-empty (b + 1) (length ss) (omega arith))))
+none-over a b ss h =
+    from-to a b 0 ss (ap notList (atLeast-finds (b + 1) ss ∙ ap (flatMap (choicesWithNot 0 ss)) (range-empty (b + 1) (length ss) (omega arith))))
 
 -- ---- one
 
@@ -41,7 +44,8 @@ none-over a b ss h = from-to a b 0 ss (ap notList (atLeast-finds (b + 1) ss ∙ 
 choices-all : (ss : List Str) → atLeastWithNot (length ss) 0 ss ≡ matchOf ss [] ∷ []
 unfolding atLeastWithNot flatMap
 choices-all ss =
-    ap (flatMap (choicesWithNot 0 ss)) (range-cons (length ss) (length ss) (omega arith) ∙ ap (λ ks. length ss ∷ ks) (range-empty (length ss + 1) (length ss) (omega arith)))
+    let m = length ss in
+    ap (flatMap (choicesWithNot 0 ss)) (range-cons m m (omega arith) ∙ ap (λ ks. m ∷ ks) (range-empty (m + 1) m (omega arith)))
     ∙ append-nil (choicesWithNot 0 ss (length ss)) ∙ choices-alone ss (length ss) ∙ ap (map (λ is. matchOf is [])) (choose-all ss)
 
 -- each find of a list by itself, from number d on
@@ -67,7 +71,8 @@ both-over a excess (s ∷ []) h = absurd (omega arith)
 both-over a excess (s ∷ t ∷ []) h = from-to a 0 (suc (suc excess)) (s ∷ t ∷ []) refl
 both-over a excess (s ∷ t ∷ u ∷ ss) h = absurd (omega arith)
 
-pub from-to-is : (a b excess : ℕ) (ss : List Str) → excess ≡ length ss - b → (2 ≤ excess → length ss ≡ 2) → fromToTimes a b (map find ss) ≡ atLeastWithNot a excess ss
+pub from-to-is : (a b excess : ℕ) (ss : List Str) → excess ≡ length ss - b → (2 ≤ excess → length ss ≡ 2)
+    → fromToTimes a b (map find ss) ≡ atLeastWithNot a excess ss
 from-to-is a b zero ss e h = none-over a b ss (omega arith)
 from-to-is a b (suc zero) ss e h = one-over a b ss (omega arith)
 from-to-is a b (suc (suc excess)) ss e h =
@@ -130,8 +135,10 @@ module _ (ss : List Str) where
   not-grow zero c h k = let e : c + 0 ≡ c = omega arith in rw e (omega arith)
   not-grow (suc d) c h k =
       let e : c + suc d ≡ c + 1 + d = omega arith in
-      let some : 1 ≤ choices (choicesWithNot 0 ss c) = not-some (choicesWithNot 0 ss c) (every-weaker _ _ (λ m l. omega arith) (choicesWithNot 0 ss c) (lengths-choices ss c)) in
-      let grow : 1 * choices (atLeastWithNot (c + 1) 0 ss) ≤ choices (choicesWithNot 0 ss c) * choices (atLeastWithNot (c + 1) 0 ss) = mul-le-mul some (omega arith) in
+      let these = choicesWithNot 0 ss c in
+      let more = atLeastWithNot (c + 1) 0 ss in
+      let some : 1 ≤ choices these = not-some these (every-weaker _ _ (λ m l. omega arith) these (lengths-choices ss c)) in
+      let grow : 1 * choices more ≤ choices these * choices more = mul-le-mul some (omega arith) in
       rw e (omega (arith, not-more c (omega arith), not-grow d (c + 1) (omega arith) (omega arith)))
 
   -- all finds but one, and all finds
@@ -159,7 +166,8 @@ module _ (ss : List Str) where
         ap (λ j. choices (atLeastWithNot j 0 ss)) at,
         not-grow (n - (b + 1)) (b + 1) (omega arith) (omega arith),
       ) in
-      let some : 1 ≤ length (atLeastWithNot a 0 ss) = omega (arith, length-alone ss a, choices-more (length ss) a (omega arith), binomial-some (length ss) a (omega arith)) in
+      let some : 1 ≤ length (atLeastWithNot a 0 ss) =
+      omega (arith, length-alone ss a, choices-more (length ss) a (omega arith), binomial-some (length ss) a (omega arith)) in
       let both : 1 * 324 ≤ length (atLeastWithNot a 0 ss) * choices (atLeastWithNot (b + 1) 0 ss) = mul-le-mul some most in
       omega (
         arith,
@@ -169,4 +177,7 @@ module _ (ss : List Str) where
 
   pub from-to-long : (a b : ℕ) → a ≤ b → b + 2 ≤ length ss → 3 ≤ length ss → tooLong (fromToTimes a b (map find ss)) ≡ true
   from-to-long a b h k l =
-      ⊎-elim (λ e. three-long a b ss (sym e) h (omega arith)) (λ more. long (fromToTimes a b (map find ss)) (inl (many-long a b more k h))) (eq-or-lt-of-le l)
+      ⊎-elim
+      (λ three. three-long a b ss (sym three) h (omega arith))
+      (λ more. long (fromToTimes a b (map find ss)) (inl (many-long a b more k h)))
+      (eq-or-lt-of-le l)

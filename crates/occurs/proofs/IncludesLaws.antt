@@ -1,5 +1,5 @@
--- The includes of a choice, written by a walk over the finds. What is left of the choice's number is a number of a choice from the finds left: below the
--- number of the choices with the next find it has that find, and from there on it goes on without it.
+-- The includes of a choice, written by a walk over the finds. What is left of the choice's number is the number of a choice from the finds left:
+-- below the number of the choices with the next find, it has that find; else it goes on without it.
 use Prim.Native.Nat.{ℕ, suc, _+_, _-_, _*_, _/_, _≤_, _<_}
 use native.Mathlib.Omega.{arith}
 use native.Mathlib.Nat.{mul-le-mul}
@@ -57,7 +57,7 @@ start {k = k} w e =
       room = w .room;
     }
 
--- the next find, and how many choices have it; one find is left to choose beside l others
+-- the next find, and how many choices have it: those of l from the finds after it
 record Here (todo : List Str) (mem : List ℕ) (n from left weight l : ℕ) : Type 0 where
   first : Str
   others : List Str
@@ -67,8 +67,8 @@ record Here (todo : List Str) (mem : List ℕ) (n from left weight l : ℕ) : Ty
   with-is : weight * left / n ≡ binomial (length others) l
   all-are : weight ≡ binomial (length others) l + binomial (length others) left
 
-here-of : (todo : List Str) {mem : List ℕ} {n from left weight l : ℕ} → Holds mem from (matchesNumbers (map find todo)) → length todo ≡ n → weight ≡ binomial n left
-    → 0 < weight → left ≡ suc l → Here todo mem n from left weight l
+here-of : (todo : List Str) {mem : List ℕ} {n from left weight l : ℕ} → Holds mem from (matchesNumbers (map find todo)) → length todo ≡ n
+    → weight ≡ binomial n left → 0 < weight → left ≡ suc l → Here todo mem n from left weight l
 unfolding binomial
 here-of [] {n = n} {left = left} h e w r f = absurd (omega (arith, binomial-none n left (omega arith)))
 here-of (s ∷ ss) {weight = weight} {l = l} h e w r f =
@@ -91,7 +91,8 @@ pub record Turn (mem : List ℕ) (n from q left weight : ℕ) : Type 0 where
   pub below : from + 3 ≤ q
   pub room : q + 2 ≤ length mem
 
-module _ {finds : List Str} {mem₀ : List ℕ} {k c at : ℕ} {mem : List ℕ} {n from q left rest weight : ℕ} (g : Including finds mem₀ k c at mem n from q left rest weight) where
+module _ {finds : List Str} {mem₀ : List ℕ} {k c at : ℕ} {mem : List ℕ} {n from q left rest weight : ℕ}
+    (g : Including finds mem₀ k c at mem n from q left rest weight) where
   pub finish : left ≤ 0 → Put mem₀ mem at (strsOf 0 (chosen k finds c)) q
   unfolding chosen
   finish h =
@@ -136,7 +137,8 @@ module _ {finds : List Str} {mem₀ : List ℕ} {k c at : ℕ} {mem : List ℕ} 
         }
 
     -- it goes on without it
-    pub skip-next : weight * left / n ≤ rest → Including finds mem₀ k c at mem (n - 1) (from + 3) q left (rest - weight * left / n) (weight - weight * left / n)
+    pub skip-next : weight * left / n ≤ rest
+        → Including finds mem₀ k c at mem (n - 1) (from + 3) q left (rest - weight * left / n) (weight - weight * left / n)
     skip-next h =
         let s = here .first in
         let ss = here .others in

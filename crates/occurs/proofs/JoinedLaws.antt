@@ -42,10 +42,10 @@ module _ {mem : List ℕ} {src k total c excess d at : ℕ} (w : JoinedAt mem sr
         room = omega (arith, room);
       }
 
-  module _ {E : List ℕ} {b : ℕ} (v : Put mem E (at + 1) (strsOf 0 (chosen k (includes-at .finds) c)) b) where
+  module _ {E : List ℕ} {b : ℕ} (v : (i : IncludesAt mem src k total c (at + 1)) → Put mem E (at + 1) (strsOf 0 (chosen k (i .finds) c)) b) where
     includes-put : Put mem E (at + 1) (strsOf 0 (chosen k (w .finds) c)) b
     unfolding includes-at
-    includes-put = v
+    includes-put = v includes-at
 
     pub excludes-at : ExcludesAt E src excess d b
     excludes-at =
@@ -57,19 +57,27 @@ module _ {mem : List ℕ} {src k total c excess d at : ℕ} (w : JoinedAt mem sr
           room = omega (arith, room, includes-put .next-is, length-strsOf 0 (chosen k (w .finds) c), includes-length, length-put includes-put);
         }
 
-    module _ {F : List ℕ} {e : ℕ} (u : Put E F b (strsOf 1 (notExcludes excess (excludes-at .finds) d)) e) where
+    module _ {F : List ℕ} {e : ℕ} (u : (x : ExcludesAt E src excess d b) → Put E F b (strsOf 1 (notExcludes excess (x .finds) d)) e) where
       excludes-put : Put E F b (strsOf 1 (notExcludes excess (w .finds) d)) e
       unfolding excludes-at
-      excludes-put = u
+      excludes-put = u excludes-at
 
       -- the counts of both fit in a header
       pub ends : ClosingMatch (length F) at b e
       unfolding made
       ends =
           closing-match at made includes-put excludes-put
-          (omega (arith, includes-length, excludes-length, w .size .small, finds-few (w .finds) (w .source .slot), notStrings-few excess (length (w .finds))))
+          (omega (
+            arith,
+            includes-length,
+            w .size .small,
+            excludes-length,
+            notStrings-few excess (length (w .finds)),
+            finds-few (w .finds) (w .source .slot),
+          ))
           (omega (arith, room))
 
-      pub whole : {exit : List ℕ} → exit ≡ set F at (headerBetween at b e) → Put mem exit at (matchNumbers (matchOf (chosen k (w .finds) c) (notExcludes excess (w .finds) d))) e
+      pub whole : {exit : List ℕ} → exit ≡ set F at (headerBetween at b e)
+          → Put mem exit at (matchNumbers (matchOf (chosen k (w .finds) c) (notExcludes excess (w .finds) d))) e
       unfolding made
       whole h = closed-match at made includes-put excludes-put h

@@ -1,14 +1,14 @@
--- From the counts to the outcome of a rule: at least a with the not has the sizes that are counted, and each rule's list is one of those, or too long.
+-- From the counts to the outcome of a rule: at least a with the not has the sizes that are counted, and each rule's list is of this form or too long.
 use Prim.Native.Nat.{ℕ, _+_, _-_, _*_, _≤_, _<_}
 use native.Mathlib.Omega.{arith}
 use native.Mathlib.Nat.{mul-le-mul, one-mul}
 use mathlib.Core.Path.{_≡_, refl, sym, ap, ap₂, _∙_, subst}
 use mathlib.Core.Bool.{true}
 use mathlib.Core.List.{List, [], _∷_, map}
-use mathlib.Core.Logic.{inl, inr, ⊎-elim}
+use mathlib.Core.Logic.{_⊎_, inl, inr, ⊎-elim}
 use lib.ListN.{length}
 use lib.Seq.{sets}
-use Rattle.model.specs.Limits.{maxMatches}
+use Rattle.model.specs.Limits.{maxMatches, maxStrings}
 use Rattle.model.specs.Matches.{Match, strings, tooLong}
 use Rattle.model.specs.Rules.{atLeast, fromToTimes}
 use Rattle.store.specs.declared.Built.{Built}
@@ -23,7 +23,7 @@ use Rattle.store.proofs.SlotsLaws.{built-long, answer-made, refused, filled}
 use Rattle.occurs.specs.declared.counts.Counted.{Counted}
 use Rattle.occurs.specs.declared.counts.Counted.the-variants.{Choices, TooMany}
 use Rattle.occurs.specs.Binomial.{binomial}
-use Rattle.occurs.specs.Counts.{choicesFrom, includesFrom, countedOf}
+use Rattle.occurs.specs.Counts.{choicesFrom, includesFrom, countedOf, sizeWithNot}
 use Rattle.occurs.specs.Finds.{find, FindsAt}
 use Rattle.occurs.specs.WithNot.{notMatches, notStrings, atLeastWithNot}
 use Rattle.occurs.specs.Writing.{ExcessAt, SizesAt}
@@ -68,17 +68,18 @@ module _ {mem : List ℕ} {src excess m : ℕ} (w : ExcessAt mem src excess) (m-
       pub choices-refused : {exit : List ℕ} {at : ℕ} → counted ≡ TooMany → Outcome (atLeastWithNot a excess (w .finds)) mem exit at TooLong
       unfolding list
       choices-refused t =
-          refused (built-long list (⊎-elim (λ h. inl (omega (arith, no-fewer))) (λ h. inr (omega (arith, no-fewer))) (answer-many m a (sym t ∙ e)))) refl
+          let many : (maxMatches < length list) ⊎ (maxStrings < strings list) =
+          ⊎-elim (λ h. inl (omega (arith, no-fewer))) (λ h. inr (omega (arith, no-fewer))) (answer-many m a (sym t ∙ e)) in
+          refused (built-long list many) refl
 
       module _ {choices includes fewest : ℕ} (t : counted ≡ Choices choices includes fewest) where
         pub known : Known m a choices includes fewest
         known = answer-counted m a (sym t ∙ e)
 
-        module _ {size : Built} (f : size ≡ sizedAs (notMatches excess m * choices) (notMatches excess m * (includes + choices * notStrings excess m))) where
+        module _ {size : Built} (f : size ≡ sizeWithNot m excess choices includes) where
           size-is : size ≡ builtOf list
           size-is =
-              f
-              ∙ ap₂ (λ c s. sizedAs (notMatches excess m * c) (notMatches excess m * (s + c * notStrings excess m))) (known .choices-are) (known .includes-are)
+              f ∙ ap₂ (sizeWithNot m excess) (known .choices-are) (known .includes-are)
               ∙ ap₂ (λ x y. sizedAs x y) (sym length-is) (sym strings-is)
 
           pub size-refused : {exit : List ℕ} {at : ℕ} → size ≡ TooLong → Outcome (atLeastWithNot a excess (w .finds)) mem exit at size
@@ -100,10 +101,11 @@ module _ {mem : List ℕ} {src excess m : ℕ} (w : ExcessAt mem src excess) (m-
                   room = omega (arith, length-matches list, z .small .few, z .small .strs, u .room);
                 }
 
-            pub whole : {E exit : List ℕ} {next : ℕ} → Put mem E (at + 2) (matchesNumbers (atLeastWithNot a excess (sizes-at .finds))) next
+            pub whole : {E exit : List ℕ} {next : ℕ}
+                → ((s : SizesAt mem src a fewest excess (at + 2)) → Put mem E (at + 2) (matchesNumbers (atLeastWithNot a excess (s .finds))) next)
                 → exit ≡ sets E at (matches ∷ strs ∷ []) → Outcome (atLeastWithNot a excess (w .finds)) mem exit at (Made matches strs)
             unfolding sizes-at list
-            whole v h = filled (sym g ∙ size-is) v h
+            whole v h = filled (sym g ∙ size-is) (v sizes-at) h
 
 -- ---- the two rules
 
@@ -112,10 +114,11 @@ module _ {mem : List ℕ} {src : ℕ} (w : FindsAt mem src) where
   pub none-at : ExcessAt mem src 0
   none-at = record { finds = w .finds; slot = w .slot; too-many = record { up-to = omega arith; two = λ h. absurd (omega arith) } }
 
-  pub at-least-made : (a : ℕ) {exit : List ℕ} {at : ℕ} {built : Built} → Outcome (atLeastWithNot a 0 (none-at .finds)) mem exit at built
+  pub at-least-made : (a : ℕ) {exit : List ℕ} {at : ℕ} {built : Built}
+      → ((x : ExcessAt mem src 0) → Outcome (atLeastWithNot a 0 (x .finds)) mem exit at built)
       → Outcome (atLeast a (map find (w .finds))) mem exit at built
   unfolding none-at
-  at-least-made a {exit} {at} {built} o = subst (λ l. Outcome l mem exit at built) (sym (atLeast-finds a (w .finds))) o
+  at-least-made a {exit} {at} {built} o = subst (λ l. Outcome l mem exit at built) (sym (atLeast-finds a (w .finds))) (o none-at)
 
   -- from a to b: so many of the m finds are too many
   module _ {m : ℕ} (m-is : m ≡ matchesAt mem src) where
@@ -125,15 +128,18 @@ module _ {mem : List ℕ} {src : ℕ} (w : FindsAt mem src) where
     pub from-to-refused : (a b : ℕ) {excess : ℕ} {exit : List ℕ} {at : ℕ} → a ≤ b → excess ≡ m - b → 1 < excess → 2 < m
         → Outcome (fromToTimes a b (map find (w .finds))) mem exit at TooLong
     from-to-refused a b h e k l =
-        let long : tooLong (fromToTimes a b (map find (w .finds))) ≡ true = from-to-long (w .finds) a b h (omega (arith, m-are)) (omega (arith, m-are)) in
+        let long : tooLong (fromToTimes a b (map find (w .finds))) ≡ true =
+        from-to-long (w .finds) a b h (omega (arith, m-are)) (omega (arith, m-are)) in
         refused (rw long) refl
 
     module _ {excess : ℕ} (up-to : excess ≤ m) (two : 2 ≤ excess → m ≡ 2) where
       pub excess-at : ExcessAt mem src excess
       excess-at = record { finds = w .finds; slot = w .slot; too-many = record { up-to = omega (arith, m-are); two = λ h. sym m-are ∙ two h } }
 
-      pub from-to-made : (a b : ℕ) {exit : List ℕ} {at : ℕ} {built : Built} → excess ≡ m - b → Outcome (atLeastWithNot a excess (excess-at .finds)) mem exit at built
+      pub from-to-made : (a b : ℕ) {exit : List ℕ} {at : ℕ} {built : Built} → excess ≡ m - b
+          → ((x : ExcessAt mem src excess) → Outcome (atLeastWithNot a excess (x .finds)) mem exit at built)
           → Outcome (fromToTimes a b (map find (w .finds))) mem exit at built
       unfolding excess-at
       from-to-made a b {exit} {at} {built} e o =
-          subst (λ l. Outcome l mem exit at built) (sym (from-to-is a b excess (w .finds) (e ∙ ap (λ x. x - b) m-are) (λ h. sym m-are ∙ two h))) o
+          let is = from-to-is a b excess (w .finds) (e ∙ ap (λ x. x - b) m-are) (λ h. sym m-are ∙ two h) in
+          subst (λ l. Outcome l mem exit at built) (sym is) (o excess-at)

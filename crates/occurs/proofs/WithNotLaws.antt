@@ -1,8 +1,9 @@
--- The list of both occurs: with nothing to deny it is at least a; otherwise it is the and of that with the not's matches, so that its sizes come from the and's.
+-- The list of both occurs: with no find too many it is at least a, and else the and of that list with the not's matches, so that its sizes come from
+-- the and's.
 use Prim.Native.Nat.{ℕ, zero, suc, _+_, _*_, _≤_, _<_}
 use native.Mathlib.Omega.{arith}
 use native.Mathlib.Nat.{mul-le-mul, suc-mul, mul-add, mul-comm, mul-left-comm}
-use mathlib.Core.Path.{_≡_, refl, sym, ap, ap₂, _∙_}
+use mathlib.Core.Path.{_≡_, refl, sym, ap, ap₂, _∙_, fun-ext}
 use mathlib.Core.List.{List, [], _∷_, _++_, map, flatMap, append-nil, map-map}
 use lib.ListN.{length, take, drop, length-append, length-map, length-drop}
 use lib.Seq.{length-take-le}
@@ -11,7 +12,7 @@ use Rattle.model.specs.Lists.{Every, choose, upFrom, fromTo}
 use Rattle.model.specs.Matches.{Str, Match, stringsIn, strings}
 use Rattle.model.specs.Rules.{joined, andList, joinedAll, choicesOf, atLeast}
 use Rattle.model.proofs.EveryLaws.{every-weaker, every-map, every-upFrom}
-use Rattle.model.proofs.ListsLaws.{flatMap-append, flatMap-same, length-upFrom}
+use Rattle.model.proofs.ListsLaws.{flatMap-append, length-upFrom}
 use Rattle.model.proofs.RulesLaws.{strings-append, length-and, strings-and}
 use Rattle.store.proofs.RowsLaws.{map-flatMap}
 use Rattle.occurs.specs.Binomial.{binomial}
@@ -45,14 +46,15 @@ notStrings-few zero m = omega arith
 notStrings-few (suc zero) m = omega arith
 notStrings-few (suc (suc excess)) m = omega arith
 
-pub length-notExcludes : (excess : ℕ) (ss : List Str) (d : ℕ) → d < notMatches excess (length ss) → length (notExcludes excess ss d) ≡ notStrings excess (length ss)
+pub length-notExcludes : (excess : ℕ) (ss : List Str) (d : ℕ) → d < notMatches excess (length ss)
+    → length (notExcludes excess ss d) ≡ notStrings excess (length ss)
 unfolding notExcludes
 length-notExcludes zero ss d h = refl
 length-notExcludes (suc zero) ss d h = length-take-le 1 (drop d ss) (omega (arith, length-drop d ss))
 length-notExcludes (suc (suc excess)) ss d h =
     omega (arith, length-append ss (take 1 (drop d ss)), length-take-le 1 (drop d ss) (omega (arith, length-drop d ss)))
 
--- ---- nothing to deny: at least a
+-- ---- no find too many: at least a
 
 pub choices-alone : (ss : List Str) (k : ℕ) → choicesWithNot 0 ss k ≡ map (λ is. matchOf is []) (choose k ss)
 unfolding choicesWithNot choiceWithNot upFrom notExcludes
@@ -63,26 +65,22 @@ unfolding joinedAll
 joined-finds [] = refl
 joined-finds (s ∷ ss) = ap (joined (find s)) (joined-finds ss)
 
-map-same : {A B : Type 0} (f g : A → B) → ((x : A) → f x ≡ g x) → (xs : List A) → map f xs ≡ map g xs
-map-same f g e [] = refl
-map-same f g e (x ∷ xs) = ap₂ _∷_ (e x) (map-same f g e xs)
-
 choices-finds : (ss : List Str) (k : ℕ) → choicesOf (map find ss) k ≡ choicesWithNot 0 ss k
 unfolding choicesOf
 choices-finds ss k =
     ap (map joinedAll) (choose-map find k ss) ∙ map-map joinedAll (map find) (choose k ss)
-    ∙ map-same (λ is. joinedAll (map find is)) (λ is. matchOf is []) joined-finds (choose k ss)
+    ∙ ap (λ f. map f (choose k ss)) (fun-ext joined-finds)
     ∙ sym (choices-alone ss k)
 
 pub atLeast-finds : (a : ℕ) (ss : List Str) → atLeast a (map find ss) ≡ atLeastWithNot a 0 ss
 unfolding atLeast atLeastWithNot
 atLeast-finds a ss =
     ap (λ n. flatMap (choicesOf (map find ss)) (fromTo a n)) (length-map ss find)
-    ∙ flatMap-same (choicesOf (map find ss)) (choicesWithNot 0 ss) (choices-finds ss) (fromTo a (length ss))
+    ∙ ap (λ f. flatMap f (fromTo a (length ss))) (fun-ext (choices-finds ss))
 
 -- ---- at least a, and the not
 
--- the not's matches: no find, joined with each of them
+-- the not's matches: the choice of no find, joined with each of them
 abbrev pub nots : ℕ → List Str → List Match
 nots excess ss = choiceWithNot excess ss []
 
@@ -101,13 +99,15 @@ module _ (excess : ℕ) (ss : List Str) where
 
   choices-and : (k : ℕ) → andList (choicesWithNot 0 ss k) (nots excess ss) ≡ choicesWithNot excess ss k
   unfolding andList choicesWithNot
-  choices-and k = flatMap-flatMap (λ l. map (joined l) (nots excess ss)) (choiceWithNot 0 ss) (choose k ss) ∙ flatMap-same _ (choiceWithNot excess ss) choice-and (choose k ss)
+  choices-and k =
+      flatMap-flatMap (λ l. map (joined l) (nots excess ss)) (choiceWithNot 0 ss) (choose k ss)
+      ∙ ap (λ f. flatMap f (choose k ss)) (fun-ext choice-and)
 
   pub atLeast-and : (a : ℕ) → andList (atLeastWithNot a 0 ss) (nots excess ss) ≡ atLeastWithNot a excess ss
   unfolding andList atLeastWithNot
   atLeast-and a =
       flatMap-flatMap (λ l. map (joined l) (nots excess ss)) (choicesWithNot 0 ss) (fromTo a (length ss))
-      ∙ flatMap-same _ (choicesWithNot excess ss) choices-and (fromTo a (length ss))
+      ∙ ap (λ f. flatMap f (fromTo a (length ss))) (fun-ext choices-and)
 
 -- ---- sizes
 
@@ -120,7 +120,9 @@ strings-same f n (x ∷ xs) a = omega (arith, a .0, strings-same f n xs (a .1), 
 module _ (excess : ℕ) (ss : List Str) where
   length-nots : length (nots excess ss) ≡ notMatches excess (length ss)
   unfolding choiceWithNot
-  length-nots = length-map (upFrom 0 (notMatches excess (length ss))) (λ d. matchOf [] (notExcludes excess ss d)) ∙ length-upFrom 0 (notMatches excess (length ss))
+  length-nots =
+      let n = notMatches excess (length ss) in
+      length-map (upFrom 0 n) (λ d. matchOf [] (notExcludes excess ss d)) ∙ length-upFrom 0 n
 
   strings-nots : strings (nots excess ss) ≡ notMatches excess (length ss) * notStrings excess (length ss)
   unfolding choiceWithNot
@@ -165,7 +167,8 @@ module _ (ss : List Str) where
 module _ (a excess : ℕ) (ss : List Str) where
   pub length-with-not : length (atLeastWithNot a excess ss) ≡ notMatches excess (length ss) * choicesFrom (length ss) a
   length-with-not =
-      ap length (sym (atLeast-and excess ss a)) ∙ length-and (atLeastWithNot a 0 ss) (nots excess ss) ∙ ap₂ _*_ (length-alone ss a) (length-nots excess ss)
+      ap length (sym (atLeast-and excess ss a)) ∙ length-and (atLeastWithNot a 0 ss) (nots excess ss)
+      ∙ ap₂ _*_ (length-alone ss a) (length-nots excess ss)
       ∙ mul-comm (choicesFrom (length ss) a) (notMatches excess (length ss))
 
   pub strings-with-not : strings (atLeastWithNot a excess ss)
@@ -180,13 +183,14 @@ module _ (a excess : ℕ) (ss : List Str) where
       ∙ sym (mul-add n I (C * notStrings excess (length ss)))
 
 -- the products that make these sizes, of so many choices with so many includes, are far below the largest u32
-module _ (m excess : ℕ) {choices includes n : ℕ} (h : m ≤ maxMatches) (few : choices ≤ maxMatches) (short : includes ≤ maxStrings) (n-is : n ≡ notMatches excess m) where
+module _ {m choices includes : ℕ} (few : (m ≤ maxMatches) × (choices ≤ maxMatches) × (includes ≤ maxStrings)) (excess : ℕ) {n : ℕ}
+    (n-is : n ≡ notMatches excess m) where
   pub matches-fit : n * choices ≤ 65536
-  matches-fit = mul-le-mul {n₂ = 256} {m₂ = 256} (omega (arith, notMatches-few excess m h)) few
+  matches-fit = mul-le-mul {n₂ = 256} {m₂ = 256} (omega (arith, notMatches-few excess m (few .0))) (few .1)
 
   module _ {each : ℕ} (each-is : each ≡ notStrings excess m) where
-    pub excludes-fit : choices * each ≤ 65792
-    excludes-fit = mul-le-mul {n₂ = 256} {m₂ = 257} few (omega (arith, notStrings-few excess m))
-
-    pub strings-fit : n * (includes + choices * each) ≤ 16973824
-    strings-fit = mul-le-mul {n₂ = 256} {m₂ = 66304} (omega (arith, notMatches-few excess m h)) (omega (arith, excludes-fit))
+    pub strings-fit : (includes + choices * each ≤ 66304) × (n * (includes + choices * each) ≤ 16973824)
+    strings-fit =
+        let excludes : choices * each ≤ 256 * 257 = mul-le-mul {n₂ = 256} {m₂ = 257} (few .1) (omega (arith, notStrings-few excess m)) in
+        let sum : includes + choices * each ≤ 66304 = omega arith in
+        (sum, mul-le-mul {n₂ = 256} {m₂ = 66304} (omega (arith, notMatches-few excess m (few .0))) sum)

@@ -1,5 +1,5 @@
--- Both occurs as one list over the strings of a phrase's finds: every choice of a or more, joined with every match of the not of 'at least b + 1'. That
--- not goes by the excess: of m finds, where at most b are wanted, m - b are too many.
+-- Both occurs as one list over the strings of a phrase's finds: every choice of a or more, joined with every match of the not of 'at least b + 1'.
+-- That not goes by the excess: of m finds, where at most b are wanted, m - b are too many.
 -- 0: no find is too many. The not is one match without strings, and the list is at least a alone.
 -- 1: 'at least b + 1' is one match with all finds. Its not has a match for each find, with that find as its exclude.
 -- 2, of two finds: 'at least 1' is each find and then both. Its not has two matches, with both finds and then one of them again as excludes.

@@ -1,4 +1,4 @@
--- What writing the choices requires: a phrase's finds in a slot below, how many choices there are, which finds are too many, and room.
+-- What writing the choices requires: a phrase's finds in a slot below, how many choices there are, how many finds are too many, and room.
 use Prim.Native.Nat.{ℕ, _+_, _*_, _≤_, _<_}
 use mathlib.Core.List.{List, map}
 use mathlib.Core.Path.{_≡_}

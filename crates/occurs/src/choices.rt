@@ -11,8 +11,8 @@ ghost use Rattle.occurs.specs.Writing.{ChoiceAt, ChoicesAt, ExcludeAt, E
 // How many numbers a find takes: a header and one string.
 const FIND: usize = 3;
 
-// Writes the includes of choice number c of k finds, of which there are `total`. On the way there are `weight` choices of `left` from the n finds left, and
-// number `rest` is to be written: those with the next find come first.
+// Writes the includes of choice number c of k finds, of which there are `total`. On the way there are `weight` choices of `left` from the n finds left,
+// and number `rest` is to be written: those with the next find come first.
 fn put_includes(mem: &mut [u32], src: usize, k: u32, total: u32, c: u32, at: usize) -> usize
     requires { ⌜ IncludesAt (now mem) src k total c at ⌝ }
     ensures { λ r.

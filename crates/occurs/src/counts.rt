@@ -1,14 +1,13 @@
 // How many choices of a or more of m finds there are, and how large the list is with the not's matches. The choices are counted from the one of all
-// finds down, and the count ends as soon as there are too many. So no number grows large, and the count is short: of a hundred finds, the choices of 99
-// are too many already.
+// finds down, and the count ends as soon as there are too many. So no number grows large, and the count is short: of a hundred finds, the choices of
+// 99 are too many already.
 use model::MAX_MATCHES;
 use model::MAX_STRINGS;
 use store::Built;
 ghost use mathlib.Core.Path.{_≡_};
-ghost use Prim.Native.Nat.{_+_, _-_, _*_, _≤_};
+ghost use Prim.Native.Nat.{_-_, _≤_};
 ghost use Rattle.model.specs.Limits.{maxMatches, maxStrings};
-ghost use Rattle.store.specs.Built.{sizedAs};
-ghost use Rattle.occurs.specs.Counts.{countedOf};
+ghost use Rattle.occurs.specs.Counts.{countedOf, sizeWithNot};
 ghost use Rattle.occurs.specs.WithNot.{notMatches, notStrings};
 
 pub enum Counted {
@@ -94,9 +93,8 @@ fn not_strings(excess: u32, m: u32) -> u32
 
 // The sizes of the list: so many choices, which have so many includes together, each joined with every match of the not.
 pub fn size_with_not(m: u32, excess: u32, choices: u32, includes: u32) -> Built
-    requires { ⌜ m ≤ maxMatches ⌝ }
-    requires { ⌜ (choices ≤ maxMatches) × (includes ≤ maxStrings) ⌝ }
-    ensures { λ r. ⌜ r ≡ sizedAs (notMatches excess m * choices) (notMatches excess m * (includes + choices * notStrings excess m)) ⌝ }
+    requires { ⌜ (m ≤ maxMatches) × (choices ≤ maxMatches) × (includes ≤ maxStrings) ⌝ }
+    ensures { λ r. ⌜ r ≡ sizeWithNot m excess choices includes ⌝ }
 {
     let n = not_matches(excess, m);
     store::sized(

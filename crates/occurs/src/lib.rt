@@ -1,5 +1,5 @@
-// Occurs, of document 02's F-3: every choice of so many or more of a phrase's finds. The choices are counted first. Those of one size are numbered, and
-// each is written from its number alone, as a not's are.
+// Occurs, of document 02's F-3: every choice of so many or more of a phrase's finds. The choices are counted first. Those of one size are numbered,
+// and each is written from its number alone, as a not's are.
 mod choices; // the choices, written
 mod counts; // how many choices there are, and how large the list is
 
@@ -15,8 +15,8 @@ ghost use Rattle.occurs.specs.Finds.{find, FindsAt};
 ghost use Rattle.occurs.specs.WithNot.{atLeastWithNot};
 ghost use Rattle.occurs.specs.Writing.{ExcessAt};
 
-// Every choice of a or more of the finds in the slot at src, joined with every match of the not of 'at least b + 1', in the slot at `at` above them. That
-// not goes by the excess: how many of the finds are too many, where at most b are wanted.
+// Every choice of a or more of the finds in the slot at src, joined with every match of the not of 'at least b + 1', in the slot at `at` above them.
+// That not goes by the excess: how many of the finds are too many, where at most b are wanted.
 fn at_least_with_not(mem: &mut [u32], src: usize, a: u32, excess: u32, at: usize) -> Built
     requires { ⌜ ExcessAt (now mem) src excess ⌝ }
     requires { ⌜ SlotBelow (length (now mem)) src at ⌝ }
@@ -43,8 +43,8 @@ fn at_least_with_not(mem: &mut [u32], src: usize, a: u32, excess: u32, at: usize
     size
 }
 
-// "At least a: every choice of a or more of the phrase's matches, fewest first, equal sizes in order of first difference by position, each choice joined
-// as and would."
+// "At least a: every choice of a or more of the phrase's matches, fewest first, equal sizes in order of first difference by position, each choice
+// joined as and would."
 pub fn at_least_list(mem: &mut [u32], src: usize, a: u32, at: usize) -> Built
     requires { ⌜ FindsAt (now mem) src ⌝ }
     requires { ⌜ SlotBelow (length (now mem)) src at ⌝ }
@@ -55,7 +55,7 @@ pub fn at_least_list(mem: &mut [u32], src: usize, a: u32, at: usize) -> Built
     at_least_with_not(mem, src, a, 0, at)
 }
 
-// "From a to b: at least a, and not at least b + 1." Where two finds or more are too many, the list is too long, unless there are no others.
+// "From a to b: at least a, and not at least b + 1." Where two finds or more are too many, the list is too long, unless there are only two.
 pub fn from_to_list(mem: &mut [u32], src: usize, a: u32, b: u32, at: usize) -> Built
     requires { ⌜ FindsAt (now mem) src ⌝ }
     requires { ⌜ SlotBelow (length (now mem)) src at ⌝ }

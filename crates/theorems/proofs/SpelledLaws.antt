@@ -9,10 +9,10 @@ use Rattle.model.specs.declared.Code.{Code}
 use Rattle.model.specs.declared.Code.the-variants.{Word, Filter as Filtered, Occurs}
 use Rattle.model.specs.declared.Filter.{Filter}
 use Rattle.model.specs.declared.Times.{Times}
-use Rattle.model.specs.Limits.{radix}
+use Rattle.model.specs.Limits.{maxNumber, radix}
 use Rattle.model.specs.Lists.{Every}
 use Rattle.model.specs.Parts.{mostOf}
-use Rattle.model.specs.Productions.{Words, no-word, word-more, FTWords, quoted, FTTimes, times-exactly, times-least, times-most, times-from, FTPosFilter, ordered, window, distance-exactly, distance-least, distance-most, distance-from, same-sentence, same-paragraph, different-sentence, different-paragraph, at-start, at-end, entire-content, FTSelection, selection-or, selection-filter, or-and, or-more, and-mild, and-more, mild-unary, mild-more, unary-primary, unary-not, phrase, phrase-times, nested}
+use Rattle.model.specs.Productions.{Words, no-word, word-more, FTWords, quoted, FTRange, range-exactly, range-least, range-most, range-from, FTTimes, times, FTPosFilter, ordered, window, distance, same-sentence, same-paragraph, different-sentence, different-paragraph, at-start, at-end, entire-content, FTSelection, selection-or, selection-filter, or-and, or-more, and-mild, and-more, mild-unary, mild-more, unary-primary, unary-not, phrase, phrase-times, nested}
 use Rattle.model.specs.Selection.{codeAt, codeOf, kindOf, operandOf, upTo}
 use Rattle.model.specs.Tokens.{Token}
 use Rattle.model.specs.Typed.{selectionOf}
@@ -32,19 +32,21 @@ unfolding Every
 words-small no-word = tt
 words-small (word-more n w) = (omega arith, words-small w)
 
+module _ {A : Type 0} (code : A → Code) {least : ℕ → A} {between : ℕ → ℕ → A} (small-least : (n : ℕ) → n ≤ maxNumber → Small (code (least n)))
+    (small-between : (m n : ℕ) → m ≤ maxNumber → n ≤ maxNumber → Small (code (between m n))) where
+  range-small : {ts : List Token} {x : A} → FTRange least between ts x → Small (code x)
+  range-small (range-exactly b n) = small-between _ _ (n .within) (n .within)
+  range-small (range-least b c n) = small-least _ (n .within)
+  range-small (range-most b c n) = small-between _ _ (omega arith) (n .within)
+  range-small (range-from b m c n) = small-between _ _ (m .within) (n .within)
+
 times-small : {ts : List Token} {k : Times} → FTTimes ts k → Small (Occurs k)
-times-small (times-exactly a b n z) = omega (arith, n .within)
-times-small (times-least a b c n z) = omega arith
-times-small (times-most a b c n z) = omega (arith, n .within)
-times-small (times-from a b m c n z) = omega (arith, n .within)
+times-small (times a r z) = range-small Occurs (λ n h. omega arith) (λ m n g h. omega arith) r
 
 filter-small : {ts : List Token} {f : Filter} → FTPosFilter ts f → Small (Filtered f)
 filter-small (ordered a) = omega arith
 filter-small (window a n z) = omega arith
-filter-small (distance-exactly a b n z) = omega (arith, n .within)
-filter-small (distance-least a b c n z) = omega arith
-filter-small (distance-most a b c n z) = omega (arith, n .within)
-filter-small (distance-from a b m c n z) = omega (arith, n .within)
+filter-small (distance a r z) = range-small Filtered (λ n h. omega arith) (λ m n g h. omega arith) r
 filter-small (same-sentence a b) = omega arith
 filter-small (same-paragraph a b) = omega arith
 filter-small (different-sentence a b) = omega arith

@@ -2,6 +2,7 @@
 -- engine/src/lib.rt): the listing answers `listingAnswer ..` and leaves `listingBuffer ..` in the buffer, the quick answer answers `quickAnswer ..`, the
 -- snippet is `snippetOf ..`; for the answer of its text a typed call answers `typedListing ..`, `typedQuick ..`, `readAnswer ..`. So what is proved of
 -- these holds of the calls. (F-2 speaks of no call, but of what is read inside them; F-3 of the lists, which the calls answer by.) proofs/ has a proof of each.
+-- Document 01 is meant here as F-3 changes it: kinds 16 and 17 in the lists and in the walk, refusal 12 in the table.
 -- Quotation marks enclose the demands' own words, or document 01's or 02's where it is named. `A ↔ B` is 'A exactly when B', `(x : A) × B` 'there is an x
 -- with B', `⊎` 'or', `¬` 'not'.
 use Prim.Native.Nat.{ℕ, suc, _/_, _%_, _^_, _≤_, _<_}
@@ -19,21 +20,24 @@ use Rattle.model.specs.declared.Quick.{Quick}
 use Rattle.model.specs.declared.Quick.the-variants.{Answered, Refused as QuickRefused}
 use Rattle.model.specs.declared.Reading.the-variants.{Read, Refused as ReadingRefused}
 use Rattle.model.specs.declared.Refusal.{Refusal}
+use Rattle.model.specs.declared.Times.{Times}
+use Rattle.model.specs.declared.Times.the-variants.{FromTo, AtLeast}
 use Rattle.model.specs.Accepted.{ReportedOrNot}
 use Rattle.model.specs.AllMatches.{allMatches}
 use Rattle.model.specs.AllStrings.{AllList}
 use Rattle.model.specs.Answers.{completeList, listingAnswer, spanOf, listingNumbers, listingBuffer, quickAnswer, snippetOf}
 use Rattle.model.specs.Checks.{refusal, wrongSection, faultyPosition, wrongSelection, unknownKind, wrongOperand, wrongShape, notOverPhrase, notUnderMildNot}
+use Rattle.model.specs.Kinds.{occurring}
 use Rattle.model.specs.Limits.{maxCodes, maxMatches, maxStrings, maxText, workLength, bufferLength, radix, selectionLength}
-use Rattle.model.specs.Lists.{Every, choose}
+use Rattle.model.specs.Lists.{Every}
 use Rattle.model.specs.Matches.{Str, Match, strings}
 use Rattle.model.specs.Productions.{FTSelection}
-use Rattle.model.specs.Rules.{phraseList, atLeast, fromToTimes}
+use Rattle.model.specs.Rules.{phraseList, joinedAll}
 use Rattle.model.specs.Section.{Section, size, sentenceAt, paragraphAt, sectionOf}
 use Rattle.model.specs.Selection.{codeAt, upTo}
 use Rattle.model.specs.TextAnswer.{TextAnswer, codes, error, AnswerOf, NotAllowed, TooLarge}
 use Rattle.model.specs.Tokens.{Token, Tokens}
-use Rattle.model.specs.Trees.{Tree, placeOf, treeOf, parts}
+use Rattle.model.specs.Trees.{Tree, phrase, change, placeOf, treeOf, parts}
 use Rattle.model.specs.Typed.{selectionOf, typedListing, typedBuffer, typedQuick, readAnswer, readSelection}
 use Rattle.model.specs.TypedExamples.{ExamplesHold}
 use Rattle.model.specs.Walk.{firstTooLong, walk, ownCount}
@@ -150,7 +154,7 @@ Numbered r = ((1 ≤ r .number) × (r .number ≤ 9)) ⊎ (r .number ≡ 12)
 
 pub record Demand1Of (section selection : List ℕ) (work : ℕ) (buffer : List ℕ) (from to : ℕ) : Type 0 where
   -- "The answer to every section, every selection and every size of lent memory is a result or one refusal by number and place, and every call ends."
-  -- A refusal has one of the papers' numbers; the snippet never refuses, and is a part of the section. That every call ends is the checker's to prove.
+  -- A refusal has one of document 01's numbers, or F-3's; the snippet never refuses, and is a part of the section. That every call ends is the checker's to prove.
   pub listing-answers : ListingGiven (listingAnswer section selection work (length buffer))
       ⊎ ((r : Refusal) × ListingRefuses (listingAnswer section selection work (length buffer)) r × Numbered r)
   pub quick-answers : QuickGiven (quickAnswer section selection work)
@@ -315,36 +319,43 @@ SpansRead = (s : Str) → s .start < radix → s .end < radix → SpanReadOf s
 
 -- ---- document 02's F-3, occurs
 
+-- the unlimited list of an occurs over a phrase; the places of the two codes are no part of it
+abbrev pub occursOver : Section → Times → ℕ → List ℕ → List Match
+occursOver s k rank words = allMatches s (change (occurring k) 0 (phrase 0 rank words))
+
 -- every element of a list has R to each later one
 unfoldable pub InOrder : {A : Type 0} → (A → A → Type 0) → List A → Type 0
 InOrder R [] = Unit {0}
 InOrder R (x ∷ xs) = Every (R x) xs × InOrder R xs
 
--- of two choices of positions, the first has the lower position where they first differ
-pub record Precedes (ys zs : List ℕ) : Type 0 where
+-- of two rows of positions, the first has the lower one where they first differ
+pub record Precedes (ps qs : List ℕ) : Type 0 where
   pub same : List ℕ
   pub lower : ℕ
   pub higher : ℕ
   pub after-lower : List ℕ
   pub after-higher : List ℕ
-  pub first-is : ys ≡ same ++ lower ∷ after-lower
-  pub second-is : zs ≡ same ++ higher ∷ after-higher
+  pub first-is : ps ≡ same ++ lower ∷ after-lower
+  pub second-is : qs ≡ same ++ higher ∷ after-higher
   pub differ : lower < higher
 
--- for rising positions, and how many are chosen
-pub record ChoicesOf (positions : List ℕ) (k : ℕ) : Type 0 where
-  -- "every choice": the sublists of k positions, and no others
-  pub every-choice : (ys : List ℕ) → Has (λ zs. zs ≡ ys) (choose k positions) ↔ (Sublistᴰ ys positions × (length ys ≡ k))
-  -- "equal sizes in order of first difference by position", so each once
-  pub in-order : InOrder Precedes (choose k positions)
-  -- what is chosen of matches, each at a position, is chosen of their positions
-  pub of-matches : (match : ℕ → Match) → choose k (map match positions) ≡ map (map match) (choose k positions)
+abbrev pub starts : Match → List ℕ
+starts m = map (λ i. i .start) (m .includes)
 
--- for a phrase in a section, found so often: "'At least three mentions of needle'"
-pub record OccursOf (s : Section) (rank : ℕ) (words : List ℕ) (found : ℕ) : Type 0 where
-  pub at-least-yes : (a : ℕ) → Has WithoutExcludes (atLeast a (phraseList s rank words)) ↔ (a ≤ found)
-  pub from-to-yes : (a b : ℕ) → Has WithoutExcludes (fromToTimes a b (phraseList s rank words)) ↔ ((a ≤ found) × (found ≤ b))
+-- "fewest first, equal sizes in order of first difference by position"
+abbrev pub Sooner : Match → Match → Type 0
+Sooner l m = (length (l .includes) < length (m .includes)) ⊎ ((length (l .includes) ≡ length (m .includes)) × Precedes (starts l) (starts m))
 
-pub record Occurs : Type 0 where
-  pub choices : (positions : List ℕ) → InOrder _<_ positions → (k : ℕ) → ChoicesOf positions k
-  pub phrases : (s : Section) (rank : ℕ) (words : List ℕ) → OccursOf s rank words (length (phraseList s rank words))
+-- for a phrase in a section, and its matches
+pub record OccursOf (s : Section) (rank : ℕ) (words : List ℕ) (finds : List Match) : Type 0 where
+  -- At least a: "every choice of a or more of the phrase's matches .., each choice joined as and would", and no other match,
+  pub every-choice : (a : ℕ) (m : Match) → Has (λ l. l ≡ m) (occursOver s (AtLeast a) rank words)
+      ↔ ((chosen : List Match) × Sublistᴰ chosen finds × (a ≤ length chosen) × (m ≡ joinedAll chosen))
+  -- in that order, and so each once.
+  pub in-order : (a : ℕ) → InOrder Sooner (occursOver s (AtLeast a) rank words)
+  -- "'At least three mentions of needle'": yes exactly where there are as many, and from a to b exactly where there are a to b.
+  pub at-least-yes : (a : ℕ) → Has WithoutExcludes (occursOver s (AtLeast a) rank words) ↔ (a ≤ length finds)
+  pub from-to-yes : (a b : ℕ) → Has WithoutExcludes (occursOver s (FromTo a b) rank words) ↔ ((a ≤ length finds) × (length finds ≤ b))
+
+abbrev pub Occurs : Type 0
+Occurs = (s : Section) (rank : ℕ) (words : List ℕ) → OccursOf s rank words (phraseList s rank words)

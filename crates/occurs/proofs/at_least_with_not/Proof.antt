@@ -1,5 +1,5 @@
--- The choices are counted and then the list is sized, so that one that is too long is refused before anything is written, and one that is not has room in its
--- slot (OutcomeLaws).
+-- The choices are counted and the list is sized first, so that one that is too long is refused before anything is written, and one that is not has
+-- room in its slot (OutcomeLaws).
 use Rattle.occurs.proofs.OutcomeLaws.{few-finds, choices-refused, known, size-refused, sizes-at, whole}
 use borrow.Author.Needs.{needs}
 use Rattle.occurs.proofs.at_least_with_not.Statement.{statement}
@@ -21,14 +21,17 @@ same-length : tie.Need-same-length
 same-length c = search needs
 
 returns : tie.Need-returns
-returns c w = choices-refused w (c .before .before .before .slot-matches .ensures) _ (c .before .before .count-choices .ensures) (c .enum-told .given .1)
+returns c w =
+    let e = c .before .before in
+    choices-refused w (e .before .slot-matches .ensures) _ (e .count-choices .ensures) (c .enum-told .given .1)
 
 size-with-not-requires : tie.Need-size-with-not-requires
 size-with-not-requires c κs =
-    let w = c .before .before .before .before .before .before .before .pre .0 in
-    let m = c .before .before .before .before .slot-matches .ensures in
-    let k = known w m _ (c .before .before .before .count-choices .ensures) (c .before .counted .given .1) in
-    (few-finds w m, (k .few, k .short))
+    let e = c .before .before .before in
+    let m = e .before in
+    let w = m .before .before .before .pre .0 in
+    let k = known w (m .slot-matches .ensures) _ (e .count-choices .ensures) (c .before .counted .given .1) in
+    (few-finds w (m .slot-matches .ensures), k .few, k .short)
 
 enum-known-size : tie.Need-enum-known-size
 enum-known-size c = search needs
@@ -41,19 +44,25 @@ same-length-2 c = search needs
 
 returns-2 : tie.Need-returns-2
 returns-2 c w =
-    let m = c .before .before .before .before .before .before .before .slot-matches .ensures in
-    let e = c .before .before .before .before .before .before .count-choices .ensures in
-    size-refused w m _ e (c .before .before .before .before .counted .given .1) (c .before .before .size-with-not .ensures) (c .enum-told2 .given .1)
+    let f = c .before .before in
+    let t = f .before .before in
+    let e = t .before .before in
+    let m = e .before .slot-matches .ensures in
+    size-refused w m _ (e .count-choices .ensures) (t .counted .given .1) (f .size-with-not .ensures) (c .enum-told2 .given .1)
 
 add-put-sizes : tie.Need-add-put-sizes
 add-put-sizes c = search needs
 
 put-sizes-requires : tie.Need-put-sizes-requires
 put-sizes-requires c κs =
-    let s = c .before .before .before .before .before .before .before .before .before .before .before .before .pre in
-    let m = c .before .before .before .before .before .before .before .before .before .slot-matches .ensures in
-    let e = c .before .before .before .before .before .before .before .before .count-choices .ensures in
-    sizes-at (s .0) m _ e (c .before .before .before .before .before .before .counted .given .1) (c .before .before .before .before .size-with-not .ensures) (s .1) (c .before .before .size .given .1)
+    let g = c .before .before in
+    let f = g .before .before in
+    let t = f .before .before in
+    let e = t .before .before in
+    let m = e .before in
+    let r = m .before .before .before .pre in
+    let size = f .size-with-not .ensures in
+    sizes-at (r .0) (m .slot-matches .ensures) _ (e .count-choices .ensures) (t .counted .given .1) size (r .1) (g .size .given .1)
 
 put-slot-header-requires : tie.Need-put-slot-header-requires
 put-slot-header-requires c κs = search needs
@@ -63,13 +72,17 @@ same-length-3 c = search needs
 
 returns-3 : tie.Need-returns-3
 returns-3 c w =
-    let u = c .before .before .before .before .before .before .before .before .before .before .before .before .before .before .before .before .before .before .before .pre .1 in
-    let m = c .before .before .before .before .before .before .before .before .before .before .before .before .before .before .before .before .slot-matches .ensures in
-    let e = c .before .before .before .before .before .before .before .before .before .before .before .before .before .before .before .count-choices .ensures in
-    let t = c .before .before .before .before .before .before .before .before .before .before .before .before .before .counted .given .1 in
-    let f = c .before .before .before .before .before .before .before .before .before .before .before .size-with-not .ensures in
-    let g = c .before .before .before .before .before .before .before .before .before .size .given .1 in
-    whole w m _ e t f u g (c .before .before .before .before .before .before .put-sizes .ensures (sizes-at w m _ e t f u g)) (c .before .before .put-slot-header .ensures)
+    let h = c .before .before in
+    let v = h .before .before .before .before in
+    let g = v .before .before .before in
+    let f = g .before .before in
+    let t = f .before .before in
+    let e = t .before .before in
+    let m = e .before in
+    let u = m .before .before .before .pre .1 in
+    let size = f .size-with-not .ensures in
+    let rule = whole w (m .slot-matches .ensures) _ (e .count-choices .ensures) (t .counted .given .1) size u (g .size .given .1) in
+    rule (v .put-sizes .ensures) (h .put-slot-header .ensures)
 
 pub at-least-with-not-spec : {M : Type 1} → statement M
 at-least-with-not-spec =

@@ -1,4 +1,4 @@
--- Where two finds or more are too many and there are others, the list is too long; else it is the list for the excess, which is two of two finds at most
+-- Where two finds or more are too many and there are others, the list is too long; else it is the one for the excess, which is two only of two finds
 -- (OutcomeLaws).
 use Prim.Native.Nat.{_≤_}
 use native.Mathlib.Omega.{arith}
@@ -16,7 +16,10 @@ up-to c = omega (arith, c .before .excess-of .ensures)
 
 two : (c : tie.Joined1) → 2 ≤ c .before .excess-of .result → c .before .before .slot-matches .result ≡ 2
 two c h =
-    ⊎-elim (λ w. omega (arith, ltb-false 2 (c .before .before .slot-matches .result) (w .1 .left), up-to c)) (λ w. absurd (omega (arith, w .left))) (c .if1 .came)
+    ⊎-elim
+    (λ w. omega (arith, ltb-false 2 (c .before .before .slot-matches .result) (w .1 .left), up-to c))
+    (λ w. absurd (omega (arith, w .left)))
+    (c .if1 .came)
 
 slot-matches-requires : tie.Need-slot-matches-requires
 slot-matches-requires c κs = search needs
@@ -28,19 +31,28 @@ same-length : tie.Need-same-length
 same-length c = search needs
 
 returns : tie.Need-returns
-returns c w = from-to-refused w (c .before .before .before .slot-matches .ensures) _ _ (c .before .before .before .before .before .before .pre .1 .1) (c .before .before .excess-of .ensures) (c .before .if1 .taken) (ltb-true 2 _ (c .if2 .taken))
+returns c w =
+    let e = c .before .before in
+    let m = e .before in
+    let r = m .before .before .before .pre in
+    from-to-refused w (m .slot-matches .ensures) _ _ (r .1 .1) (e .excess-of .ensures) (c .before .if1 .taken) (ltb-true 2 _ (c .if2 .taken))
 
 at-least-with-not-requires : tie.Need-at-least-with-not-requires
-at-least-with-not-requires c κs = (excess-at (c .before .before .before .before .before .before .pre .0) (c .before .before .before .slot-matches .ensures) (up-to (c .before)) (two (c .before)), c .before .before .before .before .before .before .pre .1 .0)
+at-least-with-not-requires c κs =
+    let j = c .before in
+    let m = j .before .before in
+    let r = m .before .before .before .pre in
+    (excess-at (r .0) (m .slot-matches .ensures) (up-to j) (two j), r .1 .0)
 
 same-length-2 : tie.Need-same-length-2
 same-length-2 c = search needs
 
 returns-2 : tie.Need-returns-2
 returns-2 c w =
-    let m = c .before .before .before .before .before .before .slot-matches .ensures in
-    let j = c .before .before .before .before in
-    from-to-made w m (up-to j) (two j) _ _ (c .before .before .before .before .before .excess-of .ensures) (c .before .before .at-least-with-not .ensures (excess-at w m (up-to j) (two j)))
+    let l = c .before .before in
+    let j = l .before .before in
+    let m = j .before .before .slot-matches .ensures in
+    from-to-made w m (up-to j) (two j) _ _ (j .before .excess-of .ensures) (l .at-least-with-not .ensures)
 
 pub from-to-list-spec : {M : Type 1} → statement M
 from-to-list-spec =

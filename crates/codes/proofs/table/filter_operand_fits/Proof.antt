@@ -8,8 +8,8 @@ use Rattle.codes.proofs.table.filter_operand_fits.Tie as tie
 is-within-requires : tie.Need-is-within-requires
 is-within-requires c κs = search needs
 
-is-within-requires-2 : tie.Need-is-within-requires-2
-is-within-requires-2 c κs = search needs
+range-fits-requires : tie.Need-range-fits-requires
+range-fits-requires c κs = search needs
 
 returns : tie.Need-returns
 unfolding filterOperandFits
@@ -17,7 +17,7 @@ returns c = rw (c .before .match .keys1) (c .is-within .ensures)
 
 returns-2 : tie.Need-returns-2
 unfolding filterOperandFits
-returns-2 c = rw (c .before .match .keys2) (c .is-within2 .ensures)
+returns-2 c = rw (c .before .match .keys2) (c .range-fits .ensures)
 
 returns-3 : tie.Need-returns-3
 unfolding filterOperandFits
@@ -25,4 +25,4 @@ returns-3 c = simp (ne-eqb _ _ (c .match .rest .0 .1), ne-eqb _ _ (c .match .res
 
 pub filter-operand-fits-spec : {M : Type 1} → statement M
 filter-operand-fits-spec =
-    tie.close (tie.spec is-within-requires is-within-requires-2 returns returns-2 returns-3)
+    tie.close (tie.spec is-within-requires range-fits-requires returns returns-2 returns-3)

@@ -11,7 +11,9 @@ use Rattle.occurs.proofs.choices.put_choice.Tie as tie
 
 abbrev Inv-loop : tie.InvT-loop
 Inv-loop mem₀ src k total c excess at n q₀ d₀ mem q d =
-    (d ≤ n) × (length mem ≡ length mem₀) × ((w : ChoiceAt mem₀ src k total c excess at) → Joining excess (w .finds) (chosen k (w .finds) c) mem₀ at n mem q d)
+    (d ≤ n)
+    × (length mem ≡ length mem₀)
+    × ((w : ChoiceAt mem₀ src k total c excess at) → Joining excess (w .finds) (chosen k (w .finds) c) mem₀ at n mem q d)
 
 abbrev μ-loop : tie.MeasureT-loop
 μ-loop mem₀ src k total c excess at n q₀ d₀ mem q d = n - d
@@ -38,9 +40,9 @@ loop-less c = search needs
 
 loop-again : tie.Need-loop-again Inv-loop μ-loop
 loop-again c =
-    let g = c .before .before .before .before .before .loop .inv .2 in
-    let h = c .before .before .before .before .loop-test .taken in
-    (search needs, search needs, λ w. join-step w (g w) h (c .before .before .put-joined .ensures (joined-at w (g w) h)))
+    let k = c .before .before in
+    let l = k .before .before in
+    (search needs, search needs, λ w. join-step w (l .before .loop .inv .2 w) (l .loop-test .taken) (k .put-joined .ensures))
 
 same-length : tie.Need-same-length Inv-loop μ-loop
 same-length c = search needs

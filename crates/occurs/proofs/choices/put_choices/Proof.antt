@@ -31,9 +31,9 @@ loop-less c = search needs
 
 loop-again : tie.Need-loop-again Inv-loop μ-loop
 loop-again c =
-    let g = c .before .before .before .before .before .loop .inv .2 in
-    let h = c .before .before .before .before .loop-test .taken in
-    (search needs, search needs, λ w. choose-step w (g w) h (c .before .before .put-choice .ensures (choice-at w (g w) h)))
+    let k = c .before .before in
+    let l = k .before .before in
+    (search needs, search needs, λ w. choose-step w (l .before .loop .inv .2 w) (l .loop-test .taken) (k .put-choice .ensures))
 
 same-length : tie.Need-same-length Inv-loop μ-loop
 same-length c = search needs

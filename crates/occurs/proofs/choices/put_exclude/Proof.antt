@@ -1,4 +1,4 @@
--- Find number d is read from its index, and written with the sort of an exclude (ExcludesLaws).
+-- Find number d, three numbers a find after the first, is written with the sort of an exclude (ExcludesLaws).
 use native.Mathlib.Omega.{arith}
 use Rattle.occurs.proofs.ExcludesLaws.{within, exclude-put}
 use borrow.Author.Needs.{needs}

@@ -14,36 +14,36 @@ same-length : tie.Need-same-length
 same-length c = search needs
 
 returns-2 : tie.Need-returns-2
-returns-2 c w = let e = c .before .before .before .before .if2 .taken in one-exclude w e (c .before .before .put-exclude .ensures (single w e))
+returns-2 c w =
+    let v = c .before .before in
+    one-exclude w (v .before .before .if2 .taken) (v .put-exclude .ensures)
 
 put-exclude-requires-2 : tie.Need-put-exclude-requires-2
 put-exclude-requires-2 c κs = first (c .before .before .before .before .pre) (c .before .before .if1 .left) (c .before .if2 .left)
 
 put-exclude-requires-3 : tie.Need-put-exclude-requires-3
 put-exclude-requires-3 c κs =
-    let w = c .before .before .before .before .before .before .before .before .pre in
-    let none = c .before .before .before .before .before .before .if1 .left in
-    let one = c .before .before .before .before .before .if2 .left in
-    second w none one (c .before .before .before .put-exclude2 .ensures (first w none one))
+    let v = c .before .before .before in
+    let b = v .before .before in
+    second (b .before .before .before .pre) (b .before .if1 .left) (b .if2 .left) (v .put-exclude2 .ensures)
 
 put-exclude-requires-4 : tie.Need-put-exclude-requires-4
 put-exclude-requires-4 c κs =
-    let w = c .before .before .before .before .before .before .before .before .before .before .before .before .pre in
-    let none = c .before .before .before .before .before .before .before .before .before .before .if1 .left in
-    let one = c .before .before .before .before .before .before .before .before .before .if2 .left in
-    let v = c .before .before .before .before .before .before .before .put-exclude2 .ensures (first w none one) in
-    third w none one v (c .before .before .before .put-exclude3 .ensures (second w none one v))
+    let u = c .before .before .before in
+    let v = u .before .before .before .before in
+    let b = v .before .before in
+    third (b .before .before .before .pre) (b .before .if1 .left) (b .if2 .left) (v .put-exclude2 .ensures) (u .put-exclude3 .ensures)
 
 same-length-2 : tie.Need-same-length-2
 same-length-2 c = search needs
 
 returns-3 : tie.Need-returns-3
 returns-3 c w =
-    let none = c .before .before .before .before .before .before .before .before .before .before .before .before .before .if1 .left in
-    let one = c .before .before .before .before .before .before .before .before .before .before .before .before .if2 .left in
-    let v = c .before .before .before .before .before .before .before .before .before .before .put-exclude2 .ensures (first w none one) in
-    let u = c .before .before .before .before .before .before .put-exclude3 .ensures (second w none one v) in
-    three-excludes w none one v u (c .before .before .put-exclude4 .ensures (third w none one v u))
+    let t = c .before .before in
+    let u = t .before .before .before .before in
+    let v = u .before .before .before .before in
+    let b = v .before .before in
+    three-excludes w (b .before .if1 .left) (b .if2 .left) (v .put-exclude2 .ensures) (u .put-exclude3 .ensures) (t .put-exclude4 .ensures)
 
 pub put-excludes-spec : {M : Type 1} → statement M
 put-excludes-spec =

@@ -1,5 +1,5 @@
--- Invariant: what is written, and the includes of choice number rest of `left` from the finds left, are the includes of choice number c; weight is the number
--- of these choices (IncludesLaws). Measure: n, the finds left. The next find is in the choices of the lower numbers.
+-- Invariant: what is written, and the includes of choice number rest of `left` from the finds left, are the includes of choice number c; weight is
+-- the number of these choices (Including). Measure: n, the finds left. The next find is in the choices of the lower numbers.
 use Prim.Native.Nat.{suc, _-_}
 use native.Mathlib.Omega.{arith}
 use mathlib.Core.Path.{_≡_, refl}
@@ -69,7 +69,8 @@ loop-again c =
     let l = i .before .loop in
     let e : l .left ≡ suc (l .left - 1) = omega (arith, i .loop-test .taken) in
     ⊎-elim
-    (λ w. rw (w .5, w .6, w .7, w .8, w .9) (omega (arith, w .2 .kept .0, l .inv .0), λ v. take-next (l .inv .1 v) (l .left - 1) e (w .0 .taken) (w .2 .ensures)))
+    (λ w. rw (w .5, w .6, w .7, w .8, w .9)
+    (omega (arith, w .2 .kept .0, l .inv .0), λ v. take-next (l .inv .1 v) (l .left - 1) e (w .0 .taken) (w .2 .ensures)))
     (λ w. rw (w .1, w .2, w .3, w .4, w .5) (l .inv .0, λ v. skip-next (l .inv .1 v) (l .left - 1) e (w .0 .left)))
     (c .if1 .came)
 

@@ -11,21 +11,26 @@ put-includes-requires : tie.Need-put-includes-requires
 put-includes-requires c κs = includes-at (c .before .before .pre)
 
 put-excludes-requires : tie.Need-put-excludes-requires
-put-excludes-requires c κs = let w = c .before .before .before .before .before .before .pre in excludes-at w (c .before .before .before .put-includes .ensures (includes-at w))
+put-excludes-requires c κs =
+    let i = c .before .before .before in
+    let w = i .before .before .before .pre in
+    excludes-at w (i .put-includes .ensures)
 
 close-match-requires : tie.Need-close-match-requires
 close-match-requires c κs =
-    let w = c .before .before .before .before .before .before .before .before .before .before .pre in
-    let v = c .before .before .before .before .before .before .before .put-includes .ensures (includes-at w) in
-    ends w v (c .before .before .before .put-excludes .ensures (excludes-at w v))
+    let x = c .before .before .before in
+    let i = x .before .before .before .before in
+    let w = i .before .before .before .pre in
+    ends w (i .put-includes .ensures) (x .put-excludes .ensures)
 
 same-length : tie.Need-same-length
 same-length c = search needs
 
 returns : tie.Need-returns
 returns c w =
-    let v = c .before .before .before .before .before .before .before .before .before .before .put-includes .ensures (includes-at w) in
-    whole w v (c .before .before .before .before .before .before .put-excludes .ensures (excludes-at w v)) (c .before .before .close-match .ensures)
+    let h = c .before .before in
+    let x = h .before .before .before .before in
+    whole w (x .before .before .before .before .put-includes .ensures) (x .put-excludes .ensures) (h .close-match .ensures)
 
 pub put-joined-spec : {M : Type 1} → statement M
 put-joined-spec =

@@ -46,9 +46,9 @@ loop-less c = search needs
 
 loop-again : tie.Need-loop-again Inv-loop μ-loop
 loop-again c =
-    let g = c .before .before .before .before .before .loop .inv .1 in
-    let h = c .before .before .before .before .loop-test .taken in
-    (search needs, λ w. size-step w (g w) h (c .before .before .put-choices .ensures (choices-at w (g w) h)))
+    let k = c .before .before in
+    let l = k .before .before in
+    (search needs, λ w. size-step w (l .before .loop .inv .1 w) (l .loop-test .taken) (k .put-choices .ensures))
 
 same-length : tie.Need-same-length Inv-loop μ-loop
 same-length c = search needs

@@ -13,7 +13,9 @@ abbrev μ-loop : tie.MeasureT-loop
 μ-loop m a k₀ fewest₀ choices₀ includes₀ k fewest choices includes = k
 
 -- the turn's numbers fit
-inside : (c : tie.In-loop Inv-loop μ-loop) → let l = c .before .loop in let m = c .before .before .before .args .m in Fits (l .k) (l .fewest) (l .fewest * l .k / (m - l .k + 1))
+inside : (c : tie.In-loop Inv-loop μ-loop)
+    → let l = c .before .loop in
+    Fits (l .k) (l .fewest) (l .fewest * l .k / (c .before .before .before .args .m - l .k + 1))
 inside c = fits (c .before .loop .inv) (c .loop-test .taken) (c .before .before .before .pre)
 
 returns : tie.Need-returns Inv-loop μ-loop

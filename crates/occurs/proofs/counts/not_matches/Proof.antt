@@ -1,4 +1,4 @@
--- By cases of the test.
+-- By the excess: one match, or one for each find.
 use Rattle.occurs.proofs.WithNotLaws.{notMatches-all}
 use borrow.Author.Needs.{needs}
 use Rattle.occurs.proofs.counts.not_matches.Statement.{statement}

@@ -1,4 +1,4 @@
--- By cases of the tests.
+-- By the excess: no string, one find, or both finds and one of them again.
 use Rattle.occurs.proofs.WithNotLaws.{notStrings-both}
 use borrow.Author.Needs.{needs}
 use Rattle.occurs.proofs.counts.not_strings.Statement.{statement}
