@@ -75,7 +75,7 @@ pub fn all() -> Vec<Case> {
             "1 2 and ordered different-sentence different-paragraph distance:0-40 end window:32",
         ),
         ("nested filters, 4,096 tokens", &long, "2 1 and ordered distance:0-100 window:60 same-paragraph"),
-        // choices of three finds; the most matches, with and without excludes; the most strings; the most finds, and too many choices of them
+        // three finds; seven, the most of which all choices are within the limits; 22, the most of which those of one less are; 256, and too many choices
         ("occurs at least 0 of 3", &notation::section("1*3"), "1 least:0"),
         ("occurs exactly 3 of 3", &notation::section("1*3"), "1 occurs:3-3"),
         ("occurs exactly 2 of 3", &notation::section("1*3"), "1 occurs:2-2"),

@@ -38,8 +38,8 @@ Its words are those of XQuery Full Text. A and B are searches:
   A not in B                 A where it isn't part of B
   A ftand B                  both
   A ftor B                   either
-  ( A )                      'ftnot' binds most, then 'not in', 'ftand' and
-                             'ftor'; parentheses say otherwise
+  ( A )                      'occurs' binds most, then 'ftnot', 'not in',
+                             'ftand' and 'ftor'; parentheses say otherwise
 After a search, or inside parentheses with it, any number of filters:
   same sentence              all finds in one; also: same paragraph
   different sentence         two or more finds, each in a sentence of its own;
@@ -60,7 +60,7 @@ finds is a match, and many finds have too many choices. Up to seven in a section
 A larger number first helps: up to ten finds are answered by
   "bolt" occurs at least 8 times ftor "bolt" occurs at least 3 times
 Finds beyond what 'exactly', 'at most' or 'from N to N' allow exclude, and two
-too many aren't answered. 'At most 2' of up to seven finds are asked by
+too many aren't answered. 'At most 2' of up to seven finds is asked by
   ftnot "bolt" occurs at least 3 times
 
 A section says yes if it has a match that nothing excludes. In 'A ftand ftnot B'

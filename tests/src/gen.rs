@@ -5,7 +5,8 @@
 //! empties a list, or takes it over the limits, is mostly tried again, so that most cases end with something in their list.
 //! The lists serve only this choice; what is right is said by the comparison.
 //!
-//! About a quarter of the cases have an occurs. [`occurs_cases`] all have one, in every place where it may stand.
+//! About a quarter of the cases have an occurs. [`occurs_cases`] are all made with one, in every place where it may stand;
+//! damage may take it away again.
 
 use crate::engine::RuleBook;
 use crate::rules::{self, AllMatches, Match};

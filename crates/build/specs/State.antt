@@ -51,7 +51,7 @@ pub record Waits (section mem : List ℕ) (shape : Shape) (s : State) (place ran
   pub over-phrases : Every (λ t. occursOverOther t ≡ false) (read shape s .trees)
   pub room : workLength ≤ length mem
 
--- a phrase's words are those that wait, a window's number is in range, and an occurs from a to b has a up to b
+-- a phrase's words are those that wait, a window's number is in range, and of an occurs from a to b, a is at most b
 pub record WaitsAt (section selection mem : List ℕ) (code : Code) (place rank lists : ℕ) : Type 0 where
   pub state : State
   pub waits : Waits section mem (shapeOf code) state place rank lists

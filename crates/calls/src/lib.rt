@@ -48,7 +48,8 @@ pub fn listing(section: &[u32], selection: &[u32], work: &mut [u32], buffer: &mu
     listed(work, buffer)
 }
 
-// The quick answer: "It reports how many codes of kind 1 to 15 it walked or built", and since F-3 of kinds 16 and 17. Working memory may end holding anything.
+// The quick answer: "It reports how many codes of kind 1 to 15 it walked or built", and since F-3 of kinds 16 and 17. Working memory may end holding
+// anything.
 pub fn quick(section: &[u32], selection: &[u32], work: &mut [u32]) -> Quick
     ensures { λ r. ⌜ r ≡ quickAnswer (now (section .entry)) (now (selection .entry)) (length (now (work .entry))) ⌝ }
     ensures { λ r. ⌜ quickValues r ≡ quickValues (quickAnswer (now (section .entry)) (now (selection .entry)) (length (now (work .entry)))) ⌝ }

@@ -1,4 +1,5 @@
-// The checks of both inputs, with the lengths of the lent memory: refusals 1 to 8 and 12, or the selection's m. A call takes the answer apart with `let .. else`.
+// The checks of both inputs, with the lengths of the lent memory: refusals 1 to 8 and 12, or the selection's m. A call takes the answer apart with
+// `let .. else`.
 use model::BUFFER_LENGTH;
 use model::Checked;
 use model::Refusal;

@@ -57,7 +57,7 @@ fn times_of(kind: u32, operand: u32) -> Times
     }
 }
 
-// "Kinds 0 and 1 are words, 2 to 5 combine, 6 to 15 filter"; F-3: "18 and up are unknown"
+// "Kinds 0 and 1 are words, 2 to 5 combine, 6 to 15 filter"; F-3: 16 and 17 are occurs, "18 and up are unknown"
 fn code_of(kind: u32, operand: u32) -> Code
     ensures { λ r. ⌜ r ≡ codeOf kind operand ⌝ }
 {

@@ -1,4 +1,4 @@
-// The engine's calls for C and Rust: numbers pass as themselves, a slice as a pointer and a length, and an answer as document 01's own numbers.
+// The engine's calls for C and Rust: numbers pass as themselves, a slice as a pointer and a length, and an answer as the papers' own numbers.
 use model::Listing;
 use model::Position;
 use model::Quick;
@@ -10,7 +10,7 @@ ghost use Rattle.model.specs.Answers.{listingAnswer, listingBuffer, listingValu
 ghost use Rattle.model.specs.TextAnswer.{ForAnswer};
 ghost use Rattle.model.specs.Typed.{readAnswer, readSelection, readingValues, typedBuffer, typedListing, typedQuick};
 
-// A listing's answer put down in document 01's numbers. Returned is the first of them: 0, or the refusal's number.
+// A listing's answer put down in the papers' numbers. Returned is the first of them: 0, or the refusal's number.
 fn put_listing(listing: Listing, answer: &mut [u32; 4]) -> u32
     ensures { λ r. ⌜ r ≡ getD (listingValues listing) 0 0 ⌝ }
     ensures { λ _. ⌜ now (answer .exit) ≡ sets (now (answer .entry)) 0 (listingValues listing) ⌝ }
@@ -52,7 +52,7 @@ pub extern "C" fn jullpinay_listing(
     put_listing(listing, answer)
 }
 
-// A quick answer put down in document 01's numbers. Returned is the first of them: 0, or the refusal's number.
+// A quick answer put down in the papers' numbers. Returned is the first of them: 0, or the refusal's number.
 fn put_quick(quick: Quick, answer: &mut [u32; 3]) -> u32
     ensures { λ r. ⌜ r ≡ getD (quickValues quick) 0 0 ⌝ }
     ensures { λ _. ⌜ now (answer .exit) ≡ sets (now (answer .entry)) 0 (quickValues quick) ⌝ }

@@ -103,8 +103,8 @@ occursOverOther (change (occurring k) c t) = not (isPhrase t)
 unfoldable pub notOverPhrase : List ℕ → Option ℕ
 notOverPhrase selection = Option·map placeOf (first occursOverOther (parts (treeOf selection)))
 
--- 7, the first such kind 5: "a not under a mild not"; "No kind 4 may stand in either side of a kind 5." F-3: it
--- "now counts kind 16 too". What counts is a not here.
+-- 7, the first such kind 5: "a not under a mild not"; "No kind 4 may stand in either side of a kind 5." F-3: it "now counts kind 16 too". A not is here
+-- what this rule counts as one.
 abbrev pub isNot : Tree → Bool
 isNot (phrase c r ws) = false
 isNot (pair k c t u) = false

@@ -1,6 +1,7 @@
 -- The shape of a code is what the waiting rule, trees and parts see of it: "Kind 0 .. adds a word. Kind 1 needs p = k .. Other kinds .. 2, 3 and 5 need
 -- w ≥ 2 .., the rest need w ≥ 1." A word waits; every other code makes one list, of the words that wait, of the last list or of the last two.
--- Not, which document 01 counts among what combines, takes one list and stands with the filters here, as occurs does. (Refusal 6, "shape wrong", is of a selection.)
+-- Not, which document 01 counts among what combines, takes one list and stands with the filters here, as occurs does. (Refusal 6, "shape wrong", is of
+-- a selection.)
 use Prim.Native.Nat.{ℕ}
 use mathlib.Core.Bool.{Bool, true, false}
 use mathlib.Core.List.{List}

@@ -75,8 +75,8 @@ pub fn check_selection(selection: &[u32]) -> Checked
     if let Fault::At(place) = shape {
         return Checked::Refused(Refusal { number: 6, place });
     }
-    let elsewhere = not_over_phrase(selection);
-    if let Fault::At(place) = elsewhere {
+    let over_other = not_over_phrase(selection);
+    if let Fault::At(place) = over_other {
         return Checked::Refused(Refusal { number: 12, place });
     }
     let under = not_under_mild_not(selection);

@@ -19,7 +19,7 @@ use Rattle.model.proofs.EveryLaws.{every-weaker, every-append, every-map, every
 use Rattle.model.proofs.ListsLaws.{flatMap-append, length-sublist}
 use Rattle.model.proofs.TestsLaws.{both-true, and-join}
 use Rattle.model.proofs.YesLaws.{yes-atLeast, yes-fromTo, free-phrase}
-use Rattle.theorems.specs.Demands.{Has, WithoutExcludes, InOrder, Precedes, starts, Sooner, Occurs}
+use Rattle.theorems.specs.Demands.{Has, WithoutExcludes, InOrder, Precedes, starts, Sooner, OccursChosen}
 use Rattle.theorems.proofs.WordsLaws.{yes-exists}
 
 -- ---- Has
@@ -279,9 +279,9 @@ test-between a b n = (there, back)
 yes-when : (ms : List Match) (b : Bool) {P : Type 0} → isYes ms ≡ b → (b ≡ true) ↔ P → Has WithoutExcludes ms ↔ P
 yes-when ms b e t = (λ h. t .0 (sym e ∙ yes-exists ms .1 h), λ p. yes-exists ms .0 (e ∙ t .1 p))
 
-pub occurs : Occurs
+pub occurs-chosen : OccursChosen
 unfolding allMatches
-occurs s rank words =
+occurs-chosen s rank words =
     let ms = phraseList s rank words in
     let free = free-phrase s rank words in
     record {

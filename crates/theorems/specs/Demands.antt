@@ -1,8 +1,8 @@
 -- The three demands, sentence by sentence, and document 02's F-1, F-2 and F-3, over the definitions that the calls' contracts name (calls/src/lib.rt and
 -- engine/src/lib.rt): the listing answers `listingAnswer ..` and leaves `listingBuffer ..` in the buffer, the quick answer answers `quickAnswer ..`, the
 -- snippet is `snippetOf ..`; for the answer of its text a typed call answers `typedListing ..`, `typedQuick ..`, `readAnswer ..`. So what is proved of
--- these holds of the calls. (F-2 speaks of no call, but of what is read inside them; F-3 of the lists, which the calls answer by.) proofs/ has a proof of each.
--- Document 01 is meant here as F-3 changes it: kinds 16 and 17 in the lists and in the walk, refusal 12 in the table.
+-- these holds of the calls. (F-2 speaks of no call, but of what is read inside them; F-3 of the lists, which the calls answer by.) proofs/ has a proof
+-- of each. Document 01 is meant here as F-3 changes it: kinds 16 and 17 in the lists and in the walk, refusal 12 in the table.
 -- Quotation marks enclose the demands' own words, or document 01's or 02's where it is named. `A ↔ B` is 'A exactly when B', `(x : A) × B` 'there is an x
 -- with B', `⊎` 'or', `¬` 'not'.
 use Prim.Native.Nat.{ℕ, suc, _/_, _%_, _^_, _≤_, _<_}
@@ -80,8 +80,8 @@ QuickRefuses answer r = answer ≡ QuickRefused r
 abbrev pub RefusesForSize : Quick → ℕ → Type 0
 RefusesForSize answer place = QuickRefuses answer (refusal 9 place)
 
--- Document 01's table of refusals with document 02's F-3, for some input: each row has a number, and the place where it falls, if it does. model/specs/Checks.antt has the
--- table's words beside each.
+-- Document 01's table of refusals with document 02's F-3, for some input: each row has a number, and the place where it falls, if it does.
+-- model/specs/Checks.antt has the table's words beside each.
 pub record Row : Type 0 where
   pub number : ℕ
   pub falls : Option ℕ
@@ -154,7 +154,8 @@ Numbered r = ((1 ≤ r .number) × (r .number ≤ 9)) ⊎ (r .number ≡ 12)
 
 pub record Demand1Of (section selection : List ℕ) (work : ℕ) (buffer : List ℕ) (from to : ℕ) : Type 0 where
   -- "The answer to every section, every selection and every size of lent memory is a result or one refusal by number and place, and every call ends."
-  -- A refusal has one of document 01's numbers, or F-3's; the snippet never refuses, and is a part of the section. That every call ends is the checker's to prove.
+  -- A refusal has one of document 01's numbers, or F-3's; the snippet never refuses, and is a part of the section. That every call ends is the checker's
+  -- to prove.
   pub listing-answers : ListingGiven (listingAnswer section selection work (length buffer))
       ⊎ ((r : Refusal) × ListingRefuses (listingAnswer section selection work (length buffer)) r × Numbered r)
   pub quick-answers : QuickGiven (quickAnswer section selection work)
@@ -357,5 +358,5 @@ pub record OccursOf (s : Section) (rank : ℕ) (words : List ℕ) (finds : List 
   pub at-least-yes : (a : ℕ) → Has WithoutExcludes (occursOver s (AtLeast a) rank words) ↔ (a ≤ length finds)
   pub from-to-yes : (a b : ℕ) → Has WithoutExcludes (occursOver s (FromTo a b) rank words) ↔ ((a ≤ length finds) × (length finds ≤ b))
 
-abbrev pub Occurs : Type 0
-Occurs = (s : Section) (rank : ℕ) (words : List ℕ) → OccursOf s rank words (phraseList s rank words)
+abbrev pub OccursChosen : Type 0
+OccursChosen = (s : Section) (rank : ℕ) (words : List ℕ) → OccursOf s rank words (phraseList s rank words)

@@ -1,6 +1,6 @@
 // The three demands hold, and what document 02's F-1 says of typed searches, F-2 of spans and F-3 of occurs: specs/Demands.antt states them, and the crate
 // isn't proved unless proofs/ inhabits each. Nothing imports it.
-ghost use Rattle.theorems.specs.Demands.{Demand1, Demand2, Demand3, Occurs, SpansRead, TypedSearches};
+ghost use Rattle.theorems.specs.Demands.{Demand1, Demand2, Demand3, OccursChosen, SpansRead, TypedSearches};
 
 pub fn demands_hold()
     ensures { λ _. ⌜ Demand1 ⌝ }
@@ -8,5 +8,5 @@ pub fn demands_hold()
     ensures { λ _. ⌜ Demand3 ⌝ }
     ensures { λ _. ⌜ TypedSearches ⌝ }
     ensures { λ _. ⌜ SpansRead ⌝ }
-    ensures { λ _. ⌜ Occurs ⌝ }
+    ensures { λ _. ⌜ OccursChosen ⌝ }
 {}

@@ -80,7 +80,9 @@ fn published_examples() {
         // of E79 the different ones aren't listed in the published order
         if let Some((all, different)) = copies(reading) {
             assert_eq!(matches.len(), all, "{id}");
-            matches.sort();
+            if id == "E79" {
+                matches.sort();
+            }
             matches.dedup();
             assert_eq!(matches.len(), different, "{id}");
             copied.push(id);

@@ -93,11 +93,11 @@ enum-told-3 c = search needs
 not-over-phrase-requires : tie.Need-not-over-phrase-requires
 not-over-phrase-requires c κs = passes-shape c
 
-enum-known-elsewhere : tie.Need-enum-known-elsewhere
-enum-known-elsewhere c = search needs
+enum-known-over-other : tie.Need-enum-known-over-other
+enum-known-over-other c = search needs
 
 returns-5 : tie.Need-returns-5
-returns-5 c = let o = c .before .before .before in ap (checkedOf _) (sym (stops-here _ twelve _ (to-occurs o) (o .not-over-phrase .ensures) (c .before .elsewhere .given .1)))
+returns-5 c = let o = c .before .before .before in ap (checkedOf _) (sym (stops-here _ twelve _ (to-occurs o) (o .not-over-phrase .ensures) (c .before .over-other .given .1)))
 
 enum-told-4 : tie.Need-enum-told-4
 enum-told-4 c = search needs
@@ -142,7 +142,7 @@ check-selection-spec =
     returns-4
     enum-told-3
     not-over-phrase-requires
-    enum-known-elsewhere
+    enum-known-over-other
     returns-5
     enum-told-4
     not-under-mild-not-requires

@@ -6,10 +6,10 @@ use Rattle.theorems.proofs.Demand2.{demand-2}
 use Rattle.theorems.proofs.Demand3.{demand-3}
 use Rattle.theorems.proofs.TypedSearches.{typed-searches}
 use Rattle.theorems.proofs.SpansRead.{spans-read}
-use Rattle.theorems.proofs.OccursChosen.{occurs}
+use Rattle.theorems.proofs.OccursChosen.{occurs-chosen}
 
 returns : tie.Need-returns
-returns c = (demand-1, (demand-2, (demand-3, (typed-searches, (spans-read, occurs)))))
+returns c = (demand-1, (demand-2, (demand-3, (typed-searches, (spans-read, occurs-chosen)))))
 
 pub demands-hold-spec : {M : Type 1} → statement M
 demands-hold-spec = tie.close (tie.spec returns)
