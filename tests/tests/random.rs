@@ -179,7 +179,7 @@ fn cases_meet_everything() {
 /// All refusals of the two calls.
 const REFUSALS: [u32; 10] = [1, 2, 3, 4, 5, 6, 7, 8, 9, 12];
 
-/// Counts where the occurs of those cases stand that all have one, over how many finds, and with which numbers.
+/// Counts where the occurs of those cases stand that are made with one, over how many finds, and with which numbers.
 #[test]
 #[cfg_attr(debug_assertions, ignore = "needs 100,000 cases")]
 fn occurs_cases_meet_everything() {
