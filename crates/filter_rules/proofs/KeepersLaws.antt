@@ -14,7 +14,7 @@ use Rattle.filter_rules.specs.declared.Rule.the-variants.{Keep}
 use Rattle.filter_rules.proofs.Keeper.{the-type}
 use Rattle.filter_rules.specs.Keepers.{filterOf, keepingOf}
 
-keeper-match : (s : Section) (k : Keeper) → kept (keepingOf s k) ≡ filterMatch s (filterOf (Keep k))
+pub keeper-match : (s : Section) (k : Keeper) → kept (keepingOf s k) ≡ filterMatch s (filterOf (Keep k))
 keeper-match s Ordered = refl
 keeper-match s (Distance a b) = refl
 keeper-match s SameSentence = refl

@@ -1,5 +1,5 @@
 -- The walk against what it answers, builds and reaches. Its answer is decided by the first list too long among those that it builds; where none is,
--- it says what the complete list says, for or, and, not turn on their operands' answers alone.
+-- it says what the complete list says, for or, and, not turn on their operands' answers alone, and a filter on what it gives of each match.
 use Prim.Native.Nat.{ℕ, _+_, _≤_}
 use native.Mathlib.Omega.{arith}
 use mathlib.Core.Path.{_≡_, refl, ap, ap₂, sym, _∙_}
@@ -18,9 +18,9 @@ use Rattle.model.specs.Lists.{first}
 use Rattle.model.specs.Matches.{isYes, tooLong}
 use Rattle.model.specs.Section.{Section}
 use Rattle.model.specs.Trees.{Tree, phrase, pair, change, placeOf, parts}
-use Rattle.model.specs.Walk.{isTooLong, firstTooLong, unlessTooLong, build, turned, orWalk, andWalk, walk}
+use Rattle.model.specs.Walk.{isTooLong, firstTooLong, unlessTooLong, build, filterWalk, turned, orWalk, andWalk, walk}
 use Rattle.model.specs.Walked.{walkAnswer, walkBuilds, walkReaches}
-use Rattle.model.proofs.YesLaws.{yes-phrase, yes-or, yes-and, yes-not}
+use Rattle.model.proofs.YesLaws.{yes-phrase, yes-or, yes-and, yes-not, yes-filter}
 use Rattle.model.proofs.ListsLaws.{first-append, first-none, first-sublist, length-sublist, sublist-append}
 
 -- ---- parts
@@ -115,7 +115,7 @@ not-walked (some c) b n = refl
 
 -- The walk refuses at the first list too long among those that it builds; where none is, it answers what it says, and counts what it reaches.
 pub walk-is : (s : Section) (t : Tree) → walk s t ≡ unlessTooLong (firstTooLong s (walkBuilds s t)) (walkAnswer s t) (length (walkReaches s t))
-unfolding first firstTooLong walk build walkAnswer walkBuilds walkReaches
+unfolding first firstTooLong parts walk build filterWalk walkAnswer walkBuilds walkReaches
 walk-is s (phrase c rank ws) = refl
 walk-is s (pair Or c t u) =
     rw (walk-is s t, walk-is s u, tooLong-sides s (walkBuilds s t) (walkAnswer s t) [] (walkBuilds s u), length-sides (walkReaches s t) (walkAnswer s t) [] (walkReaches s u) (pair Or c t u))
@@ -126,7 +126,7 @@ walk-is s (pair And c t u) =
 walk-is s (pair MildNot c t u) = refl
 walk-is s (change negated c t) =
     rw (walk-is s t, length-append (walkReaches s t) (change negated c t ∷ [])) (not-walked (firstTooLong s (walkBuilds s t)) (walkAnswer s t) (length (walkReaches s t)))
-walk-is s (change (filtered f) c t) = refl
+walk-is s (change (filtered f) c t) = rw (length-append (parts t) (change (filtered f) c t ∷ []))
 walk-is s (change (occurring k) c t) = refl
 
 -- ---- walkAnswer
@@ -138,7 +138,7 @@ walkAnswer-complete s (pair Or c t u) = ap₂ _||_ (walkAnswer-complete s t) (wa
 walkAnswer-complete s (pair And c t u) = ap₂ _&&_ (walkAnswer-complete s t) (walkAnswer-complete s u) ∙ sym (yes-and (allMatches s t) (allMatches s u))
 walkAnswer-complete s (pair MildNot c t u) = refl
 walkAnswer-complete s (change negated c t) = ap not (walkAnswer-complete s t) ∙ sym (yes-not (allMatches s t))
-walkAnswer-complete s (change (filtered f) c t) = refl
+walkAnswer-complete s (change (filtered f) c t) = sym (yes-filter s f (allMatches s t))
 walkAnswer-complete s (change (occurring k) c t) = refl
 
 -- ---- walkBuilds, walkReaches
@@ -153,7 +153,7 @@ cond-both false d e = e
 
 -- Every code that the walk builds it reaches, in the same order.
 pub walkBuilds-reaches : (s : Section) (t : Tree) → Sublistᴰ (walkBuilds s t) (walkReaches s t)
-unfolding walkBuilds walkReaches
+unfolding parts walkBuilds walkReaches
 walkBuilds-reaches s (phrase c rank ws) = Sublistᴰ·nil-sublist (phrase c rank ws ∷ [])
 walkBuilds-reaches s (pair Or c t u) =
     sublist-append (pair Or c t u ∷ []) (Sublistᴰ·append (walkBuilds-reaches s t) (cond-both (walkAnswer s t) Sublistᴰ·slnil (walkBuilds-reaches s u)))
@@ -161,7 +161,7 @@ walkBuilds-reaches s (pair And c t u) =
     sublist-append (pair And c t u ∷ []) (Sublistᴰ·append (walkBuilds-reaches s t) (cond-both (walkAnswer s t) (walkBuilds-reaches s u) Sublistᴰ·slnil))
 walkBuilds-reaches s (pair MildNot c t u) = Sublistᴰ·refl (parts (pair MildNot c t u))
 walkBuilds-reaches s (change negated c t) = sublist-append (change negated c t ∷ []) (walkBuilds-reaches s t)
-walkBuilds-reaches s (change (filtered f) c t) = Sublistᴰ·refl (parts (change (filtered f) c t))
+walkBuilds-reaches s (change (filtered f) c t) = sublist-append (change (filtered f) c t ∷ []) (Sublistᴰ·refl (parts t))
 walkBuilds-reaches s (change (occurring k) c t) = Sublistᴰ·refl (parts (change (occurring k) c t))
 
 -- Every code that it reaches is the tree's, in the same order: none counts twice.

@@ -1,17 +1,20 @@
 -- When the rules' lists have a match without excludes. Phrase, or, and, not: each turns on its operands' answers alone, which is why the quick
--- answer may walk them without their lists. Occurs turns on how often its phrase is found.
+-- answer may walk them without their lists. A filter turns on what it gives of each match. Occurs turns on how often its phrase is found.
 use Prim.Native.Nat.{ℕ, zero, suc, _+_, _≤_}
 use native.Mathlib.Omega.{arith}
 use mathlib.Core.Path.{_≡_, refl, ap, ap₂, sym, subst, _∙_}
-use mathlib.Core.Bool.{Bool, true, false, not, _&&_, _||_, and-or-distrib-left, and-or-distrib-right, and-false}
+use mathlib.Core.Bool.{Bool, true, false, not, _&&_, _||_, cond, and-or-distrib-left, and-or-distrib-right, and-false, or-false}
 use mathlib.Core.List.{List, [], _∷_, _++_, map, flatMap}
 use lib.Dec.{leb}
 use lib.ListN.{length}
 use borrow.Author.Tests.{leb-true, leb-false}
-use Rattle.model.specs.Lists.{Every, anyOf, isEmpty, keep, choose, fromTo}
+use Rattle.model.specs.declared.Filter.{Filter}
+use Rattle.model.specs.AllMatches.{filterMatch, filterList}
+use Rattle.model.specs.Lists.{Every, allOf, anyOf, isEmpty, keep, choose, fromTo}
 use Rattle.model.specs.Matches.{Str, Match, noExclude, isYes}
-use Rattle.model.specs.Rules.{standFrom, found, phraseList, orList, joined, andList, withInclude, withExclude, notList, joinedAll, choicesOf, atLeast, fromToTimes}
+use Rattle.model.specs.Rules.{standFrom, found, phraseList, orList, joined, andList, withInclude, withExclude, notList, Keeping, keptIf, keptMatch, kept, insideWindow, windowTo, windowEnds, window, joinedAll, choicesOf, atLeast, fromToTimes}
 use Rattle.model.specs.Section.{Section}
+use Rattle.model.specs.Walk.{givesYes}
 use Rattle.model.proofs.EveryLaws.{every-value, every-choose}
 use Rattle.model.proofs.ListsLaws.{any-append, isEmpty-append, range-empty, range-cons}
 use Rattle.model.proofs.TestsLaws.{and-join}
@@ -92,6 +95,51 @@ yes-not (m ∷ ms) =
     neither : (x y : Bool) → (not x && not y) ≡ not (x || y)
     neither true y = refl
     neither false y = refl
+
+-- ---- filters: a list is yes where a match of it gives one without excludes
+
+yes-each : (F : Match → List Match) (ms : List Match) → isYes (flatMap F ms) ≡ anyOf (λ m. isYes (F m)) ms
+unfolding anyOf flatMap
+yes-each F [] = refl
+yes-each F (m ∷ ms) = any-append noExclude (F m) (flatMap F ms) ∙ ap (isYes (F m) ||_) (yes-each F ms)
+
+pub yes-filter : (s : Section) (f : Filter) (ms : List Match) → isYes (filterList s f ms) ≡ anyOf (givesYes s f) ms
+unfolding filterList
+yes-filter s f ms = yes-each (filterMatch s f) ms
+
+none-kept : {A : Type 0} (p : A → Bool) (xs : List A) → isEmpty (keep p xs) ≡ not (anyOf p xs)
+unfolding anyOf isEmpty keep
+none-kept p [] = refl
+none-kept p (x ∷ xs) = at (p x) (none-kept p xs)
+  where
+    at : (b : Bool) → isEmpty (keep p xs) ≡ not (anyOf p xs) → isEmpty (cond b (x ∷ keep p xs) (keep p xs)) ≡ not (b || anyOf p xs)
+    at true e = refl
+    at false e = e
+
+-- a filter that keeps a match or drops it gives one without excludes where it is kept and no exclude stays
+pub yes-kept : (k : Keeping) (m : Match) → isYes (kept k m) ≡ (k .keeps (m .includes) && not (anyOf (k .stays (m .includes)) (m .excludes)))
+unfolding kept anyOf
+yes-kept k m = at (k .keeps (m .includes))
+  where
+    at : (b : Bool) → isYes (keptIf b (keptMatch k m)) ≡ (b && not (anyOf (k .stays (m .includes)) (m .excludes)))
+    at true = or-false (noExclude (keptMatch k m)) ∙ none-kept (k .stays (m .includes)) (m .excludes)
+    at false = refl
+
+-- a window where there is one that no exclude is inside
+yes-windows : (n : ℕ) (m : Match) (lasts : List ℕ) → isYes (map (windowTo n m) lasts) ≡ not (allOf (λ last. anyOf (insideWindow n last) (m .excludes)) lasts)
+unfolding anyOf allOf
+yes-windows n m [] = refl
+yes-windows n m (last ∷ lasts) =
+    ap₂ _||_ (none-kept (insideWindow n last) (m .excludes)) (yes-windows n m lasts)
+    ∙ not-both (anyOf (insideWindow n last) (m .excludes)) (allOf (λ p. anyOf (insideWindow n p) (m .excludes)) lasts)
+  where
+    not-both : (x y : Bool) → (not x || not y) ≡ not (x && y)
+    not-both true y = refl
+    not-both false y = refl
+
+pub yes-window : (n : ℕ) (m : Match) → isYes (window n m) ≡ not (allOf (λ last. anyOf (insideWindow n last) (m .excludes)) (windowEnds n (m .includes)))
+unfolding window
+yes-window n m = yes-windows n m (windowEnds n (m .includes))
 
 -- ---- occurs: of matches without excludes, as a phrase's are, there is a choice of a or more where there are as many
 

@@ -23,7 +23,7 @@ use Rattle.model.specs.Selection.{upTo}
 use Rattle.model.specs.Kinds.{shapesOf}
 use Rattle.model.specs.Trees.{placeOf, combine, changeLast, read, readAll, topTree, treeOf, parts}
 use Rattle.model.specs.Waiting.{firstMisfitFrom}
-use Rattle.model.specs.Walk.{firstTooLong, build, walk}
+use Rattle.model.specs.Walk.{firstTooLong, build, filterWalk, walk}
 
 -- What is said of a selection.
 pub data Claim : Type 0 where
@@ -33,6 +33,8 @@ pub data Claim : Type 0 where
   answers : Bool → Claim
   -- both calls refuse it: number and place
   refused : ℕ → ℕ → Claim
+  -- the listing is refused 9 at a place, and the quick answer given, with a count of codes
+  quickOnly : ℕ → Bool → ℕ → Claim
 
 pub record Example : Type 0 where
   pub section : List ℕ
@@ -69,6 +71,10 @@ quickSays : Quick → Bool → Bool
 quickSays (Answered y n) b = Bool·beq y b
 quickSays (QuickRefused r) b = false
 
+quickCounts : Quick → ℕ → Bool
+quickCounts (Answered y n) k = eqb n k
+quickCounts (QuickRefused r) k = false
+
 sameRefusal : Refusal → ℕ → ℕ → Bool
 sameRefusal r number place = eqb (r .number) number && eqb (r .place) place
 
@@ -93,6 +99,10 @@ holds section selection (answers b) =
 holds section selection (refused number place) =
     listingRefuses (listingAnswer section selection workLength bufferLength) number place
     && quickRefuses (quickAnswer section selection workLength) number place
+holds section selection (quickOnly place b codes) =
+    listingRefuses (listingAnswer section selection workLength bufferLength) 9 place
+    && quickSays (quickAnswer section selection workLength) b
+    && quickCounts (quickAnswer section selection workLength) codes
 
 pub right : Example → Bool
 right e = allOf (holds (e .section) (e .selection)) (e .claims)
@@ -218,12 +228,22 @@ entries =
     ∷ record { section = six; selection = occurs 10 18 0; claims = refused 4 3 ∷ [] }
     ∷ record { section = six; selection = occurs 10 17 4096; claims = refused 5 3 ∷ [] }
     ∷ record { section = six; selection = occurs 10 16 (3 * radix + 2); claims = refused 5 3 ∷ [] }
+    -- F-4: 10 in a window of 257, which are 514 windows; under a not; after a no of an or
+    ∷ record { section = six; selection = select (0 ∷ 1 ∷ 7 ∷ []) (10 ∷ 1 ∷ 257 ∷ []); claims = quickOnly 3 true 2 ∷ [] }
+    ∷ record { section = six; selection = select (0 ∷ 1 ∷ 7 ∷ 4 ∷ []) (10 ∷ 1 ∷ 257 ∷ 0 ∷ []); claims = quickOnly 3 false 3 ∷ [] }
+    ∷ record { section = six; selection = select (0 ∷ 1 ∷ 0 ∷ 1 ∷ 7 ∷ 2 ∷ []) (99 ∷ 1 ∷ 10 ∷ 1 ∷ 257 ∷ 0 ∷ []); claims = quickOnly 5 true 4 ∷ [] }
+    -- 10 and not 20, and 10 and not 10, in it: some windows around a 10 have no 20, none has no 10
+    ∷ record { section = six; selection = select (0 ∷ 1 ∷ 0 ∷ 1 ∷ 4 ∷ 3 ∷ 7 ∷ []) (10 ∷ 1 ∷ 20 ∷ 1 ∷ 0 ∷ 0 ∷ 257 ∷ []); claims = quickOnly 7 true 5 ∷ [] }
+    ∷ record { section = six; selection = select (0 ∷ 1 ∷ 0 ∷ 1 ∷ 4 ∷ 3 ∷ 7 ∷ []) (10 ∷ 1 ∷ 10 ∷ 1 ∷ 0 ∷ 0 ∷ 257 ∷ []); claims = quickOnly 7 false 5 ∷ [] }
+    -- the lists under the filter still count; so does that of an occurs
+    ∷ record { section = six; selection = select (0 ∷ 1 ∷ 7 ∷ 6 ∷ []) (10 ∷ 1 ∷ 257 ∷ 0 ∷ []); claims = refused 9 3 ∷ [] }
+    ∷ record { section = sevens 8; selection = select (0 ∷ 1 ∷ 17 ∷ 6 ∷ []) (7 ∷ 1 ∷ 4 ∷ 0 ∷ []); claims = refused 9 3 ∷ [] }
     ∷ []
 
 pub examples-hold : allOf right entries ≡ true
-unfolding eachSame sameStr sameMatch countsMatches countsStrings listingSays quickSays sameRefusal listingRefuses quickRefuses buffered holds right inParagraph select one at these six emptySection four sevens occurs entries
+unfolding eachSame sameStr sameMatch countsMatches countsStrings listingSays quickSays quickCounts sameRefusal listingRefuses quickRefuses buffered holds right inParagraph select one at these six emptySection four sevens occurs entries
     xor allOf anyOf isEmpty keep first allPairs neighbours insertSorted sort choose upFrom fromTo flatMap wellSized upTo shapesOf firstMisfitFrom placeOf combine changeLast read readAll topTree treeOf parts strings
     standFrom phraseList andList notList mildNotList leastStart greatestEnd join kept windowEnds window inUnitFor joinedAll choicesOf atLeast fromToTimes filterList allMatches
     tried wrongSection faultyAt faultyPosition wrongSelection unknownKind filterOperandFits timesOperandFits operandFits wrongOperand wrongShape notOverPhrase notUnderMildNot sectionRefusal selectionRefusal inputRefusal listingChecks quickChecks
-    firstTooLong build walk listingRefusal listingAnswer listingNumbers listingBuffer quickAnswer
+    firstTooLong build filterWalk walk listingRefusal listingAnswer listingNumbers listingBuffer quickAnswer
 examples-hold = refl

@@ -5,14 +5,15 @@ use mathlib.Core.List.{List}
 use mathlib.Core.Option.{Option, some, none, Option·map}
 use lib.Dec.{leb}
 use lib.ListN.{length}
+use Rattle.model.specs.declared.Filter.{Filter}
 use Rattle.model.specs.declared.Pair.the-variants.{Or, And, MildNot}
 use Rattle.model.specs.declared.Quick.{Quick}
 use Rattle.model.specs.declared.Quick.the-variants.{Answered, Refused}
 use Rattle.model.specs.Kinds.{negated, filtered, occurring}
-use Rattle.model.specs.AllMatches.{allMatches}
+use Rattle.model.specs.AllMatches.{allMatches, filterMatch}
 use Rattle.model.specs.Checks.{refusal}
-use Rattle.model.specs.Lists.{first, isEmpty, keep, fromTo}
-use Rattle.model.specs.Matches.{isYes, tooLong}
+use Rattle.model.specs.Lists.{first, anyOf, isEmpty, keep, fromTo}
+use Rattle.model.specs.Matches.{Match, isYes, tooLong}
 use Rattle.model.specs.Rules.{phraseList}
 use Rattle.model.specs.Section.{Section, size}
 use Rattle.model.specs.Selection.{kindAt}
@@ -35,6 +36,16 @@ unlessTooLong none answer codes = Answered answer codes
 unfoldable pub build : Section → Tree → Quick
 build s t = unlessTooLong (firstTooLong s (parts t)) (isYes (allMatches s t)) (length (parts t))
 
+-- Document 02, F-4: "Where the walk itself reaches a filter (kinds 6 to 15), it should take the operand's matches one by one and stop at the first
+-- that gives a match without excludes." So of those kinds it builds the operand's part, not the filter's own list.
+abbrev pub givesYes : Section → Filter → Match → Bool
+givesYes s f m = isYes (filterMatch s f m)
+
+-- "That filter's own list no longer counts for refusal 9; the lists under it still do." "the count of codes remains that of the walk": all codes of the
+-- operand's part, and the filter.
+unfoldable pub filterWalk : Section → Filter → Tree → Quick
+filterWalk s f t = unlessTooLong (firstTooLong s (parts t)) (anyOf (givesYes s f) (allMatches s t)) (length (parts t) + 1)
+
 -- "not turns the answer round"; "each walked code counts once"; "The walk ends at its first refusal."
 abbrev pub turned : Quick → Quick
 turned (Answered answer n) = Answered (not answer) (n + 1)
@@ -54,15 +65,15 @@ andWalk (Answered true n) (Answered answer k) = Answered answer (n + k + 1)
 andWalk (Answered true n) (Refused r) = Refused r
 andWalk (Refused r) right = Refused r
 
--- "a phrase is yes if its list isn't empty"; "Limits on size hold only for lists built at or under kinds 5 to 15." F-3: "The quick walk builds and counts
--- them as it does filters", kinds 16 and 17.
+-- "a phrase is yes if its list isn't empty"; "Limits on size hold only for lists built at or under kinds 5 to 15." Kind 5 is built, F-4's filters are
+-- walked so, and kinds 16 and 17 are built as document 01 builds filters (F-3: "The quick walk builds and counts them as it does filters").
 unfoldable pub walk : Section → Tree → Quick
 walk s (phrase c rank ws) = Answered (not (isEmpty (phraseList s rank ws))) 1
 walk s (change negated c t) = turned (walk s t)
 walk s (pair Or c t u) = let right = walk s u in orWalk (walk s t) right
 walk s (pair And c t u) = let right = walk s u in andWalk (walk s t) right
 walk s (pair MildNot c t u) = build s (pair MildNot c t u)
-walk s (change (filtered f) c t) = build s (change (filtered f) c t)
+walk s (change (filtered f) c t) = filterWalk s f t
 walk s (change (occurring k) c t) = build s (change (occurring k) c t)
 
 -- "The selection's own count is that of all its codes but those of kind 0."

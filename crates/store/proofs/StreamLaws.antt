@@ -3,9 +3,10 @@
 use Prim.Native.Nat.{ℕ, suc, _+_, _≤_, _<_}
 use native.Mathlib.Omega.{arith}
 use mathlib.Core.Path.{_≡_, refl, sym, ap, _∙_, subst}
+use mathlib.Core.Bool.{Bool, true, false}
 use mathlib.Core.List.{List, [], _∷_, _++_}
 use lib.ListN.{length, getD, length-append}
-use Rattle.model.specs.Lists.{Every}
+use Rattle.model.specs.Lists.{Every, anyOf}
 use Rattle.model.specs.Matches.{Match, strings}
 use Rattle.model.proofs.RulesLaws.{length-none}
 use Rattle.store.specs.Layout.{Holds, matchLength, matchNumbers, matchesNumbers}
@@ -85,6 +86,21 @@ module _ {A : Type 0} {result : A} {f : List Match → A} {mem : List ℕ} {p en
 
   pub search-none : g .todo ≡ [] → f [] ≡ result
   search-none e = ap f (sym e) ∙ g .same
+
+-- .. whether any match passes a test
+module _ (test : Match → Bool) {result : Bool} {mem : List ℕ} {p end : ℕ} (g : SearchInvariant result (anyOf test) mem p end) where
+  module _ (N : Next (g .todo) mem p end) where
+    pub any-here : test (N .first) ≡ true → true ≡ result
+    unfolding anyOf
+    any-here e = let found : anyOf test (N .first ∷ N .rest) ≡ true = rw e in sym found ∙ search-here g N
+
+    pub any-later : test (N .first) ≡ false → {k : ℕ} → k ≡ p + matchLength (getD mem p 0) → SearchInvariant result (anyOf test) mem k end
+    unfolding anyOf
+    any-later e = search-next g N (anyOf test) (rw e)
+
+  pub any-none : end ≤ p → false ≡ result
+  unfolding anyOf
+  any-none h = search-none g (none-at (g .left) h)
 
 -- ---- stores above
 

@@ -5,6 +5,7 @@ pub mod Demand3
 pub mod TypedSearches
 pub mod SpansRead
 pub mod OccursChosen
+pub mod EarlyWayOut
 -- .. and the laws of their words.
 pub mod WordsLaws
 pub mod SpelledLaws

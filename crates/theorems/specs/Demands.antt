@@ -1,8 +1,9 @@
--- The three demands, sentence by sentence, and document 02's F-1, F-2 and F-3, over the definitions that the calls' contracts name (calls/src/lib.rt and
+-- The three demands, sentence by sentence, and document 02's F-1 to F-4, over the definitions that the calls' contracts name (calls/src/lib.rt and
 -- engine/src/lib.rt): the listing answers `listingAnswer ..` and leaves `listingBuffer ..` in the buffer, the quick answer answers `quickAnswer ..`, the
 -- snippet is `snippetOf ..`; for the answer of its text a typed call answers `typedListing ..`, `typedQuick ..`, `readAnswer ..`. So what is proved of
--- these holds of the calls. (F-2 speaks of no call, but of what is read inside them; F-3 of the lists, which the calls answer by.) proofs/ has a proof
--- of each. Document 01 is meant here as F-3 changes it: kinds 16 and 17 in the lists and in the walk, refusal 12 in the table.
+-- these holds of the calls. (F-2 speaks of no call, but of what is read inside them; F-3 of the lists and F-4 of the walk, which the calls answer
+-- by.) proofs/ has a proof of each. Document 01 is meant here as F-3 and F-4 change it: kinds 16 and 17 in the lists and in the walk, refusal 12 in the
+-- table; and where the walk reaches a filter, it builds the lists under it and not the filter's own.
 -- Quotation marks enclose the demands' own words, or document 01's or 02's where it is named. `A ↔ B` is 'A exactly when B', `(x : A) × B` 'there is an x
 -- with B', `⊎` 'or', `¬` 'not'.
 use Prim.Native.Nat.{ℕ, suc, _/_, _%_, _^_, _≤_, _<_}
@@ -14,8 +15,10 @@ use mathlib.Core.Path.{_≡_}
 use lib.Dec.{leb}
 use lib.ListN.{length, drop}
 use Rattle.model.specs.declared.Code.{Code}
+use Rattle.model.specs.declared.Filter.{Filter}
 use Rattle.model.specs.declared.Listing.{Listing}
 use Rattle.model.specs.declared.Listing.the-variants.{Listed, Refused as ListingRefused}
+use Rattle.model.specs.declared.Pair.the-variants.{Or, And, MildNot}
 use Rattle.model.specs.declared.Quick.{Quick}
 use Rattle.model.specs.declared.Quick.the-variants.{Answered, Refused as QuickRefused}
 use Rattle.model.specs.declared.Reading.the-variants.{Read, Refused as ReadingRefused}
@@ -27,7 +30,7 @@ use Rattle.model.specs.AllMatches.{allMatches}
 use Rattle.model.specs.AllStrings.{AllList}
 use Rattle.model.specs.Answers.{completeList, listingAnswer, spanOf, listingNumbers, listingBuffer, quickAnswer, snippetOf}
 use Rattle.model.specs.Checks.{refusal, wrongSection, faultyPosition, wrongSelection, unknownKind, wrongOperand, wrongShape, notOverPhrase, notUnderMildNot}
-use Rattle.model.specs.Kinds.{occurring}
+use Rattle.model.specs.Kinds.{negated, filtered, occurring}
 use Rattle.model.specs.Limits.{maxCodes, maxMatches, maxStrings, maxText, workLength, bufferLength, radix, selectionLength}
 use Rattle.model.specs.Lists.{Every}
 use Rattle.model.specs.Matches.{Str, Match, strings}
@@ -37,10 +40,10 @@ use Rattle.model.specs.Section.{Section, size, sentenceAt, paragraphAt, section
 use Rattle.model.specs.Selection.{codeAt, upTo}
 use Rattle.model.specs.TextAnswer.{TextAnswer, codes, error, AnswerOf, NotAllowed, TooLarge}
 use Rattle.model.specs.Tokens.{Token, Tokens}
-use Rattle.model.specs.Trees.{Tree, phrase, change, placeOf, treeOf, parts}
+use Rattle.model.specs.Trees.{Tree, phrase, pair, change, placeOf, treeOf, parts}
 use Rattle.model.specs.Typed.{selectionOf, typedListing, typedBuffer, typedQuick, readAnswer, readSelection}
 use Rattle.model.specs.TypedExamples.{ExamplesHold}
-use Rattle.model.specs.Walk.{firstTooLong, walk, ownCount}
+use Rattle.model.specs.Walk.{firstTooLong, build, turned, orWalk, andWalk, walk, ownCount}
 use Rattle.model.specs.Walked.{walkBuilds, walkReaches}
 
 -- ---- words
@@ -360,3 +363,31 @@ pub record OccursOf (s : Section) (rank : ℕ) (words : List ℕ) (finds : List 
 
 abbrev pub OccursChosen : Type 0
 OccursChosen = (s : Section) (rank : ℕ) (words : List ℕ) → OccursOf s rank words (phraseList s rank words)
+
+-- ---- document 02's F-4, early way out of a filter
+
+-- the walk as document 01 has it: at a filter it builds that too
+unfoldable pub walkOf01 : Section → Tree → Quick
+walkOf01 s (phrase c rank ws) = walk s (phrase c rank ws)
+walkOf01 s (change negated c t) = turned (walkOf01 s t)
+walkOf01 s (pair Or c t u) = let right = walkOf01 s u in orWalk (walkOf01 s t) right
+walkOf01 s (pair And c t u) = let right = walkOf01 s u in andWalk (walkOf01 s t) right
+walkOf01 s (pair MildNot c t u) = build s (pair MildNot c t u)
+walkOf01 s (change (filtered f) c t) = build s (change (filtered f) c t)
+walkOf01 s (change (occurring k) c t) = build s (change (occurring k) c t)
+
+-- for a section, and a filter at a place over an operand: the walk that reaches it
+pub record FilterReachedOf (section : List ℕ) (f : Filter) (c : ℕ) (operand : Tree) : Type 0 where
+  -- "That filter's own list no longer counts for refusal 9; the lists under it still do."
+  pub size-exactly : (place : ℕ) → RefusesForSize (walk (sectionOf section) (change (filtered f) c operand)) place
+      ↔ ((code : Tree) × FirstWith (PastLimits section) (parts operand) code × (placeOf code ≡ place))
+  pub size-only : (r : Refusal) → QuickRefuses (walk (sectionOf section) (change (filtered f) c operand)) r → r .number ≡ 9
+  -- "The yes or no is held, as before, to the complete unlimited list, and the count of codes remains that of the walk."
+  pub held : (y : Bool) (codes : ℕ) → walk (sectionOf section) (change (filtered f) c operand) ≡ Answered y codes
+      → ((y ≡ true) ↔ Has WithoutExcludes (allMatches (sectionOf section) (change (filtered f) c operand)))
+      × (codes ≡ length (parts (change (filtered f) c operand)))
+
+pub record EarlyWayOut : Type 0 where
+  pub filters : (section : List ℕ) (f : Filter) (c : ℕ) (operand : Tree) → FilterReachedOf section f c operand
+  -- Wherever filters stand: what document 01's walk answers is answered so still, count and all; so no refusal is new.
+  pub as-before : (s : Section) (t : Tree) (y : Bool) (codes : ℕ) → walkOf01 s t ≡ Answered y codes → walk s t ≡ Answered y codes

@@ -1,6 +1,6 @@
-// The three demands hold, and what document 02's F-1 says of typed searches, F-2 of spans and F-3 of occurs: specs/Demands.antt states them, and the crate
-// isn't proved unless proofs/ inhabits each. Nothing imports it.
-ghost use Rattle.theorems.specs.Demands.{Demand1, Demand2, Demand3, OccursChosen, SpansRead, TypedSearches};
+// The three demands hold, and what document 02's F-1 says of typed searches, F-2 of spans, F-3 of occurs and F-4 of filters that the walk reaches: specs/Demands.antt
+// states them, and the crate isn't proved unless proofs/ inhabits each. Nothing imports it.
+ghost use Rattle.theorems.specs.Demands.{Demand1, Demand2, Demand3, EarlyWayOut, OccursChosen, SpansRead, TypedSearches};
 
 pub fn demands_hold()
     ensures { λ _. ⌜ Demand1 ⌝ }
@@ -9,4 +9,5 @@ pub fn demands_hold()
     ensures { λ _. ⌜ TypedSearches ⌝ }
     ensures { λ _. ⌜ SpansRead ⌝ }
     ensures { λ _. ⌜ OccursChosen ⌝ }
+    ensures { λ _. ⌜ EarlyWayOut ⌝ }
 {}

@@ -1,3 +1,4 @@
 pub mod PartsLaws
 pub mod AnswersLaws
 pub mod WalkLaws
+pub mod FilterLaws

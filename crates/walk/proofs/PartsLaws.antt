@@ -11,12 +11,12 @@ use Rattle.model.specs.declared.Refusal.{Refusal}
 use Rattle.model.specs.AllMatches.{allMatches}
 use Rattle.model.specs.Checks.{refusal}
 use Rattle.model.specs.Kinds.{Shape, aWord, aPhrase, aPair, aChange, shapeAt}
-use Rattle.model.specs.Matches.{isYes}
+use Rattle.model.specs.Matches.{Match, isYes}
 use Rattle.model.specs.Parts.{partsEnded, partCount, postfix, phrases, partStart, rankAfter, codesOfTrees, phrasesAll}
-use Rattle.model.specs.Section.{sectionOf}
+use Rattle.model.specs.Section.{Section, sectionOf}
 use Rattle.model.specs.Selection.{upTo}
 use Rattle.model.specs.Trees.{Tree, phrase, pair, change, parts}
-use Rattle.model.specs.Walk.{firstTooLong, build}
+use Rattle.model.specs.Walk.{firstTooLong, unlessTooLong, build}
 use Rattle.model.proofs.BuildLaws.{part-below, part-count}
 use Rattle.model.proofs.PartsLaws.{start-le}
 use Rattle.model.proofs.SelectionLaws.{length-upTo, upTo-front}
@@ -96,23 +96,31 @@ module _ {section sel mem : List ℕ} {hi : ℕ} (w : Walkable section sel mem h
     room = w .room;
   }
 
-  -- its list is too long, or answers
-  pub build-long : {mem' : List ℕ} {part : Part} {r : Refusal} → PartList (sectionOf section) (w .part .tree) mem' part → part ≡ PartRefused r
-      → Refused (refusal 9 (r .place)) ≡ build (sectionOf section) (w .part .tree)
-  unfolding build
-  build-long {mem'} {part} {r} b e = rw (nine-at (firstTooLong (sectionOf section) (parts (w .part .tree))) (b .refused r e))
-    where
-      nine-at : (o : Option ℕ) → Option·map (refusal 9) o ≡ some r → o ≡ some (r .place)
-      nine-at none f = absurd (Option·none-ne-some r f)
-      nine-at (some place) f = let same : refusal 9 place ≡ r = cc in ap (λ (q : Refusal). some (q .place)) same
+-- ---- a part that is built: its list is too long, or answers
 
-  pub build-answers : {mem' : List ℕ} {part : Part} {lo n : ℕ} {answer : Bool} → PartList (sectionOf section) (w .part .tree) mem' part → part ≡ Built
-      → lo ≡ partStart (shapeAt sel) hi
-      → ((s : SlotAt mem' 0) → answer ≡ isYes (s .list))
+nine-at : (r : Refusal) (o : Option ℕ) → Option·map (refusal 9) o ≡ some r → o ≡ some (r .place)
+nine-at r none f = absurd (Option·none-ne-some r f)
+nine-at r (some place) f = let same : refusal 9 place ≡ r = cc in ap (λ (q : Refusal). some (q .place)) same
+
+module _ {s : Section} {t : Tree} {mem : List ℕ} {part : Part} (b : PartList s t mem part) where
+  -- where it is too long
+  pub part-long : {r : Refusal} → part ≡ PartRefused r → (answer : Bool) (n : ℕ) → Refused (refusal 9 (r .place)) ≡ unlessTooLong (firstTooLong s (parts t)) answer n
+  part-long {r} e answer n = rw (nine-at r (firstTooLong s (parts t)) (b .refused r e))
+
+  -- and where not, what is asked of its list and its count
+  pub part-answers : part ≡ Built → (f : List Match → Bool) {answer : Bool} {n k : ℕ} → ((w : SlotAt mem 0) → answer ≡ f (w .list)) → n ≡ k
+      → Answered answer n ≡ unlessTooLong (firstTooLong s (parts t)) (f (allMatches s t)) k
+  part-answers e f y h = rw (b .valid e, y (record { list = allMatches s t; slot = b .slot e }), h)
+
+-- ---- where the whole part is built
+
+module _ {section sel mem : List ℕ} {hi : ℕ} (w : Walkable section sel mem hi) {mem' : List ℕ} {part : Part} (b : PartList (sectionOf section) (w .part .tree) mem' part) where
+  pub build-long : {r : Refusal} → part ≡ PartRefused r → Refused (refusal 9 (r .place)) ≡ build (sectionOf section) (w .part .tree)
+  unfolding build
+  build-long e = part-long b e (isYes (allMatches (sectionOf section) (w .part .tree))) (length (parts (w .part .tree)))
+
+  pub build-answers : {lo n : ℕ} {answer : Bool} → part ≡ Built → lo ≡ partStart (shapeAt sel) hi → ((s : SlotAt mem' 0) → answer ≡ isYes (s .list))
       → partCount (upTo (shapeAt sel) lo) + n ≡ partCount (upTo (shapeAt sel) hi)
       → Answered answer n ≡ build (sectionOf section) (w .part .tree)
   unfolding build
-  build-answers {mem'} {part} {lo} {n} {answer} b e l y h =
-      let list = allMatches (sectionOf section) (w .part .tree) in
-      let all : n ≡ length (parts (w .part .tree)) = omega (arith, part-count (shapeAt sel) hi lo (w .part) l) in
-      rw (b .valid e, y (record { list = list; slot = b .slot e }), all)
+  build-answers {lo} e l y h = part-answers b e isYes y (omega (arith, part-count (shapeAt sel) hi lo (w .part) l))

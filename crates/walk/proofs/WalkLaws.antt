@@ -17,8 +17,9 @@ use Rattle.model.specs.declared.Pair.{Pair}
 use Rattle.model.specs.declared.Pair.the-variants.{Or, And, MildNot}
 use Rattle.model.specs.declared.Quick.{Quick}
 use Rattle.model.specs.declared.Quick.the-variants.{Answered, Refused}
+use Rattle.model.specs.declared.Times.{Times}
 use Rattle.model.specs.Accepted.{AcceptedSelection}
-use Rattle.model.specs.Kinds.{Change, negated, filtered, occurring, Shape, aWord, aPair, aChange, shapeOf, isNegation, shapeAt}
+use Rattle.model.specs.Kinds.{negated, occurring, Shape, aWord, aPair, aChange, shapeOf, shapeAt}
 use Rattle.model.specs.Limits.{maxCodes, workLength}
 use Rattle.model.specs.Lists.{isEmpty}
 use Rattle.model.specs.Parts.{PartAt, isMildNot, partStart, postfix, rankAfter, codesOfTrees}
@@ -106,12 +107,6 @@ module _ (b : Bool) (n : ℕ) where
     pair-undecided And e d = and-undecided (walk s t) (walk s u) d
     pair-undecided MildNot e d = false-true (sym e)
 
-change-builds : (s : Section) (k : Change) (c : ℕ) (t : Tree) → isNegation k ≡ false → walk s (change k c t) ≡ build s (change k c t)
-unfolding walk
-change-builds s negated c t e = false-true (sym e)
-change-builds s (filtered f) c t e = refl
-change-builds s (occurring k) c t e = refl
-
 mild-builds : (s : Section) (k : Pair) (c : ℕ) (t u : Tree) → isMildNot (aPair k) ≡ true → walk s (pair k c t u) ≡ build s (pair k c t u)
 unfolding walk
 mild-builds s Or c t u e = false-true e
@@ -187,9 +182,10 @@ module _ {section sel mem : List ℕ} {hi : ℕ} (w : Walkable section sel mem h
       ∙ ap (λ (l : List ℕ). Answered (not (isEmpty (phraseList (sectionOf section) (rankAfter (w .part .below)) l))) 1) (ws ∙ found)
       ∙ ap (walk (sectionOf section)) (sym (p .is))
 
-  -- a change other than a not
-  change-walks : {k : Change} → shapeAt sel hi ≡ aChange k → isNegation k ≡ false → build (sectionOf section) (w .part .tree) ≡ walk (sectionOf section) (w .part .tree)
-  change-walks {k} e n = let p = change-at (shapeAt sel) hi (w .part) k e in rw (p .is) (sym (change-builds (sectionOf section) k hi (p .operand .tree) n))
+  -- an occurs
+  occurs-walks : {k : Times} → shapeAt sel hi ≡ aChange (occurring k) → build (sectionOf section) (w .part .tree) ≡ walk (sectionOf section) (w .part .tree)
+  unfolding walk
+  occurs-walks {k} e = let p = change-at (shapeAt sel) hi (w .part) (occurring k) e in rw (p .is)
 
   -- a combination
   abbrev pub sides : {code : Code} {k : Pair} {mid : ℕ} → code ≡ codeAt sel hi → code ≡ Combine k → mid ≡ partStart (shapeAt sel) (hi - 1)
@@ -203,14 +199,14 @@ module _ {section sel mem : List ℕ} {hi : ℕ} (w : Walkable section sel mem h
       rw (p .is) (sym (mild-builds (sectionOf section) k hi (p .left .tree) (p .right .tree) m))
 
   -- any other part that the walk does not go into
-  pub leaf-builds : (code : Code) → code ≡ codeAt sel hi → OneOf (0 ∷ 2 ∷ 3 ∷ 4 ∷ 5 ∷ []) (tagOf the-type code) → goesInto (shapeOf code) ≡ false
+  pub leaf-builds : (code : Code) → code ≡ codeAt sel hi → OneOf (0 ∷ 2 ∷ 3 ∷ 5 ∷ []) (tagOf the-type code) → goesInto (shapeOf code) ≡ false
       → build (sectionOf section) (w .part .tree) ≡ walk (sectionOf section) (w .part .tree)
   leaf-builds (Word v) e o g = word-walks e refl
-  leaf-builds (Phrase k) e o g = absurd (miss (0 ∷ 2 ∷ 3 ∷ 4 ∷ 5 ∷ []) 1 tt o)
+  leaf-builds (Phrase k) e o g = absurd (miss (0 ∷ 2 ∷ 3 ∷ 5 ∷ []) 1 tt o)
   leaf-builds (Combine k) e o g = mild-walks e refl (not-false (isMildNot (aPair k)) g)
-  leaf-builds Not e o g = change-walks (ap shapeOf (sym e)) g
-  leaf-builds (Filtered f) e o g = change-walks (ap shapeOf (sym e)) g
-  leaf-builds (Occurs k) e o g = change-walks (ap shapeOf (sym e)) g
+  leaf-builds Not e o g = false-true (sym g)
+  leaf-builds (Filtered f) e o g = absurd (miss (0 ∷ 2 ∷ 3 ∷ 5 ∷ []) 4 tt o)
+  leaf-builds (Occurs k) e o g = occurs-walks (ap shapeOf (sym e))
 
 -- the codes of the arm that takes no not and no combination
 pub leaf-code : (code : Code) → OneOf (0 ∷ 1 ∷ 4 ∷ 5 ∷ []) (tagOf the-type code) → goesInto (shapeOf code) ≡ false

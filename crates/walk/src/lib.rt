@@ -3,15 +3,18 @@ mod answers; // a part's answer in one number, and what a code makes of its side
 
 use build::Part;
 use model::Code;
+use model::Filter;
 use model::Quick;
 ghost use mathlib.Core.Bool.{false};
 ghost use mathlib.Core.Path.{_≡_};
 ghost use Prim.Native.Nat.{_+_, _≤_};
+ghost use Rattle.model.specs.declared.Code.the-variants.{Filter as Filtered};
 ghost use Rattle.model.specs.Kinds.{shapeAt};
-ghost use Rattle.model.specs.Parts.{partCount};
+ghost use Rattle.model.specs.Parts.{partCount, partStart};
 ghost use Rattle.model.specs.Section.{sectionOf};
-ghost use Rattle.model.specs.Selection.{upTo};
+ghost use Rattle.model.specs.Selection.{codeAt, upTo};
 ghost use Rattle.model.specs.Walk.{build as buildOf, walk as walkOf};
+ghost use Rattle.build.specs.PartList.{PartList};
 ghost use Rattle.walk.specs.Steps.{answerOf, goesInto};
 ghost use Rattle.walk.specs.Walkable.{Walkable};
 
@@ -30,14 +33,26 @@ fn count_codes(selection: &[u32], lo: u32, hi: u32) -> u32
     n
 }
 
-// "At kinds 5 to 15 it builds that code's whole part by the rules above, left to right, and looks for a match without excludes." F-3: kinds 16 and 17 too.
-fn build_part(section: &[u32], selection: &[u32], work: &mut [u32], hi: u32) -> u64
+// Builds the part that ends at hi and starts after lo: its list comes to the first slot.
+fn build_part(section: &[u32], selection: &[u32], work: &mut [u32], lo: u32, hi: u32) -> Part
+    requires { ⌜ Walkable (now section) (now selection) (now work) hi ⌝ }
+    requires { ⌜ lo ≡ partStart (shapeAt (now selection)) hi ⌝ }
+    ensures { λ r.
+        ⌜ ((w : Walkable (now (section .entry)) (now (selection .entry)) (now (work .entry)) hi)
+        → PartList (sectionOf (now (section .entry))) (w .part .tree) (now (work .exit)) r) ⌝ }
+{
+    let before = selection::parts::rank_at(selection, lo);
+    build::build(section, selection, work, lo, hi, before + 1)
+}
+
+// "At kinds 5 to 15 it builds that code's whole part by the rules above, left to right, and looks for a match without excludes." So of kind 5, and by F-3 of
+// kinds 16 and 17.
+fn answer_built(section: &[u32], selection: &[u32], work: &mut [u32], hi: u32) -> u64
     requires { ⌜ Walkable (now section) (now selection) (now work) hi ⌝ }
     ensures { λ r. ⌜ ((w : Walkable (now (section .entry)) (now (selection .entry)) (now (work .entry)) hi) → answerOf r ≡ buildOf (sectionOf (now (section .entry))) (w .part .tree)) ⌝ }
 {
     let lo = selection::parts::part_start(selection, hi);
-    let before = selection::parts::rank_at(selection, lo);
-    let part = build::build(section, selection, work, lo, hi, before + 1);
+    let part = build_part(section, selection, work, lo, hi);
     if let Part::Refused(refusal) = part {
         return answers::too_long(refusal.place);
     }
@@ -46,18 +61,39 @@ fn build_part(section: &[u32], selection: &[u32], work: &mut [u32], hi: u32) -> 
     answers::answered(yes, codes)
 }
 
-// The answer of a part that the walk does not go into: "a phrase is yes if its list isn't empty", found at the first find; another part is built.
+// Kinds 6 to 15, F-4: "it should take the operand's matches one by one and stop at the first that gives a match without excludes." The operand's part, which
+// ends just before the filter, is built.
+fn answer_filter(section: &[u32], selection: &[u32], work: &mut [u32], filter: Filter, hi: u32) -> u64
+    requires { ⌜ Walkable (now section) (now selection) (now work) hi ⌝ }
+    requires { ⌜ codeAt (now selection) hi ≡ Filtered filter ⌝ }
+    ensures { λ r. ⌜ ((w : Walkable (now (section .entry)) (now (selection .entry)) (now (work .entry)) hi) → answerOf r ≡ walkOf (sectionOf (now (section .entry))) (w .part .tree)) ⌝ }
+{
+    let last = hi - 1;
+    let lo = selection::parts::part_start(selection, last);
+    let part = build_part(section, selection, work, lo, last);
+    if let Part::Refused(refusal) = part {
+        return answers::too_long(refusal.place);
+    }
+    let yes = filter_yes::is_yes(section, filter, work, 0);
+    let codes = count_codes(selection, lo, hi);
+    answers::answered(yes, codes)
+}
+
+// The answer of a part that the walk does not go into: "a phrase is yes if its list isn't empty", found at the first find; a filter; another part is built.
 fn answer_leaf(section: &[u32], selection: &[u32], work: &mut [u32], hi: u32) -> u64
     requires { ⌜ Walkable (now section) (now selection) (now work) hi ⌝ }
     ensures { λ r. ⌜ ((w : Walkable (now (section .entry)) (now (selection .entry)) (now (work .entry)) hi) → goesInto (shapeAt (now (selection .entry)) hi) ≡ false → answerOf r ≡ walkOf (sectionOf (now (section .entry))) (w .part .tree)) ⌝ }
 {
     let code = codes::code_at(selection, hi);
-    let Code::Phrase(_) = code else {
-        return build_part(section, selection, work, hi);
-    };
-    let words = selection::parts::phrase_words(selection, hi);
-    let found = phrase::is_found(section, words);
-    answers::answered(found, 1)
+    match code {
+        Code::Phrase(_) => {
+            let words = selection::parts::phrase_words(selection, hi);
+            let found = phrase::is_found(section, words);
+            answers::answered(found, 1)
+        }
+        Code::Filter(filter) => answer_filter(section, selection, work, filter, hi),
+        _ => answer_built(section, selection, work, hi),
+    }
 }
 
 // The walk of the part that ends at hi. What is under a not, and the right side of an or or an and, is gone on with in the loop: its answer is the

@@ -22,12 +22,12 @@ use Rattle.store.specs.Stream.{MatchHolds}
 use Rattle.store.proofs.DecodeLaws.{includes-held, includes-within}
 
 -- the last positions of the windows around strings, by their join
-ends-some : (n : ℕ) (ss : List Str) → (length ss ≡ 0 → ⊥) → windowEnds n ss ≡ fromTo (joined ss .end) (joined ss .start + n - 1)
+pub ends-some : (n : ℕ) (ss : List Str) → (length ss ≡ 0 → ⊥) → windowEnds n ss ≡ fromTo (joined ss .end) (joined ss .start + n - 1)
 unfolding windowEnds joined join
 ends-some n [] h = absurd (h refl)
 ends-some n (s ∷ ss) h = refl
 
-start-some : (ss : List Str) → AllStrs ValidStr ss → joined ss .start ≤ maxTokens
+pub start-some : (ss : List Str) → AllStrs ValidStr ss → joined ss .start ≤ maxTokens
 unfolding joined join Every
 start-some [] f = omega arith
 start-some (s ∷ ss) f = omega (arith, start-leastStart s ss .0, f .0 .in-order, f .0 .end-up-to)

@@ -10,7 +10,7 @@ ghost use Rattle.store.specs.Put.{Put};
 ghost use Rattle.window.specs.Inside.{ExcludesAt, insideNumbers, StringAt, WindowSize};
 
 // Does a string of this span lie inside the window of n positions up to `last`?
-fn is_inside(n: u32, last: Position, span: u32) -> bool
+pub fn is_inside(n: u32, last: Position, span: u32) -> bool
     requires { ⌜ WindowSize n ⌝ }
     ensures { λ r. ⌜ r ≡ insideWindow n (last .0) (strOf span 0) ⌝ }
 {

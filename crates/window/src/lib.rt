@@ -4,6 +4,7 @@
 mod inside; // the excludes inside a window
 mod sizes; // how many matches and strings the windows have
 
+pub use inside::is_inside;
 use join::join_span;
 use join::join_tag;
 use model::Position;

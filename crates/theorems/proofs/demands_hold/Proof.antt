@@ -7,9 +7,10 @@ use Rattle.theorems.proofs.Demand3.{demand-3}
 use Rattle.theorems.proofs.TypedSearches.{typed-searches}
 use Rattle.theorems.proofs.SpansRead.{spans-read}
 use Rattle.theorems.proofs.OccursChosen.{occurs-chosen}
+use Rattle.theorems.proofs.EarlyWayOut.{early-way-out}
 
 returns : tie.Need-returns
-returns c = (demand-1, (demand-2, (demand-3, (typed-searches, (spans-read, occurs-chosen)))))
+returns c = (demand-1, (demand-2, (demand-3, (typed-searches, (spans-read, (occurs-chosen, early-way-out))))))
 
 pub demands-hold-spec : {M : Type 1} → statement M
 demands-hold-spec = tie.close (tie.spec returns)

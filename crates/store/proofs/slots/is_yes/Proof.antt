@@ -2,12 +2,12 @@
 use Prim.Native.Nat.{_+_, _-_}
 use native.Mathlib.Omega.{arith}
 use mathlib.Core.Path.{refl, sym, ap, _∙_}
-use Rattle.model.specs.Matches.{isYes}
+use Rattle.model.specs.Matches.{noExclude, isYes}
 use Rattle.store.specs.Slot.{SlotAt}
 use Rattle.store.specs.Stream.{Header, SearchInvariant}
-use Rattle.store.proofs.IsYesLaws.{yes-here, yes-later, yes-none}
+use Rattle.store.proofs.IsYesLaws.{yes-here, yes-later}
 use Rattle.store.proofs.SlotsLaws.{slot-stream}
-use Rattle.store.proofs.StreamLaws.{next-at, search-start}
+use Rattle.store.proofs.StreamLaws.{next-at, search-start, any-none}
 use borrow.Author.Needs.{needs}
 use Rattle.store.proofs.slots.is_yes.Statement.{statement}
 use Rattle.store.proofs.slots.is_yes.Tie as tie
@@ -62,7 +62,7 @@ loop-again c = λ w.
     yes-later g (next-at (g .left) (l .loop-test .taken)) (λ z. c .before .if1 .left (c .before .before .excludes-in .ensures ∙ z)) (ap (λ k. l .before .loop .at + k) (c .match-length .ensures))
 
 returns-2 : tie.Need-returns-2 Inv-loop μ-loop
-returns-2 c w = yes-none (c .before .loop .inv w) (c .loop-test .left)
+returns-2 c w = any-none noExclude (c .before .loop .inv w) (c .loop-test .left)
 
 pub is-yes-spec : {M : Type 1} → statement M
 is-yes-spec =

@@ -1,0 +1,2 @@
+pub mod WindowsLaws
+pub mod YesLaws
