@@ -52,7 +52,7 @@ module _ {section sel mem : List ℕ} {hi : ℕ} (w : Walkable section sel mem h
   counts {lo} l h =
       let at = shapeAt sel in
       let last : hi - 1 + 1 ≡ hi = omega (arith, some-codes w) in
-      let more = partCount-more at (hi - 1) 0 (partCount (upTo at (hi - 1))) 1 (shapeAt sel hi) (ap at (sym last)) refl (ap partsEnded (sym (ap shapeOf e))) in
+      let more = partCount-more at (hi - 1) 0 (partCount (upTo at (hi - 1))) 1 (shapeAt sel hi) (ap at (sym last)) (omega arith) (ap partsEnded (sym (ap shapeOf e))) in
       omega (arith, part-count at (hi - 1) lo (under .operand) l, more, ap (λ (k : ℕ). partCount (upTo at k)) last)
 
   module _ {mem' : List ℕ} {part : Part} (b : PartList (sectionOf section) operand mem' part) where

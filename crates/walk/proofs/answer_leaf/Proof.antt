@@ -1,6 +1,6 @@
--- By the code at hi: a phrase is looked for, and every other part that the walk does not go into is built.
+-- By the code at hi: a phrase is looked for, a filter asked of its operand's matches, and every other part that the walk does not go into is built.
 use mathlib.Core.Bool.{Bool}
-use mathlib.Core.Path.{ap, _∙_}
+use mathlib.Core.Path.{sym, ap, _∙_}
 use borrow.Author.Needs.{needs}
 use Rattle.model.specs.declared.Code.{Code}
 use Rattle.model.specs.Kinds.{shapeOf}
@@ -16,18 +16,6 @@ code-at-requires c κs = search needs
 enum-told : tie.Need-enum-told
 enum-told c = search needs
 
-build-part-requires : tie.Need-build-part-requires
-build-part-requires c κs = search needs
-
-same-length : tie.Need-same-length
-same-length c = search needs
-
-returns : tie.Need-returns
-returns c = λ w g.
-    let k = c .before .before in
-    let m = k .before .before in
-    k .build-part .ensures w ∙ leaf-builds w _ (m .before .code-at .ensures) (m .match .keys2) (ap (λ (x : Code). goesInto (shapeOf x)) (m .before .code-at .ensures) ∙ g)
-
 phrase-words-requires : tie.Need-phrase-words-requires
 phrase-words-requires c κs = search needs
 
@@ -37,15 +25,38 @@ is-found-requires c κs = search needs
 answered-requires : tie.Need-answered-requires
 answered-requires c κs = search needs
 
-returns-2 : tie.Need-returns-2
-returns-2 c = λ w g.
-    let told = c .before .before .before in
+enum-known-code : tie.Need-enum-known-code
+enum-known-code c = search needs
+
+answer-filter-requires : tie.Need-answer-filter-requires
+answer-filter-requires c κs = (c .before .before .before .before .before .before .before .before .pre, sym (c .before .before .before .before .code-at .ensures) ∙ c .before .before .code .given .1)
+
+answer-built-requires : tie.Need-answer-built-requires
+answer-built-requires c κs = search needs
+
+returns : tie.Need-returns
+returns c w g =
     phrase-walks
     w
-    (told .before .before .code-at .ensures)
-    (told .enum-told .given .1)
+    (c .before .before .before .before .before .code-at .ensures)
+    (c .before .before .before .enum-told .given .1)
     (c .before .before .phrase-words .ensures)
     (λ rank. c .answered .ensures ∙ ap (λ (b : Bool). Answered b 1) (c .before .is-found .ensures rank))
+
+same-length : tie.Need-same-length
+same-length c = search needs
+
+returns-2 : tie.Need-returns-2
+returns-2 c w g = c .before .before .answer-filter .ensures w
+
+same-length-2 : tie.Need-same-length-2
+same-length-2 c = search needs
+
+returns-3 : tie.Need-returns-3
+returns-3 c w g =
+    let code = c .before .before .before .before .before .code-at in
+    c .before .before .answer-built .ensures w
+    ∙ leaf-builds w (code .result) (code .ensures) (c .before .before .before .before .match .keys3) (ap (λ (x : Code). goesInto (shapeOf x)) (code .ensures) ∙ g)
 
 pub answer-leaf-spec : {M : Type 1} → statement M
 answer-leaf-spec =
@@ -53,10 +64,14 @@ answer-leaf-spec =
     (tie.spec
     code-at-requires
     enum-told
-    build-part-requires
-    same-length
-    returns
     phrase-words-requires
     is-found-requires
     answered-requires
-    returns-2)
+    enum-known-code
+    answer-filter-requires
+    answer-built-requires
+    returns
+    same-length
+    returns-2
+    same-length-2
+    returns-3)
