@@ -58,7 +58,7 @@ pub fn rule_of(filter: Filter) -> Rule
 }
 
 // "some include covers position 1, or n. With n = 0 none does."
-fn at_position(section: &[u32], includes: &[u32], p: Position) -> bool
+pub fn at_position(section: &[u32], includes: &[u32], p: Position) -> bool
     ensures { λ r. ⌜ r ≡ atPosition (sectionOf (now (section .entry))) (p .0) .keeps (strsAt (now (includes .entry))) ⌝ }
 {
     if number_at(section, 0) < 1 {

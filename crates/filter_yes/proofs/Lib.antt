@@ -1,2 +1,2 @@
 pub mod WindowsLaws
-pub mod YesLaws
+pub mod GivesLaws

@@ -10,9 +10,11 @@ use lib.Dec.{leb, ltb}
 use lib.ListN.{length, drop, getD}
 use Rattle.model.specs.AllStrings.{AllStrs}
 use Rattle.model.specs.Limits.{maxTokens, radix}
-use Rattle.model.specs.Lists.{allOf, anyOf, fromTo}
+use Rattle.model.specs.Lists.{allOf, anyOf, fromTo, isEmpty}
 use Rattle.model.specs.Matches.{Match, Str, isYes}
 use Rattle.model.specs.Rules.{covered, covers, insideWindow, window, windowEnds}
+use Rattle.model.proofs.ListsLaws.{range-empty, range-cons}
+use Rattle.model.proofs.RulesLaws.{length-none, window-none}
 use Rattle.model.proofs.YesLaws.{yes-window}
 use Rattle.strings.specs.Covering.{advanced, passed}
 use Rattle.strings.specs.Strings.{strOf, strsAt}
@@ -21,7 +23,7 @@ use Rattle.join.specs.Joined.{joined}
 use Rattle.store.specs.ValidStr.{ValidStr}
 use Rattle.window.specs.Inside.{WindowSize}
 use Rattle.window.proofs.JoinedLaws.{ends-some, start-some}
-use Rattle.filter_yes.specs.Reading.{matchAt}
+use Rattle.filter_yes.specs.Gives.{matchAt}
 use Rattle.filter_yes.specs.Windows.{lastsAround, taken}
 
 -- ---- lastsAround
@@ -71,20 +73,36 @@ all-taken size ss (last ∷ lasts) = ap₂ _&&_ (covered-taken size ss last) (al
 some-strings : (includes : List ℕ) → 2 ≤ length includes → length (strsAt includes) ≡ 0 → ⊥
 some-strings includes h e = omega (arith, length-strsAt includes)
 
+no-strings : (includes : List ℕ) → length includes < 2 → strsAt includes ≡ []
+no-strings includes h = length-none (strsAt includes) (omega (arith, length-strsAt includes))
+
 pub free-none : (n : ℕ) (includes excludes : List ℕ) → length includes < 2 → false ≡ isYes (window n (matchAt includes excludes))
-unfolding window windowEnds anyOf
-free-none n includes excludes h = at (strsAt includes) (omega (arith, length-strsAt includes))
+unfolding anyOf
+free-none n includes excludes h = ap isYes (sym (window-none n (matchAt includes excludes) (no-strings includes h)))
+
+pub fits-none : (n : ℕ) (includes : List ℕ) → length includes < 2 → false ≡ not (isEmpty (windowEnds n (strsAt includes)))
+unfolding windowEnds isEmpty
+fits-none n includes h = ap (λ ss. not (isEmpty (windowEnds n ss))) (sym (no-strings includes h))
+
+-- the last positions of its windows, by its join
+ends-are : (n : ℕ) (includes : List ℕ) → 2 ≤ length includes → {start end : ℕ} → start ≡ joined (strsAt includes) .start → end ≡ joined (strsAt includes) .end
+    → windowEnds n (strsAt includes) ≡ fromTo end (start + n - 1)
+ends-are n includes h a b = ends-some n (strsAt includes) (some-strings includes h) ∙ ap₂ (λ e s. fromTo e (s + n - 1)) (sym b) (sym a)
+
+pub fits-some : {n : ℕ} → WindowSize n → (includes : List ℕ) → 2 ≤ length includes → {start end : ℕ} → start ≡ joined (strsAt includes) .start → end ≡ joined (strsAt includes) .end
+    → ltb end (start + n) ≡ not (isEmpty (windowEnds n (strsAt includes)))
+unfolding isEmpty
+fits-some {n} size includes h {start} {end} a b = at (ltb end (start + n)) refl ∙ ap (λ ps. not (isEmpty ps)) (sym (ends-are n includes h a b))
   where
-    at : (ss : List Str) → length ss ≡ 0 → false ≡ isYes (window n (record { includes = ss; excludes = strsAt excludes }))
-    at [] e = refl
-    at (s ∷ ss) e = absurd (omega arith)
+    at : (t : Bool) → ltb end (start + n) ≡ t → t ≡ not (isEmpty (fromTo end (start + n - 1)))
+    at true e = let k : end ≤ start + n - 1 = omega (arith, ltb-true end (start + n) e) in rw (range-cons end (start + n - 1) k)
+    at false e = let k : start + n - 1 < end = omega (arith, ltb-false end (start + n) e, size .from-one) in rw (range-empty end (start + n - 1) k)
 
 pub free-some : {n : ℕ} → WindowSize n → (includes excludes : List ℕ) → 2 ≤ length includes → {start end : ℕ} → start ≡ joined (strsAt includes) .start → end ≡ joined (strsAt includes) .end
     → not (allOf (covered (taken n (strsAt excludes))) (fromTo end (start + n - 1))) ≡ isYes (window n (matchAt includes excludes))
 free-some {n} size includes excludes h {start} {end} a b =
-    let ends : windowEnds n (strsAt includes) ≡ fromTo end (start + n - 1) =
-    ends-some n (strsAt includes) (some-strings includes h) ∙ ap₂ (λ e s. fromTo e (s + n - 1)) (sym b) (sym a) in
-    ap not (all-taken size (strsAt excludes) (fromTo end (start + n - 1)) ∙ ap (allOf (λ last. anyOf (insideWindow n last) (strsAt excludes))) (sym ends))
+    let inside : ℕ → Bool = λ last. anyOf (insideWindow n last) (strsAt excludes) in
+    ap not (all-taken size (strsAt excludes) (fromTo end (start + n - 1)) ∙ ap (allOf inside) (sym (ends-are n includes h a b)))
     ∙ sym (yes-window n (matchAt includes excludes))
 
 pub start-low : (includes : List ℕ) {start : ℕ} → AllStrs ValidStr (strsAt includes) → start ≡ joined (strsAt includes) .start → start < radix

@@ -1,10 +1,22 @@
 // Whether what a filter gives has a match without excludes: told match by match, and nothing of the filter's own list is written.
-mod windows; // has a match a window that no exclude is inside?
+mod windows; // the windows around a match, and those that no exclude is inside
 
+use distance::sorted_within;
 use filter_rules::Keeper;
 use filter_rules::Rule;
+use filter_rules::at_position;
+use filter_rules::rule_of;
+use filter_rules::stays;
 use model::Filter;
+use model::Position;
+use slices::number_at;
 use store::Bounds;
+use strings::covering::run_covered;
+use strings::ordering::all_agree;
+use units::Unit;
+use units::different::all_differ;
+use units::same::all_in_same;
+ghost use mathlib.Core.Bool.{not, true};
 ghost use mathlib.Core.Path.{_≡_};
 ghost use Prim.Native.Nat.{ℕ};
 ghost use Rattle.model.specs.declared.Filter.the-variants.{Window};
@@ -13,11 +25,37 @@ ghost use Rattle.model.specs.Lists.{anyOf};
 ghost use Rattle.model.specs.Section.{sectionOf};
 ghost use Rattle.model.specs.Walk.{givesYes};
 ghost use Rattle.strings.specs.Strings.{strsAt};
-ghost use Rattle.filter_rules.specs.Keepers.{filterOf, keepingOf};
+ghost use Rattle.filter_rules.specs.Keepers.{keepingOf};
 ghost use Rattle.store.specs.Slot.{SlotAt};
 ghost use Rattle.store.specs.ValidStr.{ValidStr};
 ghost use Rattle.window.specs.Inside.{WindowSize};
-ghost use Rattle.filter_yes.specs.Reading.{matchAt};
+ghost use Rattle.filter_yes.specs.Gives.{givesAny, matchAt};
+
+// Does a filter give anything of a match with these includes? Of nine filters this is `filter_rules::keeps`, said again: called from two places, that is inlined
+// at neither, and the lists of filters take a tenth longer (docs/PERFORMANCE.md, 'Filters').
+fn gives_any(section: &[u32], filter: Filter, includes: &[u32]) -> bool
+    requires { ⌜ ((n : ℕ) → filter ≡ Window n → WindowSize n) ⌝ }
+    requires { ⌜ AllStrs ValidStr (strsAt (now includes)) ⌝ }
+    ensures { λ r. ⌜ r ≡ givesAny (sectionOf (now (section .entry))) filter (strsAt (now (includes .entry))) ⌝ }
+{
+    match filter {
+        Filter::Ordered => all_agree(includes),
+        Filter::Window(n) => windows::fits(n, includes),
+        Filter::Distance { least, most } => sorted_within(includes, least, most),
+        Filter::SameSentence => all_in_same(section, Unit::Sentence, includes),
+        Filter::SameParagraph => all_in_same(section, Unit::Paragraph, includes),
+        Filter::DifferentSentence => all_differ(section, Unit::Sentence, includes),
+        Filter::DifferentParagraph => all_differ(section, Unit::Paragraph, includes),
+        Filter::AtStart => at_position(section, includes, Position(1)),
+        Filter::AtEnd => at_position(section, includes, Position(number_at(section, 0))),
+        Filter::EntireContent => run_covered(
+            includes,
+            Position(1),
+            Position(number_at(section, 0)),
+            true,
+        ),
+    }
+}
 
 // "an exclude stays if ..": does any?
 fn any_stays(section: &[u32], keeper: Keeper, includes: &[u32], excludes: &[u32]) -> bool
@@ -26,7 +64,7 @@ fn any_stays(section: &[u32], keeper: Keeper, includes: &[u32], excludes: &[u32]
 {
     let mut i = 0;
     while i + 1 < excludes.len() {
-        if filter_rules::stays(section, keeper, includes, excludes[i], excludes[i + 1]) {
+        if stays(section, keeper, includes, excludes[i], excludes[i + 1]) {
             return true;
         }
         i += 2;
@@ -34,21 +72,32 @@ fn any_stays(section: &[u32], keeper: Keeper, includes: &[u32], excludes: &[u32]
     false
 }
 
-// Does a filter, by its rule, give a match without excludes of the match that has these includes and excludes?
-fn gives_yes(section: &[u32], rule: Rule, includes: &[u32], excludes: &[u32]) -> bool
-    requires { ⌜ ((n : ℕ) → filterOf rule ≡ Window n → WindowSize n) ⌝ }
+// A filter gives something of the match with these includes and excludes: is there a match without excludes among it?
+fn leaves_none(section: &[u32], filter: Filter, includes: &[u32], excludes: &[u32]) -> bool
+    requires { ⌜ ((n : ℕ) → filter ≡ Window n → WindowSize n) ⌝ }
     requires { ⌜ AllStrs ValidStr (strsAt (now includes)) ⌝ }
-    ensures { λ r. ⌜ r ≡ givesYes (sectionOf (now (section .entry))) (filterOf rule) (matchAt (now (includes .entry)) (now (excludes .entry))) ⌝ }
+    requires { ⌜ givesAny (sectionOf (now section)) filter (strsAt (now includes)) ≡ true ⌝ }
+    ensures { λ r. ⌜ r ≡ givesYes (sectionOf (now (section .entry))) filter (matchAt (now (includes .entry)) (now (excludes .entry))) ⌝ }
 {
-    match rule {
+    match rule_of(filter) {
         Rule::Window(n) => windows::has_free(n, includes, excludes),
-        Rule::Keep(keeper) => {
-            if !filter_rules::keeps(section, keeper, includes) {
-                return false;
-            }
-            !any_stays(section, keeper, includes, excludes)
-        }
+        Rule::Keep(keeper) => !any_stays(section, keeper, includes, excludes),
     }
+}
+
+// Does a filter give a match without excludes of the match with these includes and excludes?
+fn gives_yes(section: &[u32], filter: Filter, includes: &[u32], excludes: &[u32]) -> bool
+    requires { ⌜ ((n : ℕ) → filter ≡ Window n → WindowSize n) ⌝ }
+    requires { ⌜ AllStrs ValidStr (strsAt (now includes)) ⌝ }
+    ensures { λ r. ⌜ r ≡ givesYes (sectionOf (now (section .entry))) filter (matchAt (now (includes .entry)) (now (excludes .entry))) ⌝ }
+{
+    if !gives_any(section, filter, includes) {
+        return false;
+    }
+    if excludes.len() < 2 {
+        return true;
+    }
+    leaves_none(section, filter, includes, excludes)
 }
 
 // "take the operand's matches one by one and stop at the first that gives a match without excludes": of the list in the slot at src
@@ -57,19 +106,24 @@ pub fn is_yes(section: &[u32], filter: Filter, mem: &[u32], src: usize) -> bool
     requires { ⌜ SlotAt (now mem) src ⌝ }
     ensures { λ r. ⌜ ((w : SlotAt (now (mem .entry)) src) → r ≡ anyOf (givesYes (sectionOf (now (section .entry))) filter) (w .list)) ⌝ }
 {
-    let rule = filter_rules::rule_of(filter);
     let last = store::slot_end(mem, src);
     let mut at = src + store::FIRST_MATCH;
     while at < last {
+        let next = store::match_end(mem, at);
         let Bounds {
             includes,
             excludes,
             end,
         } = store::bounds_at(mem, at);
-        if gives_yes(section, rule, &mem[includes..excludes], &mem[excludes..end]) {
+        if gives_yes(
+            section,
+            filter,
+            &mem[includes..excludes],
+            &mem[excludes..end],
+        ) {
             return true;
         }
-        at = end;
+        at = next;
     }
     false
 }

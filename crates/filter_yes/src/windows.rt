@@ -1,4 +1,4 @@
-// Whether a match has a window that no exclude is inside. A window is named by its last position, W + N − 1, as in the definition. An exclude is inside those
+// The windows around a match: whether there is one, and one that no exclude is inside. A window is named by its last position, W + N − 1, as in the definition. An exclude is inside those
 // from its end up to its start + N − 1, so windows are gone through exclude by exclude, never W by W.
 use join::extent_of;
 use model::Position;
@@ -9,15 +9,28 @@ ghost use mathlib.Core.Path.{_≡_};
 ghost use Prim.Native.Nat.{_+_, _-_, _<_};
 ghost use Rattle.model.specs.AllStrings.{AllStrs};
 ghost use Rattle.model.specs.Limits.{radix};
-ghost use Rattle.model.specs.Lists.{allOf, fromTo};
+ghost use Rattle.model.specs.Lists.{allOf, fromTo, isEmpty};
 ghost use Rattle.model.specs.Matches.{isYes};
-ghost use Rattle.model.specs.Rules.{covered, window};
+ghost use Rattle.model.specs.Rules.{covered, window, windowEnds};
 ghost use Rattle.strings.specs.Covering.{advanced, passed};
 ghost use Rattle.strings.specs.Strings.{strOf, strsAt};
 ghost use Rattle.store.specs.ValidStr.{ValidStr};
 ghost use Rattle.window.specs.Inside.{WindowSize};
-ghost use Rattle.filter_yes.specs.Reading.{matchAt};
+ghost use Rattle.filter_yes.specs.Gives.{matchAt};
 ghost use Rattle.filter_yes.specs.Windows.{lastsAround, taken};
+
+// "each W from (greatest end − N + 1) up to least start": is there one? "A match without includes is dropped."
+pub fn fits(n: u32, includes: &[u32]) -> bool
+    requires { ⌜ WindowSize n ⌝ }
+    requires { ⌜ AllStrs ValidStr (strsAt (now includes)) ⌝ }
+    ensures { λ r. ⌜ r ≡ not (isEmpty (windowEnds n (strsAt (now (includes .entry))))) ⌝ }
+{
+    if includes.len() < 2 {
+        return false;
+    }
+    let extent = extent_of(includes);
+    extent.end.0 < extent.start.0 + n
+}
 
 // A window's last position, moved to the first after the windows that a string of this span is inside, if it is inside this one.
 fn passed(n: u32, last: Position, span: u32) -> Position
@@ -62,7 +75,7 @@ fn any_free(n: u32, start: Position, end: Position, excludes: &[u32]) -> bool
     false
 }
 
-// "one match: the join, and the excludes inside": is there a window of n positions without one? "A match without includes is dropped."
+// "one match: the join, and the excludes inside": is there a window without one?
 pub fn has_free(n: u32, includes: &[u32], excludes: &[u32]) -> bool
     requires { ⌜ WindowSize n ⌝ }
     requires { ⌜ AllStrs ValidStr (strsAt (now includes)) ⌝ }

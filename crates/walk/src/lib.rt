@@ -63,7 +63,13 @@ fn answer_built(section: &[u32], selection: &[u32], work: &mut [u32], hi: u32) -
 
 // Kinds 6 to 15, F-4: "it should take the operand's matches one by one and stop at the first that gives a match without excludes." The operand's part, which
 // ends just before the filter, is built.
-fn answer_filter(section: &[u32], selection: &[u32], work: &mut [u32], filter: Filter, hi: u32) -> u64
+fn answer_filter(
+    section: &[u32],
+    selection: &[u32],
+    work: &mut [u32],
+    filter: Filter,
+    hi: u32,
+) -> u64
     requires { ⌜ Walkable (now section) (now selection) (now work) hi ⌝ }
     requires { ⌜ codeAt (now selection) hi ≡ Filtered filter ⌝ }
     ensures { λ r. ⌜ ((w : Walkable (now (section .entry)) (now (selection .entry)) (now (work .entry)) hi) → answerOf r ≡ walkOf (sectionOf (now (section .entry))) (w .part .tree)) ⌝ }

@@ -1,0 +1,26 @@
+-- A match without includes has no window; any other has one where its join is no longer than one.
+use native.Mathlib.Omega.{arith}
+use mathlib.Core.Path.{_∙_}
+use borrow.Author.Needs.{needs}
+use Rattle.filter_yes.proofs.WindowsLaws.{fits-none, fits-some, start-low}
+use Rattle.filter_yes.proofs.windows.fits.Statement.{statement}
+use Rattle.filter_yes.proofs.windows.fits.Tie as tie
+
+returns : tie.Need-returns
+returns c = fits-none (c .before .before .args .n) (c .before .before .args .includes .now) (c .if1 .taken)
+
+extent-of-requires : tie.Need-extent-of-requires
+extent-of-requires c κs = search needs
+
+add-result : tie.Need-add-result
+add-result c =
+    let low = start-low (c .before .before .before .before .args .includes .now) (c .before .before .before .before .pre .1) (c .before .extent-of .ensures .0) in
+    omega (arith, low, c .before .before .before .before .pre .0 .up-to)
+
+returns-2 : tie.Need-returns-2
+returns-2 c =
+    let x = c .before .before .extent-of .ensures in
+    fits-some (c .before .before .before .before .before .pre .0) (c .before .before .before .before .before .args .includes .now) (c .before .before .before .if1 .left) (x .0) (x .1)
+
+pub fits-spec : {M : Type 1} → statement M
+fits-spec = tie.close (tie.spec returns extent-of-requires add-result returns-2)
