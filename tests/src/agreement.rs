@@ -54,6 +54,11 @@ pub fn hunt_occurs(engine: &dyn Engine, seed: u64, count: usize) -> Result<(), S
     hunt_in(engine, gen::occurs_cases(seed, count), &format!("seed {seed}, occurs case"))
 }
 
+/// And on the first cases of a seed that are made for the early way out of a filter.
+pub fn hunt_filters(engine: &dyn Engine, seed: u64, count: usize) -> Result<(), String> {
+    hunt_in(engine, gen::filter_cases(seed, count), &format!("seed {seed}, filter case"))
+}
+
 fn hunt_in(engine: &dyn Engine, cases: impl Iterator<Item = Case>, name: &str) -> Result<(), String> {
     for (index, case) in cases.enumerate() {
         if let Err(first) = compare(engine, &case) {
@@ -132,10 +137,8 @@ fn compare_with_unlimited(case: &Case, listing: Listing, quick: Quick) -> Result
 
     match quick {
         Quick::Answered { yes, codes } => {
-            if let Some(list) = &last.list {
-                if yes != rules::is_yes(list) {
-                    return Err(format!("{quick:?} against the unlimited list"));
-                }
+            if last.yes.is_some_and(|unlimited| yes != unlimited) {
+                return Err(format!("{quick:?} against the unlimited list"));
             }
             if let Listing::Listed { yes: listed, .. } = listing {
                 if yes != listed {
@@ -147,7 +150,8 @@ fn compare_with_unlimited(case: &Case, listing: Listing, quick: Quick) -> Result
                 return Err(format!("{quick:?}, but the selection has {} codes", last.count));
             }
         }
-        // "Limits on size hold only for lists built at or under kinds 5 to 15", and so at or under an occurs.
+        // "Limits on size hold only for lists built at or under kinds 5 to 15", and so at or under an occurs; but not for
+        // the own list of a filter that the walk reaches.
         Quick::Refused { number: 9, place } => {
             let refused = lists.iter().find(|code| code.place == place as usize);
             if !refused.is_some_and(|code| code.measured && over(&code)) {

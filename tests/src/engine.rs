@@ -7,6 +7,7 @@ use crate::selection::{self, Filter, Occurs, Rule, Tree, Unit};
 use crate::sizes::{self, Limits, Size};
 use crate::typed;
 use crate::{Refusal, BUFFER, WORK};
+use std::slice::from_ref;
 
 /// "It answers M, S and yes or no, or a refusal with its place."
 #[derive(Clone, Copy, Debug, PartialEq, Eq)]
@@ -179,9 +180,18 @@ impl RuleBook {
                     Ok((yes, 1 + codes + more))
                 }
             },
+            // Request F-4: "Where the walk itself reaches a filter (kinds 6 to 15), it should take the operand's matches one
+            // by one and stop at the first that gives a match without excludes. That filter's own list no longer counts for
+            // refusal 9; the lists under it still do." "The count of codes remains that of the walk": of the whole part.
+            (Rule::Filter(_), [operand]) => {
+                let operand = self.build(section, operand)?;
+                let gives_a_yes = |m: &Match| rules::is_yes(&self.list(section, &tree.rule, &[from_ref(m)]));
+                Ok((operand.iter().any(gives_a_yes), tree.count()))
+            }
             // "At kinds 5 to 15 it builds that code's whole part by the rules above, left to right, and looks for a match
             // without excludes." "A built part, which is its code and every code below it, counts all its codes but those
-            // of kind 0." Of occurs: "The quick walk builds and counts them as it does filters."
+            // of kind 0." Since request F-4 this is kind 5. Of occurs: "The quick walk builds and counts them as it does
+            // filters." (Reading: as it did before request F-4.)
             _ => Ok((rules::is_yes(&self.build(section, tree)?), tree.count())),
         }
     }
@@ -329,12 +339,14 @@ pub struct CodeList {
     /// How many codes of kind 1 to 17 stand in the code's part.
     pub count: usize,
     /// Do "limits on size hold" for it in the quick answer, wherever it is built at all: is it "built at or under kinds 5
-    /// to 15", or at or under an occurs?
+    /// to 15", or at or under an occurs, and not the own list of a filter that the walk itself reaches (request F-4)?
     pub measured: bool,
     /// Its size, where the lists right below it could be made: counted, and so known also where the list can't be made.
     pub size: Option<Size>,
     /// The list, where it and all below it are small enough to be made.
     pub list: Option<AllMatches>,
+    /// Yes or no: of the list that has been made; of a window's list that is too large for it, by its free windows.
+    pub yes: Option<bool>,
 }
 
 /// "The unlimited lists are those of the rules above for every code but kind 0, unread ones too, with no limit on matches
@@ -353,17 +365,24 @@ pub fn unlimited_lists_within(guard: Limits, section: &[u32], selection: &[u32])
 }
 
 fn add_unlimited(guard: Limits, section: &Section, tree: &Tree, under_built: bool, lists: &mut Vec<CodeList>) -> usize {
-    let measured = under_built || tree.rule.is_built();
+    let measured = under_built || tree.rule.is_built_whole();
+    let below_built = under_built || tree.rule.ends_the_walk();
     let sides: Vec<usize> =
-        tree.below.iter().map(|side| add_unlimited(guard, section, side, measured, lists)).collect();
+        tree.below.iter().map(|side| add_unlimited(guard, section, side, below_built, lists)).collect();
     let below: Option<Vec<&[Match]>> = sides.iter().map(|&side| lists[side].list.as_deref()).collect();
-    let made = below.map(|below| RuleBook::paper().list_within(guard, section, &tree.rule, &below));
+    let made = below.as_ref().map(|below| RuleBook::paper().list_within(guard, section, &tree.rule, below));
+    let free = |size: u32, list: &[Match]| list.iter().any(|m| !sizes::free_windows(m, size).is_empty());
+    let yes = match (&made, &tree.rule, below.as_deref()) {
+        (Some(Ok(list)), _, _) => Some(rules::is_yes(list)),
+        (_, Rule::Filter(Filter::Window(size)), Some([operand])) => Some(free(*size, operand)),
+        _ => None,
+    };
     let (size, list) = match made {
         None => (None, None),
         Some(Err(size)) => (Some(size), None),
         Some(Ok(list)) => (Some(Size::of(&list)), Some(list)),
     };
-    lists.push(CodeList { place: tree.place, count: tree.count(), measured, size, list });
+    lists.push(CodeList { place: tree.place, count: tree.count(), measured, size, list, yes });
     lists.len() - 1
 }
 

@@ -6,7 +6,8 @@
 //! The lists serve only this choice; what is right is said by the comparison.
 //!
 //! About a quarter of the cases have an occurs. [`occurs_cases`] are all made with one, in every place where it may stand;
-//! damage may take it away again.
+//! damage may take it away again. [`filter_cases`] are made for the early way out of a filter that the quick answer's walk
+//! reaches, and a few of the cases are such.
 
 use crate::engine::RuleBook;
 use crate::rules::{self, AllMatches, Match};
@@ -14,6 +15,7 @@ use crate::section::{Section, MOST_TOKENS};
 use crate::selection::{self, Code, Filter, Occurs, Rule, Unit, MOST_CODES, MOST_WAITING, MOST_WORDS};
 use crate::sizes::{self, Size};
 use crate::{text, BUFFER, WORK};
+use std::slice::from_ref;
 
 /// One call of everything: what is lent to it. The working memory is given by its length, the buffer with its noise.
 #[derive(Clone, Debug, PartialEq, Eq)]
@@ -34,7 +36,13 @@ pub fn case(seed: u64, index: usize) -> Case {
     let mut rng = Rng::new(seed, index as u64);
     let mut made = match rng.below(100) {
         0..=44 => small(&mut rng),
-        45..=59 => long(&mut rng),
+        45..=57 => long(&mut rng),
+        58 | 59 => match rng.below(4) {
+            0 => large_operand(&mut rng),
+            1 => tiled(&mut rng),
+            2 => measured(&mut rng),
+            _ => telling(&mut rng),
+        },
         60..=71 => near_limits(&mut rng),
         72..=75 => large(&mut rng),
         _ => {
@@ -73,6 +81,22 @@ pub fn occurs_case(seed: u64, index: usize) -> Case {
         }
         3 => damage(&mut rng, &mut made),
         _ => {}
+    }
+    lend(&mut rng, &mut made);
+    made
+}
+
+/// The first cases of a seed that are made for the early way out of a filter.
+pub fn filter_cases(seed: u64, count: usize) -> impl Iterator<Item = Case> {
+    (0..count).map(move |index| filter_case(seed, index))
+}
+
+/// One case of a seed with a filter that the walk is to leave early, or at times a damaged one.
+pub fn filter_case(seed: u64, index: usize) -> Case {
+    let mut rng = Rng::new(seed.rotate_left(32), index as u64);
+    let mut made = early_way_out(&mut rng);
+    if rng.chance(1, 12) {
+        damage(&mut rng, &mut made);
     }
     lend(&mut rng, &mut made);
     made
@@ -818,6 +842,464 @@ impl Builder<'_> {
             self.force(rule);
         } else {
             self.force(if rng.chance(1, 2) { Rule::Or } else { Rule::And });
+        }
+    }
+}
+
+// The early way out of a filter
+
+/// A filter that the walk reaches: over an operand at its limits, between many excludes, or with few matches that give a yes;
+/// or, beside these, what stays measured.
+fn early_way_out(rng: &mut Rng) -> Case {
+    match rng.below(22) {
+        0..=3 => large_operand(rng),
+        4..=11 => hemmed_in(rng),
+        12..=15 => tiled(rng),
+        16 | 17 => measured(rng),
+        _ => telling(rng),
+    }
+}
+
+impl Builder<'_> {
+    /// At times a left side, which waits for what follows, and the rule that is to combine the two: mostly such that the walk
+    /// goes on to the right.
+    fn left_side(&mut self, rng: &mut Rng) -> Option<Rule> {
+        if rng.chance(3, 4) {
+            return None;
+        }
+        let found = rng.chance(1, 2);
+        self.word(if found { 1 } else { 99 });
+        Some(if found == rng.chance(7, 8) { Rule::And } else { Rule::Or })
+    }
+
+    /// What leads the walk to the list that waits last: nots, ors and ands. Now and then a filter or a mild not, under which
+    /// all is built.
+    fn lead_to(&mut self, rng: &mut Rng, left_side: Option<Rule>) {
+        for _ in 0..rng.pick(&[0, 0, 0, 1, 1, 2]) {
+            match rng.below(12) {
+                0..=4 => self.force(Rule::Not),
+                5..=9 => {
+                    self.word(rng.pick(&[1, 99]));
+                    self.force(if rng.chance(1, 2) { Rule::Or } else { Rule::And });
+                }
+                10 => {
+                    let filter = self.random_filter(rng);
+                    self.force(Rule::Filter(filter));
+                }
+                _ => {
+                    self.word(2);
+                    self.combine(rng);
+                }
+            }
+        }
+        if let Some(rule) = left_side {
+            self.force(rule);
+        }
+        if rng.chance(1, 12) {
+            let taste = Taste::any(rng);
+            let codes = self.codes.len() + rng.from_to(1, 8);
+            self.grow(rng, &taste, codes);
+        }
+        // what had no room may have left several lists
+        while self.waiting.len() > 1 {
+            self.force(Rule::Or);
+        }
+    }
+}
+
+/// An operand with about 256 matches or 512 strings, or over them, and mostly a window over it whose list is larger.
+fn large_operand(rng: &mut Rng) -> Case {
+    let template = rng.below(10);
+    let (counts, script) = template_of(rng, template);
+    let section = section_with_counts(rng, &counts);
+    let mut builder = Builder::new(&section);
+    let left_side = builder.left_side(rng);
+    script(&mut builder, counts.len());
+    if template == 9 {
+        let occurs = builder.tight_occurs(rng);
+        builder.force(Rule::Occurs(occurs));
+    }
+    let filter = match rng.below(8) {
+        0 => builder.random_filter(rng),
+        1 | 2 => rng.pick(&[Filter::Window(1), Filter::AtStart, Filter::AtEnd, Filter::EntireContent]),
+        3 | 4 => Filter::Window(rng.pick(&[2, 3, 10, 256, 257, 300, 512, 513, 4_095, 4_096])),
+        _ => Filter::Window(rng.from_to(2, 600) as u32),
+    };
+    if rng.chance(1, 8) {
+        tight_window(rng, &mut builder);
+    }
+    builder.force(Rule::Filter(filter));
+    builder.lead_to(rng, left_side);
+    case_of(&section, builder.selection())
+}
+
+/// What has no early way out: an occurs, a mild not with a large side, a window in a part that is built.
+fn measured(rng: &mut Rng) -> Case {
+    let counts = match rng.below(4) {
+        0 => [rng.from_to(255, 258), 2, 2],
+        1 => [15, rng.from_to(16, 19), 1],
+        _ => [any_finds(rng), rng.from_to(1, 3), 1],
+    };
+    let section = section_with_counts(rng, &counts);
+    let mut builder = Builder::new(&section);
+    let left_side = builder.left_side(rng);
+    let window = Rule::Filter(Filter::Window(rng.from_to(120, 260) as u32));
+    match rng.below(4) {
+        0 => {
+            builder.word(1);
+            let occurs = builder.tight_occurs(rng);
+            builder.force(Rule::Occurs(occurs));
+        }
+        1 => {
+            let right = rng.chance(1, 2);
+            builder.word(if right { 3 } else { 1 });
+            builder.word(if right { 1 } else { 2 });
+            if rng.chance(1, 2) {
+                builder.word(2);
+                builder.force(Rule::And);
+            }
+            builder.force(Rule::MildNot);
+        }
+        2 => {
+            builder.word(2);
+            builder.force(window);
+            builder.word(1);
+            builder.force(Rule::MildNot);
+        }
+        _ => {
+            builder.word(1);
+            builder.word(2);
+            builder.force(window);
+            builder.force(if rng.chance(1, 2) { Rule::MildNot } else { Rule::And });
+            let filter = builder.random_filter(rng);
+            builder.force(Rule::Filter(filter));
+        }
+    }
+    builder.lead_to(rng, left_side);
+    case_of(&section, builder.selection())
+}
+
+/// The words of a section in the making: filler, but for those that are put in.
+struct Layout {
+    words: Vec<u32>,
+}
+
+impl Layout {
+    fn of_fillers(n: usize) -> Layout {
+        Layout { words: vec![FILLER; n] }
+    }
+
+    /// Puts a word at a position, where there is one and only filler stands.
+    fn put(&mut self, word: u32, position: i64) {
+        let word_there = usize::try_from(position - 1).ok().and_then(|at| self.words.get_mut(at));
+        if let Some(word_there) = word_there.filter(|there| **there == FILLER) {
+            *word_there = word;
+        }
+    }
+}
+
+/// The first word of those that are excluded, and the words of wide excludes.
+const EXCLUDED: u32 = 10;
+const OPENING: u32 = 2;
+const CLOSING: u32 = 3;
+
+/// Finds of word 1 in a gap between excludes, under a window about as wide as the gap: of its windows few are free, one or
+/// none, at the first place, at the last or in between.
+fn hemmed_in(rng: &mut Rng) -> Case {
+    let size = match rng.below(12) {
+        0 => MOST_TOKENS,
+        1 => rng.from_to(2_000, MOST_TOKENS),
+        2 | 3 => rng.from_to(2, 40),
+        _ => rng.from_to(240, 600),
+    };
+    let wanted = match rng.below(5) {
+        0 => rng.from_to(1, 6),
+        1 => rng.from_to(7, 60),
+        2 | 3 => rng.from_to(101, 256),
+        _ => rng.pick(&[257, 400, 500, 510, 511, 512]),
+    };
+    let mut gap = Gap::any(rng, size, wanted);
+    let words = gap.put_excludes(rng, wanted);
+    let wide = rng.chance(1, 3);
+    if wide {
+        gap.put_wide_excludes(rng);
+    }
+
+    let section = section_of(rng, gap.layout.words);
+    let mut builder = Builder::new(&section);
+    let left_side = builder.left_side(rng);
+    builder.word(1);
+    if wide && rng.chance(1, 2) {
+        builder.wide_excludes(Filter::Distance(0, 4_095));
+    }
+    builder.one_word_excludes(rng, words);
+    if wide {
+        builder.wide_excludes(Filter::Distance(0, 4_095));
+    }
+    builder.force(Rule::Filter(Filter::Window(size as u32)));
+    builder.lead_to(rng, left_side);
+    case_of(&section, builder.selection())
+}
+
+/// A section in the making, with so many tokens left of a gap, in it and right of it; the finds of word 1 stand in a row in
+/// the gap.
+struct Gap {
+    left: usize,
+    inside: usize,
+    right: usize,
+    before: usize,
+    finds: usize,
+    layout: Layout,
+}
+
+impl Gap {
+    /// For a window of this size and so many excludes.
+    fn any(rng: &mut Rng, size: usize, excludes: usize) -> Gap {
+        let fitting = (size + rng.pick(&[0, 0, 0, 1, 1, 2, 4])).saturating_sub(1).max(1);
+        let side = (excludes + 9).min(MOST_TOKENS - 1);
+        let (inside, left, right) = match rng.below(6) {
+            0 => (fitting.min(MOST_TOKENS - side), side, 0),
+            1 => (fitting.min(MOST_TOKENS - side), 0, side),
+            // a large window then has no gap that it fits in
+            _ => {
+                let inside = fitting.min(MOST_TOKENS - excludes - 1);
+                let left = rng.from_to(1, MOST_TOKENS - inside - 1).min(side);
+                (inside, left, rng.from_to(1, MOST_TOKENS - inside - left).min(side))
+            }
+        };
+        // mostly one find, at an end of the gap or anywhere in it
+        let most = if excludes < 170 { 512 / (excludes + 1) } else { 1 };
+        let finds = rng.pick(&[1, 1, 1, 2, most]).min(most).min(inside);
+        let before = match rng.below(4) {
+            0 | 1 if left > 0 => 0,
+            0..=2 => inside - finds,
+            _ => rng.from_to(0, inside - finds),
+        };
+        let mut layout = Layout::of_fillers(left + inside + right);
+        (1..=finds).for_each(|find| layout.put(1, (left + before + find) as i64));
+        Gap { left, inside, right, before, finds, layout }
+    }
+
+    /// The excludes next to the gap, and others beyond them; of one word or of several, that rise, fall or are mixed. Answers
+    /// how many words.
+    fn put_excludes(&mut self, rng: &mut Rng, excludes: usize) -> usize {
+        let n = self.left + self.inside + self.right;
+        let mut others: Vec<usize> = (1..self.left).chain(n - self.right + 2..=n).collect();
+        if rng.chance(2, 3) {
+            rng.shuffle(&mut others);
+        }
+        let nearest = [self.left, n - self.right + 1].into_iter().filter(|place| (1..=n).contains(place));
+        let mut places: Vec<usize> = nearest.chain(others).take(excludes).collect();
+        places.sort();
+        let words = rng.pick(&[1, 2, 2, 3, 5, 16]).max(places.len().div_ceil(250));
+        let each = places.len().div_ceil(words);
+        let order = rng.below(3);
+        for (rank, place) in places.iter().enumerate() {
+            let word = match order {
+                0 => rank / each,
+                1 => words - 1 - rank / each,
+                _ => rng.below(words),
+            };
+            self.layout.put(EXCLUDED + word as u32, *place as i64);
+        }
+        words
+    }
+
+    /// An opening word before the finds, and closing ones behind them.
+    fn put_wide_excludes(&mut self, rng: &mut Rng) {
+        let before_finds = self.left + self.before;
+        self.layout.put(OPENING, before_finds as i64 - rng.below(3) as i64);
+        for _ in 0..rng.pick(&[1, 3, 40]) {
+            self.layout.put(CLOSING, (before_finds + self.finds + 1 + rng.below(self.inside)) as i64);
+        }
+    }
+}
+
+impl Builder<'_> {
+    /// And not the excluded words, in nots over one or several of them, each within the limits.
+    fn one_word_excludes(&mut self, rng: &mut Rng, words: usize) {
+        let count = |word: u32| self.section.words.iter().filter(|other| **other == word).count();
+        let counts: Vec<usize> = (0..words).map(|word| count(EXCLUDED + word as u32)).collect();
+        let apart = rng.chance(1, 4) && words <= 5;
+        let doubled = rng.chance(1, 6);
+        let mut in_this_not = 0;
+        for (word, count) in counts.into_iter().enumerate() {
+            let number = EXCLUDED + word as u32;
+            if in_this_not > 0 && (apart || in_this_not + count > 256) {
+                self.force(Rule::Not);
+                self.force(Rule::And);
+                in_this_not = 0;
+            }
+            // where the words stand in a row, two of them are an exclude of two words
+            self.phrase(&[number; 2][..if doubled { 2 } else { 1 }]);
+            if in_this_not > 0 {
+                self.force(Rule::Or);
+            }
+            in_this_not += count.max(1);
+        }
+        self.force(Rule::Not);
+        self.force(Rule::And);
+    }
+
+    /// And not the joins of an opening and a closing word.
+    fn wide_excludes(&mut self, joining: Filter) {
+        self.word(OPENING);
+        self.word(CLOSING);
+        self.force(Rule::And);
+        self.force(Rule::Filter(joining));
+        self.force(Rule::Not);
+        self.force(Rule::And);
+    }
+}
+
+/// Wide excludes, each of which takes a row of windows out: side by side they leave one window, some or none.
+fn tiled(rng: &mut Rng) -> Case {
+    let size = match rng.below(4) {
+        0 => rng.from_to(20, 256),
+        1 => rng.from_to(257, 1_500),
+        _ => rng.from_to(257, 500),
+    } as i64;
+    let row = size / rng.from_to(2, 11) as i64;
+    let find = size + row + rng.below(9) as i64;
+    let mut layout = Layout::of_fillers((find + size + rng.below(40) as i64) as usize);
+    layout.put(1, find);
+    // the windows are those from here on up to the find; which one is to be free?
+    let first_window = find - size + 1;
+    let (mut from, mut left_free, end) = match rng.below(6) {
+        0 => (first_window + 1, None, find),
+        1 => (first_window - (row - (size - 1) % row), None, find - 1),
+        2 | 3 => (first_window - 1, None, find),
+        _ => (first_window - rng.from_to(1, row as usize) as i64, Some(rng.from_to(1, 5)), find),
+    };
+    while from <= end {
+        layout.put(OPENING, from + row - 1);
+        layout.put(CLOSING, from + size - 1);
+        from += row;
+        left_free = match left_free {
+            Some(0) => {
+                from += rng.pick(&[1, 1, 1, 2, 5]);
+                None
+            }
+            Some(rows) => Some(rows - 1),
+            None => None,
+        };
+    }
+    let others = if rng.chance(1, 4) { rng.from_to(1, 3) } else { 0 };
+    for _ in 0..others * rng.pick(&[1, 40]) {
+        layout.put(EXCLUDED, rng.from_to(1, first_window as usize) as i64);
+    }
+
+    let section = section_of(rng, layout.words);
+    let mut builder = Builder::new(&section);
+    let left_side = builder.left_side(rng);
+    builder.word(1);
+    let width = (size - row + 1) as u32;
+    builder.wide_excludes(match rng.below(6) {
+        0 => Filter::Window(width),
+        _ => Filter::Distance(width - 2, width - 2),
+    });
+    if others > 0 {
+        builder.one_word_excludes(rng, 1);
+    }
+    let size = (size as usize).saturating_sub(rng.pick(&[0, 0, 0, 0, 1])).max(1);
+    builder.force(Rule::Filter(Filter::Window(size as u32)));
+    builder.lead_to(rng, left_side);
+    case_of(&section, builder.selection())
+}
+
+/// Several matches, and a filter of any sort to which the first alone, the last alone, one in between alone or none gives a
+/// yes; after some tries any other.
+fn telling(rng: &mut Rng) -> Case {
+    let (sort, place) = (rng.below(10), rng.below(4));
+    for tries in 1.. {
+        let section = telling_section(rng);
+        let mut builder = Builder::new(&section);
+        let left_side = builder.left_side(rng);
+        builder.some_parts(rng);
+        let filter = builder.filter_of_sort(rng, sort);
+        if builder.tells(&filter, place) || tries == 40 {
+            builder.force(Rule::Filter(filter));
+            builder.lead_to(rng, left_side);
+            return case_of(&section, builder.selection());
+        }
+    }
+    unreachable!("the last try is taken")
+}
+
+/// Up to eight tokens, so that one phrase can be all of them; all units are reported.
+fn telling_section(rng: &mut Rng) -> Section {
+    let vocabulary = vocabulary(rng);
+    let n = rng.from_to(2, 8);
+    let words = (0..n).map(|_| rng.pick(&vocabulary)).collect();
+    let units = |rng: &mut Rng| {
+        let rises = rng.pick(&[1, 2, 3]);
+        let mut unit = 0;
+        let mut next = |_| {
+            unit += u32::from(unit == 0 || rng.chance(rises, 4));
+            unit
+        };
+        (0..n).map(&mut next).collect()
+    };
+    Section { words, sentences: units(rng), paragraphs: units(rng) }
+}
+
+impl Builder<'_> {
+    /// An or of two to four parts: phrases or the whole section, alone or two together, with an exclude or without.
+    fn some_parts(&mut self, rng: &mut Rng) {
+        for part in 0..rng.from_to(2, 4) {
+            self.part_of_phrases(rng);
+            if part > 0 {
+                self.force(Rule::Or);
+            }
+        }
+    }
+
+    fn part_of_phrases(&mut self, rng: &mut Rng) {
+        let words = if rng.chance(1, 3) { self.section.words.clone() } else { self.random_words(rng) };
+        self.phrase(&words);
+        if rng.chance(1, 2) {
+            let words = self.random_words(rng);
+            self.phrase(&words);
+            self.force(Rule::And);
+        }
+        if rng.chance(2, 3) {
+            let words = self.random_words(rng);
+            self.phrase(&words);
+            self.force(Rule::Not);
+            self.force(Rule::And);
+        }
+    }
+
+    fn filter_of_sort(&self, rng: &mut Rng, sort: usize) -> Filter {
+        match sort {
+            0 => Filter::Ordered,
+            1 => Filter::Window(rng.from_to(1, 12) as u32),
+            2 => {
+                let a = rng.from_to(0, 3) as u32;
+                Filter::Distance(a, a + rng.below(4) as u32)
+            }
+            3 | 4 => Filter::Same([Unit::Sentence, Unit::Paragraph][sort - 3]),
+            5 | 6 => Filter::Different([Unit::Sentence, Unit::Paragraph][sort - 5]),
+            7 => Filter::AtStart,
+            8 => Filter::AtEnd,
+            _ => Filter::EntireContent,
+        }
+    }
+
+    /// Of the list that waits last, does the match at just this place give a yes: the first, the last, one in between, none?
+    fn tells(&self, filter: &Filter, place: usize) -> bool {
+        let Some(Waiting { list: Some(list), .. }) = self.waiting.last() else { return false };
+        let rule = Rule::Filter(*filter);
+        let gives_a_yes = |m: &Match| {
+            let given = self.book.list_within(sizes::GUARD, self.section, &rule, &[from_ref(m)]);
+            given.is_ok_and(|given| rules::is_yes(&given))
+        };
+        let yeses: Vec<usize> = (0..list.len()).filter(|&at| gives_a_yes(&list[at])).collect();
+        match (place, &yeses[..]) {
+            (0, [0]) | (3, []) => list.len() > 1,
+            (1, [at]) => at + 1 == list.len(),
+            (2, [at]) => (1..list.len() - 1).contains(at),
+            _ => false,
         }
     }
 }

@@ -259,10 +259,15 @@ impl Rule {
         }
     }
 
-    /// Is this one of "kinds 5 to 15", where the quick answer builds, or an occurs, which "the quick walk builds and counts
-    /// .. as it does filters"?
-    pub fn is_built(&self) -> bool {
+    /// Does the quick answer's walk go no further down here: is this one of "kinds 5 to 15", or an occurs, which "the quick
+    /// walk builds and counts .. as it does filters"? It counts the whole part, and builds all that is below.
+    pub fn ends_the_walk(&self) -> bool {
         matches!(self, Rule::MildNot | Rule::Filter(_) | Rule::Occurs(_))
+    }
+
+    /// Does the walk build the code's own list, too? Not that of a filter, since request F-4.
+    pub fn is_built_whole(&self) -> bool {
+        matches!(self, Rule::MildNot | Rule::Occurs(_))
     }
 
     /// Is it a not to "the rule against a not under a mild not", which "now counts kind 16 too"?

@@ -4,7 +4,7 @@
 //! Nothing here says what a list holds: that is in [`crate::rules`], and the tests hold these numbers to the lists made
 //! there. All arithmetic stops at the top of u128, far above every limit; a zero factor still gives zero.
 
-use crate::rules::{self, Match};
+use crate::rules::{self, Match, Str};
 use crate::section::Section;
 
 /// The size of a list: its matches, and the strings of them all.
@@ -92,6 +92,19 @@ pub fn window(list: &[Match], size: u32) -> Size {
     total
 }
 
+/// Which windows of a match have no exclude inside, as rows of their W, from first to last. Each exclude takes a row of
+/// windows out, those whose W lies from its end − N + 1 to its start; no window is made for it.
+pub fn free_windows(m: &Match, size: u32) -> Vec<(i64, i64)> {
+    let row = |s: &Str| (s.end as i64 - size as i64 + 1, s.start as i64);
+    let is_row = |(first, last): &(i64, i64)| first <= last;
+    let mut free: Vec<(i64, i64)> = rules::join(&m.includes).iter().map(row).filter(is_row).collect();
+    for (first_out, last_out) in m.excludes.iter().map(row).filter(is_row) {
+        let rest = |(first, last): (i64, i64)| [(first, last.min(first_out - 1)), (first.max(last_out + 1), last)];
+        free = free.into_iter().flat_map(rest).filter(is_row).collect();
+    }
+    free
+}
+
 /// n choose k, for every k from 0 to n.
 fn binomials(n: usize) -> Vec<u128> {
     let mut rising = vec![1];
@@ -150,7 +163,7 @@ mod tests {
     use super::*;
     use crate::engine::RuleBook;
     use crate::gen::{self, Rng};
-    use crate::rules::{AllMatches, Str};
+    use crate::rules::AllMatches;
     use crate::selection::{self, Tree};
 
     /// Any list, also such that no selection gives.
@@ -182,6 +195,40 @@ mod tests {
             stringless += usize::from(left.iter().any(|m| m.strings() == 0));
         }
         assert!(stringless > 2_000);
+    }
+
+    /// The free windows of a match are those that the window rule gives without excludes.
+    #[test]
+    fn free_windows_are_those_made() {
+        let mut rng = Rng::new(14, 0);
+        let mut met = [0; 4];
+        for _ in 0..40_000 {
+            let includes = rng.from_to(0, 2);
+            let mut m = Match::default();
+            for index in 0..includes + rng.below(7) {
+                let start = rng.from_to(1, 30) as u32;
+                let end = start + if index < includes { rng.below(3) as u32 } else { rng.pick(&[0, 1, 9, 13, 15, 17]) };
+                let string = Str { start, end, query: 1, contiguous: true };
+                if index < includes {
+                    m.includes.push(string);
+                } else {
+                    m.excludes.push(string);
+                }
+            }
+            let size = rng.pick(&[1, 2, 5, 12, 15, 18, 20]);
+            let copies = rules::window(std::slice::from_ref(&m), size);
+            let all = rules::join(&m.includes).into_iter().flat_map(|joined| rules::windows(&joined, size));
+            let made: Vec<i64> =
+                all.zip(&copies).filter(|(_, copy)| copy.excludes.is_empty()).map(|(w, _)| w.0).collect();
+            let rows = free_windows(&m, size);
+            assert_eq!(
+                rows.iter().flat_map(|(first, last)| *first..=*last).collect::<Vec<i64>>(),
+                made,
+                "{m:?}, {size}"
+            );
+            met[rows.len().min(3)] += 1;
+        }
+        assert!(met.iter().all(|&times| times > 30), "{met:?}");
     }
 
     /// A phrase's list: so many matches of one string.

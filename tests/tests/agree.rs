@@ -8,7 +8,7 @@ mod proved;
 mod words;
 
 use proved::Proved;
-use second_engine::{hunt, hunt_occurs, Engine};
+use second_engine::{hunt, hunt_filters, hunt_occurs, Engine};
 use std::time::Instant;
 
 fn engine() -> impl Engine {
@@ -16,6 +16,7 @@ fn engine() -> impl Engine {
 }
 
 const OCCURS: u64 = 212_000;
+const FILTERS: u64 = 6_000;
 
 /// Looks for a case of a seed on which an engine fails.
 type Hunt = fn(&dyn Engine, u64, usize) -> Result<(), String>;
@@ -54,4 +55,15 @@ fn random_cases_with_an_occurs() {
 #[test]
 fn more_random_cases_with_an_occurs() {
     agree(hunt_occurs, "cases made with an occurs", OCCURS, 1);
+}
+
+/// The early way out of a filter.
+#[test]
+fn random_cases_with_a_filter() {
+    agree(hunt_filters, "cases made for a filter's early way out", FILTERS, 0);
+}
+
+#[test]
+fn more_random_cases_with_a_filter() {
+    agree(hunt_filters, "cases made for a filter's early way out", FILTERS, 1);
 }

@@ -5,13 +5,13 @@
 use second_engine::engine::{check, RuleBook};
 use second_engine::rules::{self, agree, join, span_distance, units, Str};
 use second_engine::section::{self, Section};
-use second_engine::selection::{self, Code, Occurs, Rule, Tree, Unit};
+use second_engine::selection::{self, Code, Filter, Occurs, Rule, Tree, Unit};
 use second_engine::shrink::{as_rust, shrink, shrink_typed, typed_as_rust};
 use second_engine::sizes::{self, Limits, Size};
 use second_engine::typed::{self, Act, Form, Move, Operator, Pair, Reader, Sign, Sort, State, Token};
 use second_engine::{
-    cases, compare, compare_typed, engine, hunt_typed, occurs_cases, typed_cases, AllMatches, Case, Engine, Listing,
-    Match, Quick, Refusal, SecondEngine, TypedCase, BUFFER, WORK,
+    cases, compare, compare_typed, engine, filter_cases, hunt_typed, occurs_cases, typed_cases, AllMatches, Case,
+    Engine, Listing, Match, Quick, Refusal, SecondEngine, TypedCase, BUFFER, WORK,
 };
 use std::slice::from_ref;
 
@@ -20,6 +20,9 @@ const MOST: usize = 100_000;
 
 /// Within how many that have an occurs each mistake about it must be found.
 const MOST_OCCURS: usize = 10_000;
+
+/// And within how many made for the early way out of a filter each mistake about that.
+const MOST_FILTERS: usize = 1_000;
 
 #[test]
 fn every_mistake_is_found() {
@@ -31,6 +34,12 @@ fn every_mistake_is_found() {
 fn every_mistake_about_occurs_is_found() {
     println!("cases with an occurs  mistake");
     all_are_found(all_about_occurs(), || occurs_cases(1, MOST_OCCURS));
+}
+
+#[test]
+fn every_mistake_about_filters_is_found() {
+    println!("cases with a filter  mistake");
+    all_are_found(all_about_filters(), || filter_cases(1, MOST_FILTERS));
 }
 
 /// Some case finds each of the mistakes.
@@ -113,6 +122,21 @@ fn shrunk_occurs_are_small() {
     assert_eq!(without_not.selection, [3, 0, 1, 16, 0, 1, 0]);
 }
 
+/// So are those of a filter's early way out.
+#[test]
+fn shrunk_filters_are_small() {
+    let measured =
+        AtFilters(|section, filter| Ok((rules::is_yes(&RuleBook::paper().build(section, filter)?), filter.count())));
+    let fails = |case: &Case| compare(&measured, case).is_err();
+    let case = filter_cases(5, MOST_FILTERS).find(|case| fails(case)).unwrap();
+    let small = shrink(&case, &fails);
+    // some tokens, their word, and just as many windows as the listing refuses
+    assert_eq!(small.selection[..6], [3, 0, 1, 7, 0, 1]);
+    let (tokens, window) = (small.section[0], small.selection[6]);
+    assert!(small.section[1..].iter().all(|number| *number == 0));
+    assert!(tokens * window > 256 && (tokens - 1) * window <= 256 && tokens * (window - 1) <= 256);
+}
+
 /// Engines with one mistake each, by name.
 struct Mutants(Vec<(&'static str, Box<dyn Engine>)>);
 
@@ -124,6 +148,8 @@ fn all() -> Vec<(&'static str, Box<dyn Engine>)> {
     mutants_of_calls(&mut list);
     mutants_of_checks(&mut list);
     list.0.extend(all_about_occurs());
+    mutants_of_the_way_out(&mut list);
+    mutants_of_freed_lists(&mut list);
     list.0
 }
 
@@ -133,6 +159,14 @@ fn all_about_occurs() -> Vec<(&'static str, Box<dyn Engine>)> {
     mutants_of_from_to(&mut list);
     mutants_of_occurs_calls(&mut list);
     mutants_of_occurs_checks(&mut list);
+    list.0
+}
+
+fn all_about_filters() -> Vec<(&'static str, Box<dyn Engine>)> {
+    let mut list = Mutants(vec![]);
+    mutants_of_the_way_out(&mut list);
+    mutants_of_free_windows(&mut list);
+    mutants_of_freed_lists(&mut list);
     list.0
 }
 
@@ -152,6 +186,14 @@ impl Mutants {
 
     fn quick(&mut self, name: &'static str, quick: QuickCall) {
         self.engine(name, Calls { quick, ..right_calls() });
+    }
+
+    fn at_filters(&mut self, name: &'static str, at: AtFilter) {
+        self.engine(name, AtFilters(at));
+    }
+
+    fn at_windows(&mut self, name: &'static str, is_free: IsFree) {
+        self.engine(name, AtWindows(is_free));
     }
 
     fn snippet(&mut self, name: &'static str, snippet: SnippetCall) {
@@ -929,20 +971,31 @@ fn mutants_of_from_to(list: &mut Mutants) {
     });
 }
 
-/// What a walk does with an occurs itself, and the right one with all else.
-type WalkOccurs = fn(&Section, &Tree, Occurs) -> Result<(bool, usize), Refusal>;
+/// Yes or no and the count, or a refusal.
+type Walked = Result<(bool, usize), Refusal>;
 
-fn walk_occurs(at: WalkOccurs, section: &Section, tree: &Tree) -> Result<(bool, usize), Refusal> {
+/// The right walk down to where it ends, and there another.
+fn walk_down(end: &dyn Fn(&Section, &Tree) -> Walked, section: &Section, tree: &Tree) -> Walked {
     let decisive = tree.rule == Rule::Or;
     match (&tree.rule, &tree.below[..]) {
-        (Rule::Occurs(occurs), _) => at(section, tree, *occurs),
-        (Rule::Not, [side]) => walk_occurs(at, section, side).map(|(yes, codes)| (!yes, 1 + codes)),
-        (Rule::Or | Rule::And, [left, right]) => match walk_occurs(at, section, left)? {
+        (Rule::Not, [side]) => walk_down(end, section, side).map(|(yes, codes)| (!yes, 1 + codes)),
+        (Rule::Or | Rule::And, [left, right]) => match walk_down(end, section, left)? {
             (yes, codes) if yes == decisive => Ok((yes, 1 + codes)),
-            (_, codes) => walk_occurs(at, section, right).map(|(yes, more)| (yes, 1 + codes + more)),
+            (_, codes) => walk_down(end, section, right).map(|(yes, more)| (yes, 1 + codes + more)),
         },
-        _ => RuleBook::paper().walk(section, tree),
+        _ => end(section, tree),
     }
+}
+
+/// What a walk does with an occurs itself, and the right one with all else.
+type WalkOccurs = fn(&Section, &Tree, Occurs) -> Walked;
+
+fn walk_occurs(at: WalkOccurs, section: &Section, tree: &Tree) -> Walked {
+    let end = |section: &Section, tree: &Tree| match tree.rule {
+        Rule::Occurs(occurs) => at(section, tree, occurs),
+        _ => RuleBook::paper().walk(section, tree),
+    };
+    walk_down(&end, section, tree)
 }
 
 /// How many finds the phrase under an occurs has.
@@ -1165,6 +1218,328 @@ fn refused_operand(section: &[u32], selection: &[u32], of: fn(u32, u32) -> bool)
     }
 }
 
+// The early way out of a filter
+
+/// What the walk does with a filter that it reaches.
+type AtFilter = fn(&Section, &Tree) -> Walked;
+
+/// An engine whose walk does something else there.
+struct AtFilters(AtFilter);
+
+impl Engine for AtFilters {
+    fn listing(&self, section: &[u32], selection: &[u32], work: &mut [u32], buffer: &mut [u32]) -> Listing {
+        engine::listing(section, selection, work.len(), buffer)
+    }
+
+    fn quick(&self, section: &[u32], selection: &[u32], work: &mut [u32]) -> Quick {
+        let end = |section: &Section, tree: &Tree| match tree.rule {
+            Rule::Filter(_) => (self.0)(section, tree),
+            _ => RuleBook::paper().walk(section, tree),
+        };
+        walked(section, selection, work.len(), |section, tree| walk_down(&end, section, tree))
+    }
+
+    fn snippet<'a>(&self, section: &'a [u32], from: u32, to: u32) -> &'a [u32] {
+        engine::snippet(section, from, to)
+    }
+}
+
+/// Is the window of these first and last positions, of a match, taken as free? The windows of the match are given, too.
+type IsFree = fn(&Match, (i64, i64), &[(i64, i64)]) -> bool;
+
+/// An engine whose walk tries the windows in another way.
+struct AtWindows(IsFree);
+
+impl Engine for AtWindows {
+    fn listing(&self, section: &[u32], selection: &[u32], work: &mut [u32], buffer: &mut [u32]) -> Listing {
+        engine::listing(section, selection, work.len(), buffer)
+    }
+
+    fn quick(&self, section: &[u32], selection: &[u32], work: &mut [u32]) -> Quick {
+        let some_free = |m: &Match, size: u32| {
+            let joined = join(&m.includes);
+            let windows: Vec<(i64, i64)> = joined.iter().flat_map(|joined| rules::windows(joined, size)).collect();
+            windows.iter().any(|window| (self.0)(m, *window, &windows))
+        };
+        let end = |section: &Section, tree: &Tree| match tree.rule {
+            Rule::Filter(Filter::Window(size)) => {
+                let operand = RuleBook::paper().build(section, &tree.below[0])?;
+                Ok((operand.iter().any(|m| some_free(m, size)), tree.count()))
+            }
+            _ => RuleBook::paper().walk(section, tree),
+        };
+        walked(section, selection, work.len(), |section, tree| walk_down(&end, section, tree))
+    }
+
+    fn snippet<'a>(&self, section: &'a [u32], from: u32, to: u32) -> &'a [u32] {
+        engine::snippet(section, from, to)
+    }
+}
+
+/// How far a list that isn't measured is made; a larger one would take too long.
+const FREED: Limits = Limits { matches: 20_000, strings: 100_000 };
+
+/// What one match gives to a filter, whatever its size.
+fn given(section: &Section, filter: &Tree, m: &Match) -> AllMatches {
+    let any = Limits { matches: u128::MAX, strings: u128::MAX };
+    RuleBook::paper().list_within(any, section, &filter.rule, &[from_ref(m)]).expect("no limit")
+}
+
+/// The right way out, but of some of the operand's matches alone.
+fn way_out_of<'a>(section: &Section, filter: &Tree, matches: impl IntoIterator<Item = &'a Match>) -> Walked {
+    Ok((matches.into_iter().any(|m| rules::is_yes(&given(section, filter, m))), filter.count()))
+}
+
+/// The operand's list, as it is built.
+fn operand(section: &Section, filter: &Tree) -> Result<AllMatches, Refusal> {
+    RuleBook::paper().build(section, &filter.below[0])
+}
+
+fn mutants_of_the_way_out(list: &mut Mutants) {
+    list.at_filters("filter: the operand's first match decides", |section, filter| {
+        way_out_of(section, filter, operand(section, filter)?.first())
+    });
+    list.at_filters("filter: the operand's last match decides", |section, filter| {
+        way_out_of(section, filter, operand(section, filter)?.last())
+    });
+    list.at_filters("filter: the first match isn't taken", |section, filter| {
+        way_out_of(section, filter, operand(section, filter)?.iter().skip(1))
+    });
+    list.at_filters("filter: the last match isn't taken", |section, filter| {
+        let operand = operand(section, filter)?;
+        way_out_of(section, filter, operand.iter().take(operand.len().saturating_sub(1)))
+    });
+    list.at_filters("filter: out at the first match that gives any, whatever its excludes", |section, filter| {
+        let gives = |m: &Match| !given(section, filter, m).is_empty();
+        Ok((operand(section, filter)?.iter().any(gives), filter.count()))
+    });
+    list.at_filters("filter: the first match that gives any decides", |section, filter| {
+        let operand = operand(section, filter)?;
+        way_out_of(section, filter, operand.iter().find(|m| !given(section, filter, m).is_empty()))
+    });
+    list.at_filters("filter: the first of what a match gives decides", |section, filter| {
+        let operand = operand(section, filter)?;
+        let first_free = |m: &Match| given(section, filter, m).first().is_some_and(|first| first.excludes.is_empty());
+        Ok((operand.iter().any(first_free), filter.count()))
+    });
+    list.at_filters("filter: matches with an exclude aren't taken", |section, filter| {
+        way_out_of(section, filter, operand(section, filter)?.iter().filter(|m| m.excludes.is_empty()))
+    });
+    list.at_filters("filter: no where its operand says no", |section, filter| {
+        let operand = operand(section, filter)?;
+        let (yes, codes) = way_out_of(section, filter, &operand)?;
+        Ok((yes && rules::is_yes(&operand), codes))
+    });
+    list.at_filters("filter: yes where its operand says yes", |section, filter| {
+        let operand = operand(section, filter)?;
+        let (yes, codes) = way_out_of(section, filter, &operand)?;
+        Ok((yes || rules::is_yes(&operand), codes))
+    });
+    list.at_filters("filter: counts one", |section, filter| Ok((RuleBook::paper().walk(section, filter)?.0, 1)));
+    list.at_filters("filter: counts its own code and the one below", |section, filter| {
+        Ok((RuleBook::paper().walk(section, filter)?.0, 2))
+    });
+    list.at_filters("filter: its own code isn't counted", |section, filter| {
+        Ok((RuleBook::paper().walk(section, filter)?.0, filter.count() - 1))
+    });
+    list.at_filters("filter: its own code isn't counted after a yes", |section, filter| {
+        let (yes, codes) = RuleBook::paper().walk(section, filter)?;
+        Ok((yes, codes - usize::from(yes)))
+    });
+    list.at_filters("filter: the codes below counted as walked", |section, filter| {
+        let (yes, _) = RuleBook::paper().walk(section, filter)?;
+        let below = RuleBook::paper().walk(section, &filter.below[0]).map_or(0, |(_, codes)| codes);
+        Ok((yes, 1 + below))
+    });
+}
+
+fn is_inside(exclude: &Str, (first, last): (i64, i64)) -> bool {
+    first <= exclude.start as i64 && exclude.end as i64 <= last
+}
+
+fn no_exclude_in(m: &Match, window: (i64, i64)) -> bool {
+    m.excludes.iter().all(|e| !is_inside(e, window))
+}
+
+fn mutants_of_free_windows(list: &mut Mutants) {
+    list.at_windows("free windows: only the first tried", |m, window, windows| {
+        window == windows[0] && no_exclude_in(m, window)
+    });
+    list.at_windows("free windows: only the last tried", |m, window, windows| {
+        Some(&window) == windows.last() && no_exclude_in(m, window)
+    });
+    list.at_windows("free windows: only the first and the last tried", |m, window, windows| {
+        (window == windows[0] || Some(&window) == windows.last()) && no_exclude_in(m, window)
+    });
+    list.at_windows("free windows: the first isn't tried", |m, window, windows| {
+        window != windows[0] && no_exclude_in(m, window)
+    });
+    list.at_windows("free windows: the last isn't tried", |m, window, windows| {
+        Some(&window) != windows.last() && no_exclude_in(m, window)
+    });
+    list.at_windows("free windows: none from W below 1", |m, window, _| window.0 >= 1 && no_exclude_in(m, window));
+    list.at_windows("free windows: 256 tried at most", |m, window, windows| {
+        window.0 - windows[0].0 < 256 && no_exclude_in(m, window)
+    });
+    list.at_windows("free windows: each exclude outside of some window", |m, _, windows| {
+        m.excludes.iter().all(|e| windows.iter().any(|window| !is_inside(e, *window)))
+    });
+    list.at_windows("free windows: only the first exclude looked at", |m, window, _| {
+        m.excludes.first().is_none_or(|e| !is_inside(e, window))
+    });
+    list.at_windows("free windows: only the last exclude looked at", |m, window, _| {
+        m.excludes.last().is_none_or(|e| !is_inside(e, window))
+    });
+    list.at_windows("free windows: one exclude outside is enough", |m, window, _| {
+        m.excludes.is_empty() || m.excludes.iter().any(|e| !is_inside(e, window))
+    });
+    list.at_windows("free windows: 255 excludes looked at", |m, window, _| {
+        m.excludes.iter().take(255).all(|e| !is_inside(e, window))
+    });
+    list.at_windows("free windows: an exclude inside by its start alone", |m, (first, last), _| {
+        m.excludes.iter().all(|e| !(first..=last).contains(&e.start.into()))
+    });
+    list.at_windows("free windows: an exclude inside by its end alone", |m, (first, last), _| {
+        m.excludes.iter().all(|e| !(first..=last).contains(&e.end.into()))
+    });
+    list.at_windows("free windows: an exclude inside by a part of it", |m, (first, last), _| {
+        m.excludes.iter().all(|e| e.start as i64 > last || (e.end as i64) < first)
+    });
+    list.at_windows("free windows: one position too wide", |m, (first, last), _| no_exclude_in(m, (first, last + 1)));
+    list.at_windows("free windows: one position too narrow", |m, (first, last), _| no_exclude_in(m, (first, last - 1)));
+    // of the windows it is enough to try the first, and those that begin behind an exclude's start
+    list.at_windows("free windows: only those that begin behind an exclude", |m, window, _| {
+        let behind = |e: &Str| e.start as i64 + 1 == window.0;
+        m.excludes.is_empty() || m.excludes.iter().any(behind) && no_exclude_in(m, window)
+    });
+    list.at_windows("free windows: held to the excludes after the one it begins behind", |m, window, windows| {
+        let behind = |e: &Str| e.start as i64 + 1 == window.0;
+        let after = match m.excludes.iter().position(behind) {
+            Some(at) => &m.excludes[at + 1..],
+            None if window == windows[0] => &m.excludes[..],
+            None => return false,
+        };
+        after.iter().all(|e| !is_inside(e, window))
+    });
+    list.at_windows("free windows: only the neighbours of a gap looked at, as if excludes rose", |m, window, _| {
+        let after = m.excludes.iter().position(|e| e.start as i64 >= window.0).unwrap_or(m.excludes.len());
+        m.excludes.get(after).is_none_or(|e| !is_inside(e, window))
+    });
+}
+
+/// Builds a part in which some lists aren't measured.
+fn build_freed(section: &Section, tree: &Tree, freed: &dyn Fn(&Tree) -> bool) -> Result<AllMatches, Refusal> {
+    let book = RuleBook::paper();
+    let below: Vec<AllMatches> =
+        tree.below.iter().map(|side| build_freed(section, side, freed)).collect::<Result<_, _>>()?;
+    let below: Vec<&[Match]> = below.iter().map(Vec::as_slice).collect();
+    let limits = if freed(tree) { FREED } else { book.limits };
+    book.list_within(limits, section, &tree.rule, &below).map_err(|_| Refusal::new(9, tree.place))
+}
+
+fn is_a_filter(tree: &Tree) -> bool {
+    matches!(tree.rule, Rule::Filter(_))
+}
+
+fn mutants_of_freed_lists(list: &mut Mutants) {
+    list.at_filters("filter: its own list still measured", |section, filter| {
+        Ok((rules::is_yes(&RuleBook::paper().build(section, filter)?), filter.count()))
+    });
+    list.at_filters("filter: its own matches still measured", |section, filter| {
+        let operand = operand(section, filter)?;
+        let matches: usize = operand.iter().map(|m| given(section, filter, m).len()).sum();
+        if matches > 256 {
+            return Err(Refusal::new(9, filter.place));
+        }
+        way_out_of(section, filter, &operand)
+    });
+    list.at_filters("filter: measured up to the way out", |section, filter| {
+        let mut size = Size { matches: 0, strings: 0 };
+        for m in &operand(section, filter)? {
+            let of_one = given(section, filter, m);
+            let Size { matches, strings } = Size::of(&of_one);
+            size = Size { matches: size.matches + matches, strings: size.strings + strings };
+            if !size.within(sizes::PAPER) {
+                return Err(Refusal::new(9, filter.place));
+            }
+            if rules::is_yes(&of_one) {
+                return Ok((true, filter.count()));
+            }
+        }
+        Ok((false, filter.count()))
+    });
+    list.at_filters("filter: what one match gives is measured", |section, filter| {
+        let operand = operand(section, filter)?;
+        if operand.iter().any(|m| !Size::of(&given(section, filter, m)).within(sizes::PAPER)) {
+            return Err(Refusal::new(9, filter.place));
+        }
+        way_out_of(section, filter, &operand)
+    });
+    list.at_filters("filter: nothing under it is measured", |section, filter| {
+        way_out_of(section, filter, &build_freed(section, &filter.below[0], &|_| true)?)
+    });
+    list.at_filters("filter: the operand's own list isn't measured", |section, filter| {
+        let own = filter.below[0].place;
+        way_out_of(section, filter, &build_freed(section, &filter.below[0], &|tree| tree.place == own)?)
+    });
+    list.at_filters("filter: a phrase right under it isn't measured", |section, filter| {
+        let long = |tree: &Tree| matches!(tree.rule, Rule::Phrase { .. }) && tree.place == filter.below[0].place;
+        way_out_of(section, filter, &build_freed(section, &filter.below[0], &long)?)
+    });
+    list.at_filters("filter: a filter right under it is freed, too", |section, filter| {
+        let own = |tree: &Tree| is_a_filter(tree) && tree.place == filter.below[0].place;
+        way_out_of(section, filter, &build_freed(section, &filter.below[0], &own)?)
+    });
+    list.at_filters("filter: every filter under it is freed, too", |section, filter| {
+        way_out_of(section, filter, &build_freed(section, &filter.below[0], &is_a_filter)?)
+    });
+    list.at_filters("filter: 9 below it at its own place", |section, filter| {
+        RuleBook::paper().walk(section, filter).map_err(|_| Refusal::new(9, filter.place))
+    });
+    // a mild not's own list is never larger than its left side's: freed like a filter means its sides
+    list.quick("quick: the sides of a mild not freed", |section, selection, work| {
+        let end = |section: &Section, tree: &Tree| match tree.rule {
+            Rule::MildNot => {
+                let side = |part: &Tree| tree.below.iter().any(|side| side.place == part.place);
+                Ok((rules::is_yes(&build_freed(section, tree, &side)?), tree.count()))
+            }
+            _ => RuleBook::paper().walk(section, tree),
+        };
+        walked(section, selection, work, |section, tree| walk_down(&end, section, tree))
+    });
+    list.quick("quick: filters in a mild not freed", |section, selection, work| {
+        let end = |section: &Section, tree: &Tree| match tree.rule {
+            Rule::MildNot => Ok((rules::is_yes(&build_freed(section, tree, &is_a_filter)?), tree.count())),
+            _ => RuleBook::paper().walk(section, tree),
+        };
+        walked(section, selection, work, |section, tree| walk_down(&end, section, tree))
+    });
+    list.quick("quick: kind 17 freed", |section, selection, work| {
+        walked(section, selection, work, |section, tree| {
+            let freed: WalkOccurs = |section, tree, occurs| match occurs {
+                Occurs::AtLeast(_) => {
+                    RuleBook::paper().build(section, &tree.below[0])?;
+                    Ok((by_counting(section, tree, occurs), tree.count()))
+                }
+                Occurs::FromTo(..) => RuleBook::paper().walk(section, tree),
+            };
+            walk_occurs(freed, section, tree)
+        })
+    });
+    list.quick("quick: kind 16 freed", |section, selection, work| {
+        walked(section, selection, work, |section, tree| {
+            let freed: WalkOccurs = |section, tree, occurs| match occurs {
+                Occurs::FromTo(..) => {
+                    RuleBook::paper().build(section, &tree.below[0])?;
+                    Ok((by_counting(section, tree, occurs), tree.count()))
+                }
+                Occurs::AtLeast(_) => RuleBook::paper().walk(section, tree),
+            };
+            walk_occurs(freed, section, tree)
+        })
+    });
+}
+
 // The calls
 
 type ListingCall = fn(&[u32], &[u32], usize, &mut [u32]) -> Listing;
@@ -1197,12 +1572,7 @@ fn right_calls() -> Calls {
 }
 
 /// The quick answer by another walk.
-fn walked(
-    section: &[u32],
-    selection: &[u32],
-    work_len: usize,
-    walk: impl Fn(&Section, &Tree) -> Result<(bool, usize), Refusal>,
-) -> Quick {
+fn walked(section: &[u32], selection: &[u32], work_len: usize, walk: impl Fn(&Section, &Tree) -> Walked) -> Quick {
     match check(section, selection, work_len, None).and_then(|(section, tree)| walk(&section, &tree)) {
         Ok((yes, codes)) => Quick::Answered { yes, codes: codes as u32 },
         Err(Refusal { number, place }) => Quick::Refused { number, place },
@@ -1222,7 +1592,7 @@ enum Walk {
     YesIfNotEmpty,
 }
 
-fn walk(mistake: Walk, section: &Section, tree: &Tree) -> Result<(bool, usize), Refusal> {
+fn walk(mistake: Walk, section: &Section, tree: &Tree) -> Walked {
     let book = RuleBook::paper();
     match (&tree.rule, &tree.below[..]) {
         (Rule::Phrase { words, query }, _) => {
@@ -1250,11 +1620,12 @@ fn walk(mistake: Walk, section: &Section, tree: &Tree) -> Result<(bool, usize), 
             let (other, more) = walk(mistake, section, right)?;
             Ok((if decisive { yes || other } else { yes && other }, 1 + codes + more))
         }
-        _ => {
-            let list = book.build(section, tree)?;
-            let yes = if mistake == Walk::YesIfNotEmpty { !list.is_empty() } else { rules::is_yes(&list) };
-            Ok((yes, if mistake == Walk::BuiltPartCountsOne { 1 } else { tree.count() }))
+        (Rule::Not, _) => Ok((rules::is_yes(&book.build(section, tree)?), tree.count())),
+        _ if mistake == Walk::YesIfNotEmpty && tree.rule.is_built_whole() => {
+            Ok((!book.build(section, tree)?.is_empty(), tree.count()))
         }
+        _ if mistake == Walk::BuiltPartCountsOne => Ok((book.walk(section, tree)?.0, 1)),
+        _ => book.walk(section, tree),
     }
 }
 
@@ -1286,7 +1657,7 @@ fn mutants_of_calls(list: &mut Mutants) {
     list.quick("quick: words counted in a built part", |section, selection, work| {
         walked(section, selection, work, |section, tree| {
             let (yes, codes) = RuleBook::paper().walk(section, tree)?;
-            Ok((yes, if tree.rule.is_built() { tree.codes().len() } else { codes }))
+            Ok((yes, if tree.rule.ends_the_walk() { tree.codes().len() } else { codes }))
         })
     });
     list.quick("quick: the whole listing made for it", |section, selection, work| {

@@ -1,12 +1,16 @@
 //! Random cases: what they hold, and that the second engine agrees with itself and with the unlimited lists on them.
 
+use second_engine::engine::RuleBook;
 use second_engine::gen::{self, Case};
 use second_engine::section::Section;
-use second_engine::selection::{self, Occurs, Rule, Tree};
+use second_engine::selection::{self, Filter, Occurs, Rule, Tree};
+use second_engine::sizes::{self, Size};
 use second_engine::{
-    cases, engine, hunt, hunt_occurs, occurs_cases, rules, section, text, Listing, Quick, SecondEngine, BUFFER, WORK,
+    cases, engine, filter_cases, hunt, hunt_filters, hunt_occurs, occurs_cases, rules, section, text, Listing, Match,
+    Quick, Refusal, SecondEngine, BUFFER, WORK,
 };
 use std::collections::BTreeMap;
+use std::slice::from_ref;
 use std::time::Instant;
 
 /// 100,000 in release, fewer without optimisation; or as the environment says: `CASES=1000000 SEED=7 cargo test ...`.
@@ -37,6 +41,53 @@ fn the_second_engine_agrees_with_itself_on_occurs() {
     println!("{count} cases with an occurs in {:?}", begun.elapsed());
 }
 
+/// And on cases made for the early way out of a filter.
+#[test]
+fn the_second_engine_agrees_with_itself_on_filters() {
+    let (count, begun) = (how_many() / 100, Instant::now());
+    if let Err(wrong) = hunt_filters(&SecondEngine::new(), number("SEED").unwrap_or(1), count) {
+        panic!("{wrong}");
+    }
+    println!("{count} cases with a filter in {:?}", begun.elapsed());
+}
+
+/// The walk as it was before request F-4: filters built whole, and measured.
+fn walk_before(section: &Section, tree: &Tree) -> Result<(bool, usize), Refusal> {
+    let decisive = tree.rule == Rule::Or;
+    match (&tree.rule, &tree.below[..]) {
+        (Rule::Filter(_), _) => Ok((rules::is_yes(&RuleBook::paper().build(section, tree)?), tree.count())),
+        (Rule::Not, [side]) => walk_before(section, side).map(|(yes, codes)| (!yes, 1 + codes)),
+        (Rule::Or | Rule::And, [left, right]) => match walk_before(section, left)? {
+            (yes, codes) if yes == decisive => Ok((yes, 1 + codes)),
+            (_, codes) => walk_before(section, right).map(|(yes, more)| (yes, 1 + codes + more)),
+        },
+        _ => RuleBook::paper().walk(section, tree),
+    }
+}
+
+/// What was answered then is answered so now, with the same count; and only a refusal at a filter that the walk reaches is gone.
+#[test]
+fn only_refusals_at_a_filter_are_gone() {
+    let count = how_many() / 100;
+    let mut gone = 0;
+    for case in cases(4, 10 * count).chain(occurs_cases(4, 5 * count)).chain(filter_cases(4, count)) {
+        let (Ok(section), Ok(tree)) = (section::read(&case.section), selection::read(&case.selection)) else {
+            continue;
+        };
+        let now = RuleBook::paper().walk(&section, &tree);
+        match walk_before(&section, &tree) {
+            Err(Refusal { number: 9, place }) if now != Err(Refusal { number: 9, place }) => {
+                let reached = reached(&section, &tree, "");
+                assert!(reached.iter().any(|(filter, _)| filter.place == place as usize), "{tree}: {now:?}");
+                gone += 1;
+            }
+            before => assert_eq!(before, now, "{tree}"),
+        }
+    }
+    println!("{gone} refusals of {} cases are gone", 16 * count);
+    assert!(gone * 50 > count, "only {gone} refusals are gone");
+}
+
 /// A case depends on its seed and its index alone.
 #[test]
 fn cases_can_be_made_again() {
@@ -50,6 +101,10 @@ fn cases_can_be_made_again() {
     assert!(occurs == occurs_cases(7, 300).collect::<Vec<_>>());
     assert!(occurs[299] == gen::occurs_case(7, 299));
     assert!(occurs != occurs_cases(8, 300).collect::<Vec<_>>());
+    let filters: Vec<Case> = filter_cases(7, 300).collect();
+    assert!(filters == filter_cases(7, 300).collect::<Vec<_>>());
+    assert!(filters[299] == gen::filter_case(7, 299));
+    assert!(filters != filter_cases(8, 300).collect::<Vec<_>>());
 }
 
 /// How often what was met.
@@ -57,13 +112,17 @@ type Met = BTreeMap<String, usize>;
 
 /// All that is needed was met once in 10,000 cases at least.
 fn often_enough(met: &Met, needed: Vec<String>, count: usize) {
+    assert!(count >= 20_000, "{count} cases are too few to judge by");
+    met_once_in(10_000, met, needed, count);
+}
+
+fn met_once_in(out_of: usize, met: &Met, needed: Vec<String>, count: usize) {
     for (what, times) in met {
         println!("{times:7}  {what}");
     }
-    assert!(count >= 20_000, "{count} cases are too few to judge by");
     for what in needed {
         let times = met.get(&what).copied().unwrap_or(0);
-        assert!(times * 10_000 >= count, "met only {times} times in {count}: {what}");
+        assert!(times * out_of >= count.max(out_of), "met only {times} times in {count}: {what}");
     }
 }
 
@@ -255,6 +314,169 @@ fn about_occurs(section: &Section, tree: &Tree, place: &str, meet: &mut impl FnM
             meet(format!("kind 16: b is {}", beside(b)));
         }
     }
+}
+
+/// Counts what the cases are about that are made for the early way out of a filter: over which operands the walk reaches it
+/// and where, which of their matches give a yes, and what the excludes leave of a window's list.
+#[test]
+#[cfg_attr(debug_assertions, ignore = "needs optimisation")]
+fn filter_cases_meet_everything() {
+    let mut met = Met::new();
+    let mut meet = |what: String| *met.entry(what).or_insert(0) += 1;
+    let count = how_many() / 25;
+    for case in filter_cases(2, count) {
+        let listing = second_engine::listing(&case.section, &case.selection, case.work_len, &mut case.buffer.clone());
+        match listing {
+            Listing::Refused { number, .. } => meet(format!("listing refused {number}")),
+            Listing::Listed { yes, .. } => meet(format!("listed {yes}")),
+        }
+        match second_engine::quick(&case.section, &case.selection, case.work_len) {
+            Quick::Refused { number, .. } => meet(format!("quick refused {number}")),
+            Quick::Answered { yes, .. } => meet(format!("quick {yes}")),
+        }
+        if let Ok((section, tree)) = engine::check(&case.section, &case.selection, case.work_len, None) {
+            for (filter, place) in reached(&section, &tree, "at the top") {
+                about_filter(&section, filter, &place, listing, &mut meet);
+            }
+        }
+    }
+
+    let mut needed: Vec<String> = REFUSALS.iter().map(|number| format!("listing refused {number}")).collect();
+    needed.extend(REFUSALS.iter().map(|number| format!("quick refused {number}")));
+    for yes in [true, false] {
+        needed.extend(["listed", "quick"].map(|call| format!("{call} {yes}")));
+        let places =
+            ["on the left of an or", "on the right of an or", "on the left of an and", "on the right of an and"];
+        for place in places.into_iter().chain(["at the top", "under a not"]) {
+            needed.push(format!("only the listing refuses 9 at a filter {place}: {yes}"));
+        }
+        needed.push(format!("window 4096, over 100 excludes: {yes}"));
+        needed.push(format!("a window over 500 excludes: {yes}"));
+        needed.extend(["falling", "rising", "mixed"].map(|order| format!("excludes {order}: {yes}")));
+        needed.extend(["of one word", "wide", "of both sorts"].map(|sort| format!("excludes {sort}: {yes}")));
+        needed
+            .extend(["matches", "strings"].map(|what| format!("as many {what} below a filter as there may be: {yes}")));
+    }
+    needed.push("quick refused 9 below a filter".into());
+    needed.push("quick refused 9 at a filter below a filter".into());
+    needed.extend(
+        ["none", "the first alone", "the last alone", "one alone", "several"].map(|w| format!("free windows: {w}")),
+    );
+    for kind in 6..=15 {
+        needed.extend(
+            ["none", "the first alone", "the last alone", "one alone"].map(|m| format!("kind {kind:2}: a yes by {m}")),
+        );
+    }
+    met_once_in(1_000, &met, needed, count);
+}
+
+/// The filters that the walk reaches, and where each stands.
+fn reached<'a>(section: &Section, tree: &'a Tree, place: &str) -> Vec<(&'a Tree, String)> {
+    let goes_on =
+        |left: &Tree, after: bool| matches!(RuleBook::paper().walk(section, left), Ok((yes, _)) if yes == after);
+    match (&tree.rule, &tree.below[..]) {
+        (Rule::Filter(_), _) => vec![(tree, place.to_string())],
+        (Rule::Not, [side]) => reached(section, side, "under a not"),
+        (Rule::Or | Rule::And, [left, right]) => {
+            let (name, after) = if tree.rule == Rule::Or { ("or", false) } else { ("and", true) };
+            let mut list = reached(section, left, &format!("on the left of an {name}"));
+            if goes_on(left, after) {
+                list.extend(reached(section, right, &format!("on the right of an {name}")));
+            }
+            list
+        }
+        _ => vec![],
+    }
+}
+
+/// Which of a list's places are among some: none, the first alone, and so on.
+fn which(places: &[usize], length: usize) -> &'static str {
+    match places {
+        [] => "none",
+        [0] => "the first alone",
+        [at] if at + 1 == length => "the last alone",
+        [_] => "one alone",
+        _ => "several",
+    }
+}
+
+fn about_filter(section: &Section, filter: &Tree, place: &str, listing: Listing, meet: &mut impl FnMut(String)) {
+    let book = RuleBook::paper();
+    let operand = match book.build(section, &filter.below[0]) {
+        Ok(operand) => operand,
+        Err(refusal) => {
+            meet("quick refused 9 below a filter".into());
+            if is_a_filter(&filter.below[0], refusal.place as usize) {
+                meet("quick refused 9 at a filter below a filter".into());
+            }
+            return;
+        }
+    };
+    let gives_a_yes = |m: &Match| match filter.rule {
+        Rule::Filter(Filter::Window(size)) => !sizes::free_windows(m, size).is_empty(),
+        _ => rules::is_yes(&book.list_within(sizes::GUARD, section, &filter.rule, &[from_ref(m)]).unwrap()),
+    };
+    let yeses: Vec<usize> = (0..operand.len()).filter(|&at| gives_a_yes(&operand[at])).collect();
+    let yes = !yeses.is_empty();
+    if listing == (Listing::Refused { number: 9, place: filter.place as u32 }) {
+        meet(format!("only the listing refuses 9 at a filter {place}: {yes}"));
+    }
+    let Size { matches, strings } = Size::of(&operand);
+    if matches + 1 >= 256 {
+        meet(format!("as many matches below a filter as there may be: {yes}"));
+    }
+    if strings + 1 >= 512 {
+        meet(format!("as many strings below a filter as there may be: {yes}"));
+    }
+    if operand.len() > 1 {
+        let kind = filter.rule.codes()[0].kind;
+        meet(format!("kind {kind:2}: a yes by {}", which(&yeses, operand.len())));
+    }
+    if let Rule::Filter(Filter::Window(size)) = filter.rule {
+        operand.iter().for_each(|m| about_windows(m, size, meet));
+    }
+}
+
+/// Is there a filter at this place?
+fn is_a_filter(tree: &Tree, place: usize) -> bool {
+    let here = tree.place == place && matches!(tree.rule, Rule::Filter(_));
+    here || tree.below.iter().any(|side| is_a_filter(side, place))
+}
+
+/// The windows of one match that has includes and excludes.
+fn about_windows(m: &Match, size: u32, meet: &mut impl FnMut(String)) {
+    let Some(joined) = rules::join(&m.includes) else { return };
+    let windows: Vec<i64> = rules::windows(&joined, size).map(|(first, _)| first).collect();
+    if windows.len() < 2 || m.excludes.is_empty() {
+        return;
+    }
+    let free: Vec<usize> = sizes::free_windows(m, size)
+        .into_iter()
+        .flat_map(|(first, last)| first - windows[0]..=last - windows[0])
+        .map(|place| place as usize)
+        .collect();
+    let yes = !free.is_empty();
+    meet(format!("free windows: {}", which(&free, windows.len())));
+    if m.excludes.len() > 500 {
+        meet(format!("a window over 500 excludes: {yes}"));
+    }
+    if size == 4_096 && m.excludes.len() > 100 {
+        meet(format!("window 4096, over 100 excludes: {yes}"));
+    }
+    let order = match &m.excludes[..] {
+        excludes if excludes.len() < 3 => "few",
+        excludes if excludes.is_sorted_by_key(|e| e.start) => "rising",
+        excludes if excludes.iter().rev().is_sorted_by_key(|e| e.start) => "falling",
+        _ => "mixed",
+    };
+    meet(format!("excludes {order}: {yes}"));
+    let wide = m.excludes.iter().filter(|e| e.end - e.start >= 9).count();
+    let sort = match wide {
+        0 => "of one word",
+        _ if wide == m.excludes.len() => "wide",
+        _ => "of both sorts",
+    };
+    meet(format!("excludes {sort}: {yes}"));
 }
 
 fn bucket(number: u32, limit: u32) -> String {

@@ -9,7 +9,7 @@ mod words;
 
 use proved::exported;
 use second_engine::typed::{FILTERS, MOST_BYTES, OCCURS, SELECTION};
-use second_engine::{cases, occurs_cases, BUFFER, WORK};
+use second_engine::{cases, filter_cases, occurs_cases, BUFFER, WORK};
 use std::arch::asm;
 use words::examples::examples;
 use words::header::stated;
@@ -116,6 +116,12 @@ fn leaves() -> Vec<Selection> {
     leaves
 }
 
+/// Windows whose lists are over the limits, which the walk leaves early or late.
+fn windows_over_the_limits() -> Vec<Selection> {
+    let operands = [word(10), word(10).and(word(20).not()), word(10).and(word(10).not())];
+    operands.iter().flat_map(|operand| [257, 4_096].map(|size| operand.clone().window(size))).collect()
+}
+
 /// Occurs whose lists are at the limits, or just over them, with the finds that they are over.
 fn occurs_of_many() -> Vec<(Selection, usize)> {
     let mut list = vec![];
@@ -145,7 +151,7 @@ fn each_call_stays_within_the_stack_that_the_header_states() {
     for example in examples() {
         most.of(&mut stack, &example.section, &example.selection);
     }
-    for leaf in leaves() {
+    for leaf in leaves().into_iter().chain(windows_over_the_limits()) {
         for selection in [
             deepest(&leaf, |part| part.not()),
             deepest(&leaf, |part| part.or(word(10))),
@@ -163,7 +169,7 @@ fn each_call_stays_within_the_stack_that_the_header_states() {
         }
     }
     let count = if cfg!(debug_assertions) { 1_000 } else { 20_000 };
-    for case in cases(1, count).chain(occurs_cases(1, count)) {
+    for case in cases(1, count).chain(occurs_cases(1, count)).chain(filter_cases(1, count / 20)) {
         most.of(&mut stack, &case.section, &case.selection);
     }
     held(512, [("LISTING", most.listing), ("QUICK", most.quick), ("SNIPPET", most.snippet)]);

@@ -500,6 +500,11 @@ fn a_typed_search_finds() {
     assert_eq!(engine.typed_quick(&section, same, &mut [NOISE; WORK]), Quick::Answered { yes: true, codes: 5 });
     let twice = b"\"10\" occurs at least 2 times";
     assert_eq!(engine.typed_quick(&section, twice, &mut [NOISE; WORK]), Quick::Answered { yes: true, codes: 2 });
+    // the early way out of a filter: 2 × 257 windows aren't listed
+    let far = b"\"10\" window 257 words";
+    let refused = engine.typed_listing(&section, far, &mut [NOISE; WORK], &mut buffer);
+    assert_eq!(refused, Listing::Refused { number: 9, place: 3 });
+    assert_eq!(engine.typed_quick(&section, far, &mut [NOISE; WORK]), Quick::Answered { yes: true, codes: 2 });
     let once = b"\"10\" occurs exactly 1 times";
     assert_eq!(engine.typed_quick(&section, once, &mut [NOISE; WORK]), Quick::Answered { yes: false, codes: 2 });
 }

@@ -7,6 +7,7 @@ mod published;
 mod refusals;
 mod rules;
 mod spans;
+mod way_out;
 
 pub use crate::words::*;
 use second_engine::{compare, engine as second, text, unlimited, Case, Engine, Listing, Quick, BUFFER, WORK};

@@ -351,7 +351,8 @@ fn order() {
     assert_eq!(refused_with(&refused_9, &word(7).numbers(), WORK, BUFFER), Some((9, 2)));
 }
 
-/// The quick answer: "Limits on size hold only for lists built at or under kinds 5 to 15"; those of occurs are in occurs.rs.
+/// The quick answer: "Limits on size hold only for lists built at or under kinds 5 to 15"; those of occurs are in occurs.rs,
+/// and that of a filter itself, which request F-4 frees, is in way_out.rs.
 #[test]
 fn nine_in_the_quick_answer() {
     let many = plain(&[vec![1; 300], vec![2; 300]].concat());
