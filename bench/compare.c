@@ -1,6 +1,7 @@
 /* Times two archives of the library in one process, by turns. Reads the cases that `bench cases` prints; for each prints its name and the least time of
  * each call in nanoseconds: listing of the first archive and of the second, then the quick answer of both. A case that they answer differently, as one of
- * a kind that only one of them knows, is left out. bench/compare builds and runs it. */
+ * a kind that only one of them knows, is left out. With the argument `quick` it times the quick answer alone and leaves nothing out: in place of the
+ * listing's times are the refusals, 0 where it is answered. bench/compare builds and runs it. */
 #include <stddef.h>
 #include <stdint.h>
 #include <stdio.h>
@@ -8,7 +9,7 @@
 #include <string.h>
 #include <time.h>
 
-enum { WORK = 12800, BUFFER = 1282, NAME = 256, CALLS = 4, ROUNDS = 40, ROUND_NS = 100000 };
+enum { WORK = 12800, BUFFER = 1282, NAME = 256, LISTING = 0, QUICK = 2, CALLS = 4, ROUNDS = 40, ROUND_NS = 100000 };
 
 #define DECLARE(archive)                                                                                                       \
   uint32_t archive##_listing(const uint32_t *, size_t, const uint32_t *, size_t, uint32_t *, size_t, uint32_t *, size_t, uint32_t *); \
@@ -41,15 +42,17 @@ static void call(int which, Slice section, Slice selection) {
   }
 }
 
-/* Do both archives answer alike, in both calls? */
-static int agree(Slice section, Slice selection) {
-  uint32_t answers[CALLS][4];
+static void keep_answers(uint32_t answers[CALLS][4], Slice section, Slice selection) {
   for (int i = 0; i < CALLS; i++) {
     memset(answer, 0, sizeof answer);
     call(i, section, selection);
     memcpy(answers[i], answer, sizeof answer);
   }
-  return !memcmp(answers[0], answers[1], sizeof answer) && !memcmp(answers[2], answers[3], sizeof answer);
+}
+
+/* Do both archives answer this call alike? */
+static int agree(uint32_t answers[CALLS][4], int first) {
+  return !memcmp(answers[first], answers[first + 1], sizeof answers[first]);
 }
 
 /* Nanoseconds a call, over a round. */
@@ -74,19 +77,35 @@ static Slice read_slice(void) {
   return slice;
 }
 
-int main(void) {
+/* The least time of each call from this one on, over the rounds. */
+static void time_calls(double least[CALLS], int from, Slice section, Slice selection) {
+  for (int i = 0; i < CALLS; i++) least[i] = 1e18;
+  for (int round = 0; round < ROUNDS; round++)
+    for (int i = from; i < CALLS; i++) {
+      double time = time_round(i, section, selection);
+      if (time < least[i]) least[i] = time;
+    }
+}
+
+int main(int count, char **arguments) {
+  int quick_alone = count > 1 && !strcmp(arguments[1], "quick");
   char name[NAME];
   while (fgets(name, NAME, stdin)) {
     name[strcspn(name, "\n")] = 0;
     Slice section = read_slice(), selection = read_slice();
-    if (agree(section, selection)) {
-      double least[CALLS];
-      for (int i = 0; i < CALLS; i++) least[i] = 1e18;
-      for (int round = 0; round < ROUNDS; round++)
-        for (int i = 0; i < CALLS; i++) {
-          double time = time_round(i, section, selection);
-          if (time < least[i]) least[i] = time;
-        }
+    uint32_t answers[CALLS][4];
+    double least[CALLS];
+    keep_answers(answers, section, selection);
+    if (quick_alone) {
+      uint32_t first = answers[QUICK][0], second = answers[QUICK + 1][0];
+      if (!first && !second && !agree(answers, QUICK)) {
+        fprintf(stderr, "answered differently: %s\n", name);
+        return 1;
+      }
+      time_calls(least, QUICK, section, selection);
+      printf("%s|%u|%u|%.1f|%.1f\n", name, first, second, least[QUICK], least[QUICK + 1]);
+    } else if (agree(answers, LISTING) && agree(answers, QUICK)) {
+      time_calls(least, LISTING, section, selection);
       printf("%s|%.1f|%.1f|%.1f|%.1f\n", name, least[0], least[1], least[2], least[3]);
     }
     free(section.numbers);

@@ -11,7 +11,7 @@ pub struct Case {
     pub found: bool,
 }
 
-fn case(name: &str, section: &[u32], selection: &str) -> Case {
+pub fn case(name: &str, section: &[u32], selection: &str) -> Case {
     let selection = notation::selection(selection);
     Case { name: name.to_string(), section: section.to_vec(), selection, found: false }
 }

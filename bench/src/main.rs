@@ -1,8 +1,9 @@
 //! `bench` prints the table of times, `bench typed` that of the reader; `bench once` runs each case once and `bench longest` writes what `ftlist` reads, for
-//! `bench/count`; `bench cases` prints the cases for `bench/compare`; `bench search SECONDS SEED [KIND]...` looks for the accepted inputs that cost most, some
-//! kinds left out, and `bench slower` for those that cost most beside the second engine.
+//! `bench/count`; `bench cases` prints the cases for `bench/compare`, and `bench filters` those of its own table of filters; `bench search SECONDS SEED [KIND]...`
+//! looks for the accepted inputs that cost most, some kinds left out, and `bench slower` for those that cost most beside the second engine.
 
 mod cases;
+mod filters;
 mod least;
 mod notation;
 #[path = "../../tests/tests/proved/mod.rs"]
@@ -68,8 +69,8 @@ fn once() {
 }
 
 /// A case a paragraph: its name, the section, the selection; each slice with its length first.
-fn print_cases() {
-    for case in cases::all() {
+fn print_cases(cases: &[Case]) {
+    for case in cases {
         println!("{}", case.name);
         for slice in [&case.section, &case.selection] {
             let numbers: Vec<String> = slice.iter().map(u32::to_string).collect();
@@ -93,7 +94,8 @@ fn main() {
         [] => timing::table(),
         ["typed"] => typed::table(),
         ["once"] => once(),
-        ["cases"] => print_cases(),
+        ["cases"] => print_cases(&cases::all()),
+        ["filters"] => print_cases(&filters::all()),
         ["longest"] => write_longest(),
         [aim @ ("search" | "slower"), seconds, seed, ref without @ ..] => {
             let aim = if aim == "search" { Aim::Time } else { Aim::Ratio };
@@ -102,7 +104,7 @@ fn main() {
             search::search(aim, number(seconds), number(seed), &without);
         }
         _ => panic!(
-            "bench, bench typed, bench once, bench longest, bench cases, or bench search|slower SECONDS SEED [KIND LEFT OUT]..."
+            "bench, bench typed, bench once, bench longest, bench cases, bench filters, or bench search|slower SECONDS SEED [KIND LEFT OUT]..."
         ),
     }
 }
