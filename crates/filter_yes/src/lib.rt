@@ -31,8 +31,8 @@ ghost use Rattle.store.specs.ValidStr.{ValidStr};
 ghost use Rattle.window.specs.Inside.{WindowSize};
 ghost use Rattle.filter_yes.specs.Gives.{givesAny, matchAt};
 
-// Does a filter give anything of a match with these includes? Of nine filters this is `filter_rules::keeps`, said again: called from two places, that is inlined
-// at neither, and the lists of filters take a tenth longer (docs/PERFORMANCE.md, 'Filters').
+// Does a filter give anything of a match with these includes? For nine filters this is `filter_rules::keeps`, said again. Called from two places, that would
+// be inlined at neither, and the lists of filters would take a tenth longer (docs/PERFORMANCE.md, 'Filters in the quick answer').
 fn gives_any(section: &[u32], filter: Filter, includes: &[u32]) -> bool
     requires { ⌜ ((n : ℕ) → filter ≡ Window n → WindowSize n) ⌝ }
     requires { ⌜ AllStrs ValidStr (strsAt (now includes)) ⌝ }
@@ -40,7 +40,7 @@ fn gives_any(section: &[u32], filter: Filter, includes: &[u32]) -> bool
 {
     match filter {
         Filter::Ordered => all_agree(includes),
-        Filter::Window(n) => windows::fits(n, includes),
+        Filter::Window(n) => windows::has_window(n, includes),
         Filter::Distance { least, most } => sorted_within(includes, least, most),
         Filter::SameSentence => all_in_same(section, Unit::Sentence, includes),
         Filter::SameParagraph => all_in_same(section, Unit::Paragraph, includes),
@@ -72,15 +72,15 @@ fn any_stays(section: &[u32], keeper: Keeper, includes: &[u32], excludes: &[u32]
     false
 }
 
-// A filter gives something of the match with these includes and excludes: is there a match without excludes among it?
-fn leaves_none(section: &[u32], filter: Filter, includes: &[u32], excludes: &[u32]) -> bool
+// A filter gives something of the match with these includes and excludes: is there a match without excludes in that?
+fn leaves_no_exclude(section: &[u32], filter: Filter, includes: &[u32], excludes: &[u32]) -> bool
     requires { ⌜ ((n : ℕ) → filter ≡ Window n → WindowSize n) ⌝ }
     requires { ⌜ AllStrs ValidStr (strsAt (now includes)) ⌝ }
     requires { ⌜ givesAny (sectionOf (now section)) filter (strsAt (now includes)) ≡ true ⌝ }
     ensures { λ r. ⌜ r ≡ givesYes (sectionOf (now (section .entry))) filter (matchAt (now (includes .entry)) (now (excludes .entry))) ⌝ }
 {
     match rule_of(filter) {
-        Rule::Window(n) => windows::has_free(n, includes, excludes),
+        Rule::Window(n) => windows::has_free_window(n, includes, excludes),
         Rule::Keep(keeper) => !any_stays(section, keeper, includes, excludes),
     }
 }
@@ -97,7 +97,7 @@ fn gives_yes(section: &[u32], filter: Filter, includes: &[u32], excludes: &[u32]
     if excludes.len() < 2 {
         return true;
     }
-    leaves_none(section, filter, includes, excludes)
+    leaves_no_exclude(section, filter, includes, excludes)
 }
 
 // "take the operand's matches one by one and stop at the first that gives a match without excludes": of the list in the slot at src

@@ -1,5 +1,5 @@
-// The windows around a match: whether there is one, and one that no exclude is inside. A window is named by its last position, W + N − 1, as in the definition. An exclude is inside those
-// from its end up to its start + N − 1, so windows are gone through exclude by exclude, never W by W.
+// The windows around a match: whether there is one, and one that no exclude is inside. A window is named by its last position, W + N − 1, as in the
+// definition. An exclude is inside those from its end up to its start + N − 1, so windows are gone through exclude by exclude, never W by W.
 use join::extent_of;
 use model::Position;
 use strings::start_of;
@@ -20,7 +20,7 @@ ghost use Rattle.filter_yes.specs.Gives.{matchAt};
 ghost use Rattle.filter_yes.specs.Windows.{lastsAround, taken};
 
 // "each W from (greatest end − N + 1) up to least start": is there one? "A match without includes is dropped."
-pub fn fits(n: u32, includes: &[u32]) -> bool
+pub fn has_window(n: u32, includes: &[u32]) -> bool
     requires { ⌜ WindowSize n ⌝ }
     requires { ⌜ AllStrs ValidStr (strsAt (now includes)) ⌝ }
     ensures { λ r. ⌜ r ≡ not (isEmpty (windowEnds n (strsAt (now (includes .entry))))) ⌝ }
@@ -57,8 +57,8 @@ fn advance(n: u32, last: Position, excludes: &[u32]) -> Position
     at
 }
 
-// Is no exclude inside one of the windows around a join from `start` to `end`?
-fn any_free(n: u32, start: Position, end: Position, excludes: &[u32]) -> bool
+// Is there a window around a join from `start` to `end` that no exclude is inside?
+fn any_free_around(n: u32, start: Position, end: Position, excludes: &[u32]) -> bool
     requires { ⌜ WindowSize n ⌝ }
     requires { ⌜ start .0 < radix ⌝ }
     ensures { λ r. ⌜ r ≡ not (allOf (covered (taken n (strsAt (now (excludes .entry))))) (fromTo (end .0) (start .0 + n - 1))) ⌝ }
@@ -76,7 +76,7 @@ fn any_free(n: u32, start: Position, end: Position, excludes: &[u32]) -> bool
 }
 
 // "one match: the join, and the excludes inside": is there a window without one?
-pub fn has_free(n: u32, includes: &[u32], excludes: &[u32]) -> bool
+pub fn has_free_window(n: u32, includes: &[u32], excludes: &[u32]) -> bool
     requires { ⌜ WindowSize n ⌝ }
     requires { ⌜ AllStrs ValidStr (strsAt (now includes)) ⌝ }
     ensures { λ r. ⌜ r ≡ isYes (window n (matchAt (now (includes .entry)) (now (excludes .entry)))) ⌝ }
@@ -85,5 +85,5 @@ pub fn has_free(n: u32, includes: &[u32], excludes: &[u32]) -> bool
         return false;
     }
     let extent = extent_of(includes);
-    any_free(n, extent.start, extent.end, excludes)
+    any_free_around(n, extent.start, extent.end, excludes)
 }

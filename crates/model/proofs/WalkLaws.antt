@@ -1,5 +1,5 @@
 -- The walk against what it answers, builds and reaches. Its answer is decided by the first list too long among those that it builds; where none is,
--- it says what the complete list says, for or, and, not turn on their operands' answers alone, and a filter on what it gives of each match.
+-- it says what the complete list says, for or, and, not turn on their operands' answers alone.
 use Prim.Native.Nat.{ℕ, _+_, _≤_}
 use native.Mathlib.Omega.{arith}
 use mathlib.Core.Path.{_≡_, refl, ap, ap₂, sym, _∙_}
@@ -115,7 +115,7 @@ not-walked (some c) b n = refl
 
 -- The walk refuses at the first list too long among those that it builds; where none is, it answers what it says, and counts what it reaches.
 pub walk-is : (s : Section) (t : Tree) → walk s t ≡ unlessTooLong (firstTooLong s (walkBuilds s t)) (walkAnswer s t) (length (walkReaches s t))
-unfolding first firstTooLong parts walk build filterWalk walkAnswer walkBuilds walkReaches
+unfolding first firstTooLong parts allMatches walk build filterWalk walkAnswer walkBuilds walkReaches
 walk-is s (phrase c rank ws) = refl
 walk-is s (pair Or c t u) =
     rw (walk-is s t, walk-is s u, tooLong-sides s (walkBuilds s t) (walkAnswer s t) [] (walkBuilds s u), length-sides (walkReaches s t) (walkAnswer s t) [] (walkReaches s u) (pair Or c t u))
@@ -126,7 +126,7 @@ walk-is s (pair And c t u) =
 walk-is s (pair MildNot c t u) = refl
 walk-is s (change negated c t) =
     rw (walk-is s t, length-append (walkReaches s t) (change negated c t ∷ [])) (not-walked (firstTooLong s (walkBuilds s t)) (walkAnswer s t) (length (walkReaches s t)))
-walk-is s (change (filtered f) c t) = rw (length-append (parts t) (change (filtered f) c t ∷ []))
+walk-is s (change (filtered f) c t) = rw (yes-filter s f (allMatches s t), length-append (parts t) (change (filtered f) c t ∷ []))
 walk-is s (change (occurring k) c t) = refl
 
 -- ---- walkAnswer
@@ -138,7 +138,7 @@ walkAnswer-complete s (pair Or c t u) = ap₂ _||_ (walkAnswer-complete s t) (wa
 walkAnswer-complete s (pair And c t u) = ap₂ _&&_ (walkAnswer-complete s t) (walkAnswer-complete s u) ∙ sym (yes-and (allMatches s t) (allMatches s u))
 walkAnswer-complete s (pair MildNot c t u) = refl
 walkAnswer-complete s (change negated c t) = ap not (walkAnswer-complete s t) ∙ sym (yes-not (allMatches s t))
-walkAnswer-complete s (change (filtered f) c t) = sym (yes-filter s f (allMatches s t))
+walkAnswer-complete s (change (filtered f) c t) = refl
 walkAnswer-complete s (change (occurring k) c t) = refl
 
 -- ---- walkBuilds, walkReaches

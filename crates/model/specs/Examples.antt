@@ -1,5 +1,5 @@
 -- Document 01's starred examples, and the one under `ftlist`, "proved of the definitions jointly, as entries of one list checked by one fact", and worked
--- examples of document 02's F-3. Each is put to the calls' definitions as lent numbers, with everything that is said of it.
+-- examples of document 02's F-3 and F-4. Each is put to the calls' definitions as lent numbers, with everything that is said of it.
 use Prim.Native.Nat.{ℕ, _+_, _*_}
 use mathlib.Core.Path.{_≡_, refl}
 use mathlib.Core.Bool.{Bool, true, false, _&&_, Bool·beq, xor}
@@ -228,16 +228,20 @@ entries =
     ∷ record { section = six; selection = occurs 10 18 0; claims = refused 4 3 ∷ [] }
     ∷ record { section = six; selection = occurs 10 17 4096; claims = refused 5 3 ∷ [] }
     ∷ record { section = six; selection = occurs 10 16 (3 * radix + 2); claims = refused 5 3 ∷ [] }
-    -- F-4: 10 in a window of 257, which are 514 windows; under a not; after a no of an or
-    ∷ record { section = six; selection = select (0 ∷ 1 ∷ 7 ∷ []) (10 ∷ 1 ∷ 257 ∷ []); claims = quickOnly 3 true 2 ∷ [] }
-    ∷ record { section = six; selection = select (0 ∷ 1 ∷ 7 ∷ 4 ∷ []) (10 ∷ 1 ∷ 257 ∷ 0 ∷ []); claims = quickOnly 3 false 3 ∷ [] }
-    ∷ record { section = six; selection = select (0 ∷ 1 ∷ 0 ∷ 1 ∷ 7 ∷ 2 ∷ []) (99 ∷ 1 ∷ 10 ∷ 1 ∷ 257 ∷ 0 ∷ []); claims = quickOnly 5 true 4 ∷ [] }
-    -- 10 and not 20, and 10 and not 10, in it: some windows around a 10 have no 20, none has no 10
-    ∷ record { section = six; selection = select (0 ∷ 1 ∷ 0 ∷ 1 ∷ 4 ∷ 3 ∷ 7 ∷ []) (10 ∷ 1 ∷ 20 ∷ 1 ∷ 0 ∷ 0 ∷ 257 ∷ []); claims = quickOnly 7 true 5 ∷ [] }
-    ∷ record { section = six; selection = select (0 ∷ 1 ∷ 0 ∷ 1 ∷ 4 ∷ 3 ∷ 7 ∷ []) (10 ∷ 1 ∷ 10 ∷ 1 ∷ 0 ∷ 0 ∷ 257 ∷ []); claims = quickOnly 7 false 5 ∷ [] }
-    -- the lists under the filter still count; so does that of an occurs
-    ∷ record { section = six; selection = select (0 ∷ 1 ∷ 7 ∷ 6 ∷ []) (10 ∷ 1 ∷ 257 ∷ 0 ∷ []); claims = refused 9 3 ∷ [] }
+    -- F-4: 10, which stands twice, in a window of 128 and of 129; under a not; right of an or, after a no
+    ∷ record { section = six; selection = select (0 ∷ 1 ∷ 7 ∷ []) (10 ∷ 1 ∷ 128 ∷ []); claims = hasMatches 256 ∷ answers true ∷ [] }
+    ∷ record { section = six; selection = select (0 ∷ 1 ∷ 7 ∷ []) (10 ∷ 1 ∷ 129 ∷ []); claims = quickOnly 3 true 2 ∷ [] }
+    ∷ record { section = six; selection = select (0 ∷ 1 ∷ 7 ∷ 4 ∷ []) (10 ∷ 1 ∷ 129 ∷ 0 ∷ []); claims = quickOnly 3 false 3 ∷ [] }
+    ∷ record { section = six; selection = select (0 ∷ 1 ∷ 0 ∷ 1 ∷ 7 ∷ 2 ∷ []) (99 ∷ 1 ∷ 10 ∷ 1 ∷ 129 ∷ 0 ∷ []); claims = quickOnly 5 true 4 ∷ [] }
+    -- 10 and not 20, and 10 and not 10, in it: some window around a 10 has no 20 inside, every one has a 10
+    ∷ record { section = six; selection = select (0 ∷ 1 ∷ 0 ∷ 1 ∷ 4 ∷ 3 ∷ 7 ∷ []) (10 ∷ 1 ∷ 20 ∷ 1 ∷ 0 ∷ 0 ∷ 129 ∷ []); claims = quickOnly 7 true 5 ∷ [] }
+    ∷ record { section = six; selection = select (0 ∷ 1 ∷ 0 ∷ 1 ∷ 4 ∷ 3 ∷ 7 ∷ []) (10 ∷ 1 ∷ 10 ∷ 1 ∷ 0 ∷ 0 ∷ 129 ∷ []); claims = quickOnly 7 false 5 ∷ [] }
+    -- 10 and not 30 in the same sentence: the second 10 decides
+    ∷ record { section = six; selection = select (0 ∷ 1 ∷ 0 ∷ 1 ∷ 4 ∷ 3 ∷ 9 ∷ []) (10 ∷ 1 ∷ 30 ∷ 1 ∷ 0 ∷ 0 ∷ 0 ∷ []); claims = answers true ∷ [] }
+    -- what is built is measured: a filter or an occurs under a filter, a filter under a mild not
+    ∷ record { section = six; selection = select (0 ∷ 1 ∷ 7 ∷ 6 ∷ []) (10 ∷ 1 ∷ 129 ∷ 0 ∷ []); claims = refused 9 3 ∷ [] }
     ∷ record { section = sevens 8; selection = select (0 ∷ 1 ∷ 17 ∷ 6 ∷ []) (7 ∷ 1 ∷ 4 ∷ 0 ∷ []); claims = refused 9 3 ∷ [] }
+    ∷ record { section = six; selection = select (0 ∷ 1 ∷ 7 ∷ 0 ∷ 1 ∷ 5 ∷ []) (10 ∷ 1 ∷ 129 ∷ 20 ∷ 1 ∷ 0 ∷ []); claims = refused 9 3 ∷ [] }
     ∷ []
 
 pub examples-hold : allOf right entries ≡ true

@@ -28,7 +28,7 @@ unfoldable pub firstTooLong : Section → List Tree → Option ℕ
 firstTooLong s codes = Option·map placeOf (first (isTooLong s) codes)
 
 -- "At kinds 5 to 15 it builds that code's whole part by the rules above, left to right, and looks for a match without excludes." "a built part,
--- which is its code and every code below it, counts all its codes but those of kind 0."
+-- which is its code and every code below it, counts all its codes but those of kind 0." Since F-4 so of kind 5, and by F-3 of kinds 16 and 17.
 abbrev pub unlessTooLong : Option ℕ → Bool → ℕ → Quick
 unlessTooLong (some place) answer codes = Refused (refusal 9 place)
 unlessTooLong none answer codes = Answered answer codes
@@ -42,7 +42,7 @@ abbrev pub givesYes : Section → Filter → Match → Bool
 givesYes s f m = isYes (filterMatch s f m)
 
 -- "That filter's own list no longer counts for refusal 9; the lists under it still do." "the count of codes remains that of the walk": all codes of the
--- operand's part, and the filter.
+-- operand's part but those of kind 0, and the filter.
 unfoldable pub filterWalk : Section → Filter → Tree → Quick
 filterWalk s f t = unlessTooLong (firstTooLong s (parts t)) (anyOf (givesYes s f) (allMatches s t)) (length (parts t) + 1)
 
@@ -65,8 +65,9 @@ andWalk (Answered true n) (Answered answer k) = Answered answer (n + k + 1)
 andWalk (Answered true n) (Refused r) = Refused r
 andWalk (Refused r) right = Refused r
 
--- "a phrase is yes if its list isn't empty"; "Limits on size hold only for lists built at or under kinds 5 to 15." Kind 5 is built, F-4's filters are
--- walked so, and kinds 16 and 17 are built as document 01 builds filters (F-3: "The quick walk builds and counts them as it does filters").
+-- "a phrase is yes if its list isn't empty"; "Limits on size hold only for lists built at or under kinds 5 to 15." Of these kind 5 is built. Since F-4
+-- kinds 6 to 15 are `filterWalk`, and only the lists under them are limited. Kinds 16 and 17 are built, as filters were before (F-3: "The quick walk
+-- builds and counts them as it does filters").
 unfoldable pub walk : Section → Tree → Quick
 walk s (phrase c rank ws) = Answered (not (isEmpty (phraseList s rank ws))) 1
 walk s (change negated c t) = turned (walk s t)

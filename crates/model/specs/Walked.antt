@@ -5,12 +5,11 @@ use mathlib.Core.List.{List, [], _∷_, _++_}
 use Rattle.model.specs.declared.Pair.the-variants.{Or, And, MildNot}
 use Rattle.model.specs.Kinds.{negated, filtered, occurring}
 use Rattle.model.specs.AllMatches.{allMatches}
-use Rattle.model.specs.Lists.{anyOf, isEmpty}
+use Rattle.model.specs.Lists.{isEmpty}
 use Rattle.model.specs.Matches.{isYes}
 use Rattle.model.specs.Rules.{phraseList}
 use Rattle.model.specs.Section.{Section}
 use Rattle.model.specs.Trees.{Tree, phrase, pair, change, parts}
-use Rattle.model.specs.Walk.{givesYes}
 
 -- the answer that the walk comes to where no list that it builds is too long
 unfoldable pub walkAnswer : Section → Tree → Bool
@@ -19,7 +18,7 @@ walkAnswer s (change negated c t) = not (walkAnswer s t)
 walkAnswer s (pair Or c t u) = walkAnswer s t || walkAnswer s u
 walkAnswer s (pair And c t u) = walkAnswer s t && walkAnswer s u
 walkAnswer s (pair MildNot c t u) = isYes (allMatches s (pair MildNot c t u))
-walkAnswer s (change (filtered f) c t) = anyOf (givesYes s f) (allMatches s t)
+walkAnswer s (change (filtered f) c t) = isYes (allMatches s (change (filtered f) c t))
 walkAnswer s (change (occurring k) c t) = isYes (allMatches s (change (occurring k) c t))
 
 -- the codes that it builds, in order, were no list too long

@@ -1,7 +1,7 @@
 -- A filter that the walk reaches is decided by the lists under it (`walk-is`), and answers for its own complete list (`walkAnswer-complete`). Building it
 -- too could only refuse more: where that answers, so does the walk, side by side down to the filters.
 use Prim.Native.Nat.{ℕ}
-use mathlib.Core.Path.{_≡_, refl, sym, ap, _∙_}
+use mathlib.Core.Path.{_≡_, refl, sym, ap, ap₂, _∙_}
 use mathlib.Core.Bool.{Bool, true, false}
 use mathlib.Core.List.{List, [], _∷_, _++_, Sublistᴰ, Sublistᴰ·refl}
 use mathlib.Core.Logic.{_↔_, Iff·trans}
@@ -11,17 +11,20 @@ use Rattle.model.specs.declared.Filter.{Filter}
 use Rattle.model.specs.declared.Pair.the-variants.{Or, And, MildNot}
 use Rattle.model.specs.declared.Quick.{Quick}
 use Rattle.model.specs.declared.Quick.the-variants.{Answered, Refused}
-use Rattle.model.specs.AllMatches.{allMatches}
+use Rattle.model.specs.declared.Refusal.{Refusal}
+use Rattle.model.specs.AllMatches.{filterMatch, allMatches}
 use Rattle.model.specs.Kinds.{negated, filtered, occurring}
-use Rattle.model.specs.Matches.{isYes}
+use Rattle.model.specs.Lists.{anyOf}
+use Rattle.model.specs.Matches.{Match, isYes}
 use Rattle.model.specs.Section.{Section, sectionOf}
 use Rattle.model.specs.Trees.{Tree, phrase, pair, change, parts}
-use Rattle.model.specs.Walk.{firstTooLong, unlessTooLong, build, turned, orWalk, andWalk, walk}
+use Rattle.model.specs.Walk.{firstTooLong, unlessTooLong, build, givesYes, turned, orWalk, andWalk, walk}
 use Rattle.model.specs.Walked.{walkAnswer, walkBuilds, walkReaches}
 use Rattle.model.proofs.ListsLaws.{sublist-append}
 use Rattle.model.proofs.WalkLaws.{firstTooLong-sublist, unlessTooLong-refused, unlessTooLong-nine, unlessTooLong-answered, walk-is, walkAnswer-complete}
-use Rattle.theorems.specs.Demands.{walkOf01, FilterReachedOf, EarlyWayOut}
-use Rattle.theorems.proofs.WordsLaws.{yes-exists, tooLong-exactly}
+use Rattle.model.proofs.YesLaws.{yes-filter}
+use Rattle.theorems.specs.Demands.{Has, FirstWith, WithoutExcludes, walkWith, walkBefore, FilterReachedOf, EarlyWayOut}
+use Rattle.theorems.proofs.WordsLaws.{any-first-exactly, yes-exists, tooLong-exactly}
 
 module _ (s : Section) (f : Filter) (c : ℕ) (operand : Tree) where
   abbrev whole : Tree
@@ -34,16 +37,28 @@ module _ (s : Section) (f : Filter) (c : ℕ) (operand : Tree) where
   unfolding walkBuilds walkReaches
   is = walk-is s whole ∙ ap (λ (b : Bool). unlessTooLong long b (length (parts whole))) (walkAnswer-complete s whole)
 
+  yes-under : isYes (allMatches s whole) ≡ anyOf (givesYes s f) (allMatches s operand)
+  unfolding allMatches
+  yes-under = yes-filter s f (allMatches s operand)
+
+-- the first match that gives one without excludes
+first-gives : (s : Section) (f : Filter) (ms : List Match)
+    → (anyOf (givesYes s f) ms ≡ true) ↔ ((m : Match) × FirstWith (λ l. Has WithoutExcludes (filterMatch s f l)) ms m)
+first-gives s f ms = any-first-exactly (givesYes s f) (λ l. Has WithoutExcludes (filterMatch s f l)) (λ m. yes-exists (filterMatch s f m)) ms
+
 reached : (section : List ℕ) (f : Filter) (c : ℕ) (operand : Tree) → FilterReachedOf section f c operand
 reached section f c operand =
     let s = sectionOf section in
     let o = long s f c operand in
     let ms = allMatches s (whole s f c operand) in
     let k = length (parts (whole s f c operand)) in
+    let answered : (y : Bool) (n : ℕ) → walk s (whole s f c operand) ≡ Answered y n → (y ≡ isYes ms) × (n ≡ k) = λ y n e. unlessTooLong-answered o (isYes ms) y k n (sym (is s f c operand) ∙ e) in
     record {
+      decided-by-first = λ y n e. rw (answered y n e .0 ∙ yes-under s f c operand) (first-gives s f (allMatches s operand));
       size-exactly = λ place. rw (is s f c operand) (Iff·trans (unlessTooLong-refused o (isYes ms) k place) (tooLong-exactly section (parts operand) place));
       size-only = λ r e. unlessTooLong-nine o (isYes ms) k r (sym (is s f c operand) ∙ e);
-      held = λ y codes e. let a = unlessTooLong-answered o (isYes ms) y k codes (sym (is s f c operand) ∙ e) in (rw (a .0) (yes-exists ms), a .1);
+      held-to-complete = λ y n e. rw (answered y n e .0) (yes-exists ms);
+      counts-part = λ y n e. answered y n e .1;
     }
 
 -- ---- as before
@@ -80,15 +95,35 @@ filter-before s f c t y n e =
     is s f c t
     ∙ before-built (firstTooLong s (parts (change (filtered f) c t))) (firstTooLong s (parts t)) (isYes (allMatches s (change (filtered f) c t))) (length (parts (change (filtered f) c t))) (firstTooLong-sublist s under) y n e
 
-as-before : (s : Section) (t : Tree) → AsBefore (walkOf01 s t) (walk s t)
-unfolding walkOf01 walk
+as-before : (s : Section) (t : Tree) → AsBefore (walkBefore s t) (walk s t)
+unfolding walkWith walk
 as-before s (phrase c rank ws) y n e = e
-as-before s (change negated c t) y n e = before-turned (walkOf01 s t) (walk s t) (as-before s t) y n e
-as-before s (pair Or c t u) y n e = before-or (walkOf01 s t) (walk s t) (walkOf01 s u) (walk s u) (as-before s t) (as-before s u) y n e
-as-before s (pair And c t u) y n e = before-and (walkOf01 s t) (walk s t) (walkOf01 s u) (walk s u) (as-before s t) (as-before s u) y n e
+as-before s (change negated c t) y n e = before-turned (walkBefore s t) (walk s t) (as-before s t) y n e
+as-before s (pair Or c t u) y n e = before-or (walkBefore s t) (walk s t) (walkBefore s u) (walk s u) (as-before s t) (as-before s u) y n e
+as-before s (pair And c t u) y n e = before-and (walkBefore s t) (walk s t) (walkBefore s u) (walk s u) (as-before s t) (as-before s u) y n e
 as-before s (pair MildNot c t u) y n e = e
 as-before s (change (filtered f) c t) y n e = filter-before s f c t y n e
 as-before s (change (occurring k) c t) y n e = e
 
+-- where q refuses, so does p
+refused-before : (p q : Quick) → AsBefore p q → (r : Refusal) → q ≡ Refused r → (o : Refusal) × (p ≡ Refused o)
+refused-before (Answered y n) q h r e = (r, sym (h y n refl) ∙ e)
+refused-before (Refused o) q h r e = (o, refl)
+
+elsewhere : (s : Section) (t : Tree) → walk s t ≡ walkWith (λ f c u. walk s (change (filtered f) c u)) s t
+unfolding walkWith walk
+elsewhere s (phrase c rank ws) = refl
+elsewhere s (change negated c t) = ap turned (elsewhere s t)
+elsewhere s (pair Or c t u) = ap₂ orWalk (elsewhere s t) (elsewhere s u)
+elsewhere s (pair And c t u) = ap₂ andWalk (elsewhere s t) (elsewhere s u)
+elsewhere s (pair MildNot c t u) = refl
+elsewhere s (change (filtered f) c t) = refl
+elsewhere s (change (occurring k) c t) = refl
+
 pub early-way-out : EarlyWayOut
-early-way-out = record { filters = reached; as-before = as-before }
+early-way-out = record {
+  filters = reached;
+  elsewhere = elsewhere;
+  answers-as-before = as-before;
+  refused-before = λ s t. refused-before (walkBefore s t) (walk s t) (as-before s t);
+}

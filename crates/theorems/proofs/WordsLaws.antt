@@ -74,6 +74,10 @@ module _ {A : Type 0} (p : A → Bool) (P : A → Type 0) (test : (x : A) → (p
   pub has-first : (xs : List A) → Has P xs → (x : A) × (first p xs ≡ some x)
   has-first xs h = any-first xs (has-any xs h)
 
+  -- so it is told by the first that has it
+  pub any-first-exactly : (xs : List A) → (anyOf p xs ≡ true) ↔ ((x : A) × FirstWith P xs x)
+  any-first-exactly xs = (λ e. let f = any-first xs e in (f .0, first-exactly xs (f .0) .0 (f .1)), λ w. any-exactly xs .1 (first-has P xs (w .0) (w .1)))
+
 -- ---- WithoutExcludes
 
 without-excludes : (m : Match) → (noExclude m ≡ true) ↔ WithoutExcludes m

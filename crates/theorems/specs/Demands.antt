@@ -7,7 +7,7 @@
 -- Quotation marks enclose the demands' own words, or document 01's or 02's where it is named. `A ↔ B` is 'A exactly when B', `(x : A) × B` 'there is an x
 -- with B', `⊎` 'or', `¬` 'not'.
 use Prim.Native.Nat.{ℕ, suc, _/_, _%_, _^_, _≤_, _<_}
-use mathlib.Core.Bool.{Bool, true, false, _&&_, cond}
+use mathlib.Core.Bool.{Bool, true, false, not, _&&_, cond}
 use mathlib.Core.List.{List, [], _∷_, _++_, map, Sublistᴰ}
 use mathlib.Core.Logic.{_↔_, _⊎_}
 use mathlib.Core.Option.{Option, some, none}
@@ -26,13 +26,13 @@ use Rattle.model.specs.declared.Refusal.{Refusal}
 use Rattle.model.specs.declared.Times.{Times}
 use Rattle.model.specs.declared.Times.the-variants.{FromTo, AtLeast}
 use Rattle.model.specs.Accepted.{ReportedOrNot}
-use Rattle.model.specs.AllMatches.{allMatches}
+use Rattle.model.specs.AllMatches.{filterMatch, allMatches}
 use Rattle.model.specs.AllStrings.{AllList}
 use Rattle.model.specs.Answers.{completeList, listingAnswer, spanOf, listingNumbers, listingBuffer, quickAnswer, snippetOf}
 use Rattle.model.specs.Checks.{refusal, wrongSection, faultyPosition, wrongSelection, unknownKind, wrongOperand, wrongShape, notOverPhrase, notUnderMildNot}
 use Rattle.model.specs.Kinds.{negated, filtered, occurring}
 use Rattle.model.specs.Limits.{maxCodes, maxMatches, maxStrings, maxText, workLength, bufferLength, radix, selectionLength}
-use Rattle.model.specs.Lists.{Every}
+use Rattle.model.specs.Lists.{Every, isEmpty}
 use Rattle.model.specs.Matches.{Str, Match, strings}
 use Rattle.model.specs.Productions.{FTSelection}
 use Rattle.model.specs.Rules.{phraseList, joinedAll}
@@ -366,28 +366,41 @@ OccursChosen = (s : Section) (rank : ℕ) (words : List ℕ) → OccursOf s rank
 
 -- ---- document 02's F-4, early way out of a filter
 
--- the walk as document 01 has it: at a filter it builds that too
-unfoldable pub walkOf01 : Section → Tree → Quick
-walkOf01 s (phrase c rank ws) = walk s (phrase c rank ws)
-walkOf01 s (change negated c t) = turned (walkOf01 s t)
-walkOf01 s (pair Or c t u) = let right = walkOf01 s u in orWalk (walkOf01 s t) right
-walkOf01 s (pair And c t u) = let right = walkOf01 s u in andWalk (walkOf01 s t) right
-walkOf01 s (pair MildNot c t u) = build s (pair MildNot c t u)
-walkOf01 s (change (filtered f) c t) = build s (change (filtered f) c t)
-walkOf01 s (change (occurring k) c t) = build s (change (occurring k) c t)
+-- document 01's walk, with its answer where it reaches a filter left open: of the filter, its place and its operand
+unfoldable pub walkWith : (Filter → ℕ → Tree → Quick) → Section → Tree → Quick
+walkWith at-filter s (phrase c rank ws) = Answered (not (isEmpty (phraseList s rank ws))) 1
+walkWith at-filter s (change negated c t) = turned (walkWith at-filter s t)
+walkWith at-filter s (pair Or c t u) = let right = walkWith at-filter s u in orWalk (walkWith at-filter s t) right
+walkWith at-filter s (pair And c t u) = let right = walkWith at-filter s u in andWalk (walkWith at-filter s t) right
+walkWith at-filter s (pair MildNot c t u) = build s (pair MildNot c t u)
+walkWith at-filter s (change (filtered f) c t) = at-filter f c t
+walkWith at-filter s (change (occurring k) c t) = build s (change (occurring k) c t)
+
+-- the walk before F-4: at a filter it builds the whole part, the filter's own list too
+abbrev pub walkBefore : Section → Tree → Quick
+walkBefore s t = walkWith (λ f c operand. build s (change (filtered f) c operand)) s t
 
 -- for a section, and a filter at a place over an operand: the walk that reaches it
 pub record FilterReachedOf (section : List ℕ) (f : Filter) (c : ℕ) (operand : Tree) : Type 0 where
+  -- "it should take the operand's matches one by one and stop at the first that gives a match without excludes." That it reads no match after that one
+  -- can't be seen in an answer.
+  pub decided-by-first : (y : Bool) (codes : ℕ) → walk (sectionOf section) (change (filtered f) c operand) ≡ Answered y codes
+      → (y ≡ true)
+      ↔ ((m : Match) × FirstWith (λ l. Has WithoutExcludes (filterMatch (sectionOf section) f l)) (allMatches (sectionOf section) operand) m)
   -- "That filter's own list no longer counts for refusal 9; the lists under it still do."
   pub size-exactly : (place : ℕ) → RefusesForSize (walk (sectionOf section) (change (filtered f) c operand)) place
       ↔ ((code : Tree) × FirstWith (PastLimits section) (parts operand) code × (placeOf code ≡ place))
   pub size-only : (r : Refusal) → QuickRefuses (walk (sectionOf section) (change (filtered f) c operand)) r → r .number ≡ 9
   -- "The yes or no is held, as before, to the complete unlimited list, and the count of codes remains that of the walk."
-  pub held : (y : Bool) (codes : ℕ) → walk (sectionOf section) (change (filtered f) c operand) ≡ Answered y codes
-      → ((y ≡ true) ↔ Has WithoutExcludes (allMatches (sectionOf section) (change (filtered f) c operand)))
-      × (codes ≡ length (parts (change (filtered f) c operand)))
+  pub held-to-complete : (y : Bool) (codes : ℕ) → walk (sectionOf section) (change (filtered f) c operand) ≡ Answered y codes
+      → (y ≡ true) ↔ Has WithoutExcludes (allMatches (sectionOf section) (change (filtered f) c operand))
+  pub counts-part : (y : Bool) (codes : ℕ) → walk (sectionOf section) (change (filtered f) c operand) ≡ Answered y codes
+      → codes ≡ length (parts (change (filtered f) c operand))
 
 pub record EarlyWayOut : Type 0 where
   pub filters : (section : List ℕ) (f : Filter) (c : ℕ) (operand : Tree) → FilterReachedOf section f c operand
-  -- Wherever filters stand: what document 01's walk answers is answered so still, count and all; so no refusal is new.
-  pub as-before : (s : Section) (t : Tree) (y : Bool) (codes : ℕ) → walkOf01 s t ≡ Answered y codes → walk s t ≡ Answered y codes
+  -- Everywhere else the walk is document 01's.
+  pub elsewhere : (s : Section) (t : Tree) → walk s t ≡ walkWith (λ f c operand. walk s (change (filtered f) c operand)) s t
+  -- What was answered before is answered so still, count and all; and it refuses only where the walk before refused, though perhaps at a later code.
+  pub answers-as-before : (s : Section) (t : Tree) (y : Bool) (codes : ℕ) → walkBefore s t ≡ Answered y codes → walk s t ≡ Answered y codes
+  pub refused-before : (s : Section) (t : Tree) (r : Refusal) → QuickRefuses (walk s t) r → (q : Refusal) × QuickRefuses (walkBefore s t) q

@@ -74,14 +74,14 @@ fn answer_filter(
     requires { ⌜ codeAt (now selection) hi ≡ Filtered filter ⌝ }
     ensures { λ r. ⌜ ((w : Walkable (now (section .entry)) (now (selection .entry)) (now (work .entry)) hi) → answerOf r ≡ walkOf (sectionOf (now (section .entry))) (w .part .tree)) ⌝ }
 {
-    let last = hi - 1;
-    let lo = selection::parts::part_start(selection, last);
-    let part = build_part(section, selection, work, lo, last);
+    let operand = hi - 1;
+    let lo = selection::parts::part_start(selection, operand);
+    let part = build_part(section, selection, work, lo, operand);
     if let Part::Refused(refusal) = part {
         return answers::too_long(refusal.place);
     }
-    let yes = filter_yes::is_yes(section, filter, work, 0);
     let codes = count_codes(selection, lo, hi);
+    let yes = filter_yes::is_yes(section, filter, work, 0);
     answers::answered(yes, codes)
 }
 

@@ -14,8 +14,8 @@ all-agree-requires c κs = search needs
 enum-known-filter : tie.Need-enum-known-filter
 enum-known-filter c = search needs
 
-fits-requires : tie.Need-fits-requires
-fits-requires c κs = (c .before .before .before .before .before .pre .0 (c .before .filter .given .0 .0) (c .before .filter .given .1), c .before .before .before .before .before .pre .1)
+has-window-requires : tie.Need-has-window-requires
+has-window-requires c κs = (c .before .before .before .before .before .pre .0 (c .before .filter .given .0 .0) (c .before .filter .given .1), c .before .before .before .before .before .pre .1)
 
 enum-known-filter-2 : tie.Need-enum-known-filter-2
 enum-known-filter-2 c = search needs
@@ -75,7 +75,7 @@ returns : tie.Need-returns
 returns c = rw (c .before .enum-told .given .1) (c .all-agree .ensures ∙ kept-given _ _)
 
 returns-2 : tie.Need-returns-2
-returns-2 c = rw (c .before .before .filter .given .1) (c .fits2 .ensures ∙ windows-given _ _)
+returns-2 c = rw (c .before .before .filter .given .1) (c .has-window .ensures ∙ windows-given _ _)
 
 returns-3 : tie.Need-returns-3
 returns-3 c = rw (c .before .before .filter2 .given .1) (c .sorted-within .ensures ∙ kept-given _ _)
@@ -108,7 +108,7 @@ gives-any-spec =
     enum-told
     all-agree-requires
     enum-known-filter
-    fits-requires
+    has-window-requires
     enum-known-filter-2
     sorted-within-requires
     enum-told-2

@@ -21,12 +21,12 @@ returns-2 c =
     let a = c .before .before .before .before .before .before .args in
     given-clean (sectionOf (a .section .now)) (a .filter) (a .includes .now) (a .excludes .now) (sym (c .before .before .gives-any .ensures) ∙ not-false _ (c .before .if1 .left)) (c .if2 .taken)
 
-leaves-none-requires : tie.Need-leaves-none-requires
-leaves-none-requires c κs = (c .before .before .before .before .before .before .pre .0, (c .before .before .before .before .before .before .pre .1, sym (c .before .before .gives-any .ensures) ∙ not-false _ (c .before .if1 .left)))
+leaves-no-exclude-requires : tie.Need-leaves-no-exclude-requires
+leaves-no-exclude-requires c κs = (c .before .before .before .before .before .before .pre .0, (c .before .before .before .before .before .before .pre .1, sym (c .before .before .gives-any .ensures) ∙ not-false _ (c .before .if1 .left)))
 
 returns-3 : tie.Need-returns-3
-returns-3 c = c .leaves-none .ensures
+returns-3 c = c .leaves-no-exclude .ensures
 
 pub gives-yes-spec : {M : Type 1} → statement M
 gives-yes-spec =
-    tie.close (tie.spec gives-any-requires returns returns-2 leaves-none-requires returns-3)
+    tie.close (tie.spec gives-any-requires returns returns-2 leaves-no-exclude-requires returns-3)

@@ -8,8 +8,8 @@ use borrow.Author.Needs.{needs}
 use Rattle.walk.proofs.answer_filter.Statement.{statement}
 use Rattle.walk.proofs.answer_filter.Tie as tie
 
-sub-last : tie.Need-sub-last
-sub-last c = omega (arith, some-codes (c .before .before .before .pre .0))
+sub-operand : tie.Need-sub-operand
+sub-operand c = omega (arith, some-codes (c .before .before .before .pre .0))
 
 part-start-requires : tie.Need-part-start-requires
 part-start-requires c κs = search needs
@@ -34,14 +34,14 @@ returns c w =
 enum-told : tie.Need-enum-told
 enum-told c = search needs
 
+count-codes-requires : tie.Need-count-codes-requires
+count-codes-requires c κs = omega (arith, c .before .before .before .before .before .before .part-start .ensures, starts-before (operand-walkable (c .before .before .before .before .before .before .before .before .before .before .pre .0) (c .before .before .before .before .before .before .before .before .before .before .pre .1)))
+
 is-yes-requires : tie.Need-is-yes-requires
 is-yes-requires c κs =
-    let w = c .before .before .before .before .before .before .before .before .before .before .before .pre .0 in
-    let e = c .before .before .before .before .before .before .before .before .before .before .before .pre .1 in
-    (filter-window w e, record { list = _; slot = c .before .before .before .before .before .build-part .ensures (operand-walkable w e) .slot (c .before .enum-told .given .1) })
-
-count-codes-requires : tie.Need-count-codes-requires
-count-codes-requires c κs = omega (arith, c .before .before .before .before .before .before .before .before .part-start .ensures, starts-before (operand-walkable (c .before .before .before .before .before .before .before .before .before .before .before .before .pre .0) (c .before .before .before .before .before .before .before .before .before .before .before .before .pre .1)))
+    let w = c .before .before .before .before .before .before .before .before .before .before .before .before .pre .0 in
+    let e = c .before .before .before .before .before .before .before .before .before .before .before .before .pre .1 in
+    (filter-window w e, record { list = _; slot = c .before .before .before .before .before .before .build-part .ensures (operand-walkable w e) .slot (c .before .before .enum-told .given .1) })
 
 answered-requires : tie.Need-answered-requires
 answered-requires c κs = search needs
@@ -59,14 +59,14 @@ returns-2 c w =
     (c .before .before .before .before .before .before .before .before .build-part .ensures (operand-walkable w e))
     (c .before .before .before .before .enum-told .given .1)
     (c .before .before .before .before .before .before .before .before .before .before .part-start .ensures)
-    (c .before .before .is-yes .ensures)
-    (c .before .count-codes .ensures)
+    (c .before .is-yes .ensures)
+    (c .before .before .before .count-codes .ensures)
 
 pub answer-filter-spec : {M : Type 1} → statement M
 answer-filter-spec =
     tie.close
     (tie.spec
-    sub-last
+    sub-operand
     part-start-requires
     build-part-requires
     enum-known-part
@@ -74,8 +74,8 @@ answer-filter-spec =
     same-length
     returns
     enum-told
-    is-yes-requires
     count-codes-requires
+    is-yes-requires
     answered-requires
     same-length-2
     returns-2)

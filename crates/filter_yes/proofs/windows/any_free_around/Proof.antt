@@ -12,8 +12,8 @@ use Rattle.model.specs.Rules.{covered}
 use Rattle.strings.specs.Strings.{strsAt}
 use Rattle.strings.proofs.CoveringLaws.{all-range-empty, all-range-false, advanced-up, advanced-stuck, covered-advanced}
 use Rattle.filter_yes.specs.Windows.{taken}
-use Rattle.filter_yes.proofs.windows.any_free.Statement.{statement}
-use Rattle.filter_yes.proofs.windows.any_free.Tie as tie
+use Rattle.filter_yes.proofs.windows.any_free_around.Statement.{statement}
+use Rattle.filter_yes.proofs.windows.any_free_around.Tie as tie
 
 abbrev Inv-loop : tie.InvT-loop
 Inv-loop n excludes before last₀ last =
@@ -56,8 +56,8 @@ returns-2 c =
     let ss : List Str = taken (a .n) (strsAt (a .excludes .now)) in
     sym (ap not (c .before .before .loop .inv ∙ all-range-empty (covered ss) _ _ (omega (arith, c .if1 .left, c .before .before .before .before .before .pre .0 .from-one))))
 
-pub any-free-spec : {M : Type 1} → statement M
-any-free-spec =
+pub any-free-around-spec : {M : Type 1} → statement M
+any-free-around-spec =
     tie.close
     (tie.spec
     Inv-loop

@@ -3,8 +3,8 @@ use native.Mathlib.Omega.{arith}
 use mathlib.Core.Path.{_∙_}
 use borrow.Author.Needs.{needs}
 use Rattle.filter_yes.proofs.WindowsLaws.{fits-none, fits-some, start-low}
-use Rattle.filter_yes.proofs.windows.fits.Statement.{statement}
-use Rattle.filter_yes.proofs.windows.fits.Tie as tie
+use Rattle.filter_yes.proofs.windows.has_window.Statement.{statement}
+use Rattle.filter_yes.proofs.windows.has_window.Tie as tie
 
 returns : tie.Need-returns
 returns c = fits-none (c .before .before .args .n) (c .before .before .args .includes .now) (c .if1 .taken)
@@ -22,5 +22,5 @@ returns-2 c =
     let x = c .before .before .extent-of .ensures in
     fits-some (c .before .before .before .before .before .pre .0) (c .before .before .before .before .before .args .includes .now) (c .before .before .before .if1 .left) (x .0) (x .1)
 
-pub fits-spec : {M : Type 1} → statement M
-fits-spec = tie.close (tie.spec returns extent-of-requires add-result returns-2)
+pub has-window-spec : {M : Type 1} → statement M
+has-window-spec = tie.close (tie.spec returns extent-of-requires add-result returns-2)
