@@ -32,6 +32,19 @@ use Rattle.filter_yes.specs.Gives.{givesAny, matchAt}
 abbrev matchOf : List Str → List Str → Match
 matchOf is es = record { includes = is; excludes = es }
 
+-- what holds of every filter that keeps a match or drops it, and of every window, holds of each filter
+each-filter : (P : (Match → List Match) → Type 0) → ((k : Keeping) → P (kept k)) → ((n : ℕ) → P (window n)) → (s : Section) (f : Filter) → P (filterMatch s f)
+each-filter P keeping windows s Ordered = keeping ordered
+each-filter P keeping windows s (Window n) = windows n
+each-filter P keeping windows s (Distance a b) = keeping (distance a b)
+each-filter P keeping windows s SameSentence = keeping (same (s .sentence))
+each-filter P keeping windows s SameParagraph = keeping (same (s .paragraph))
+each-filter P keeping windows s DifferentSentence = keeping (different (s .sentence))
+each-filter P keeping windows s DifferentParagraph = keeping (different (s .paragraph))
+each-filter P keeping windows s AtStart = keeping (atStart s)
+each-filter P keeping windows s AtEnd = keeping (atEnd s)
+each-filter P keeping windows s EntireContent = keeping (entireContent s)
+
 -- ---- givesAny
 
 kept-any : (k : Keeping) (m : Match) → isEmpty (kept k m) ≡ not (k .keeps (m .includes))
@@ -66,16 +79,7 @@ unfolding window
 any-windows n m = empty-map _ (windowEnds n (m .includes)) ∙ sym (twice (isEmpty (windowEnds n (m .includes)))) ∙ ap not (windows-given n (m .includes))
 
 any-given : (s : Section) (f : Filter) (m : Match) → isEmpty (filterMatch s f m) ≡ not (givesAny s f (m .includes))
-any-given s Ordered m = any-kept ordered m
-any-given s (Window n) m = any-windows n m
-any-given s (Distance a b) m = any-kept (distance a b) m
-any-given s SameSentence m = any-kept (same (s .sentence)) m
-any-given s SameParagraph m = any-kept (same (s .paragraph)) m
-any-given s DifferentSentence m = any-kept (different (s .sentence)) m
-any-given s DifferentParagraph m = any-kept (different (s .paragraph)) m
-any-given s AtStart m = any-kept (atStart s) m
-any-given s AtEnd m = any-kept (atEnd s) m
-any-given s EntireContent m = any-kept (entireContent s) m
+any-given s f m = each-filter (λ F. isEmpty (F m) ≡ not (not (isEmpty (F (matchOf (m .includes) []))))) (λ k. any-kept k m) (λ n. any-windows n m) s f
 
 -- ---- givesYes
 
@@ -102,16 +106,7 @@ clean-windows : (n : ℕ) (is : List Str) → isYes (window n (matchOf is [])) �
 clean-windows n is = yes-window n (matchOf is []) ∙ ap not (none-inside n (windowEnds n is)) ∙ windows-given n is
 
 clean-given : (s : Section) (f : Filter) (is : List Str) → givesYes s f (matchOf is []) ≡ givesAny s f is
-clean-given s Ordered is = clean-kept ordered is
-clean-given s (Window n) is = clean-windows n is
-clean-given s (Distance a b) is = clean-kept (distance a b) is
-clean-given s SameSentence is = clean-kept (same (s .sentence)) is
-clean-given s SameParagraph is = clean-kept (same (s .paragraph)) is
-clean-given s DifferentSentence is = clean-kept (different (s .sentence)) is
-clean-given s DifferentParagraph is = clean-kept (different (s .paragraph)) is
-clean-given s AtStart is = clean-kept (atStart s) is
-clean-given s AtEnd is = clean-kept (atEnd s) is
-clean-given s EntireContent is = clean-kept (entireContent s) is
+clean-given s f is = each-filter (λ F. isYes (F (matchOf is [])) ≡ not (isEmpty (F (matchOf is [])))) (λ k. clean-kept k is) (λ n. clean-windows n is) s f
 
 pub given-clean : (s : Section) (f : Filter) (is es : List ℕ) → givesAny s f (strsAt is) ≡ true → length es < 2 → true ≡ givesYes s f (matchAt is es)
 given-clean s f is es e h =
