@@ -700,6 +700,21 @@ fn too_many_matches_under_a_filter() {
     assert_eq!(run(&["search", "--quiet", seven(), r#""w" ftand "w" same sentence"#]), Ran::new("", "", 0));
 }
 
+/// Where the list of the last filter alone is too long, yes or no is known; a yes can't be listed.
+#[test]
+fn too_many_matches_of_the_last_filter() {
+    // 7 × 40 windows; seven finds, and each time the same seven excluded, one of which is always inside
+    let (yes, no) = (r#""w" window 40 words"#, r#""w" ftand ftnot "w" window 40 words"#);
+    let wanted = format!(
+        "Section 1, line 1: Größe\n  Yes, but its matches can't be listed: too many matches: over 256, or over 512 finds in them \
+         (refusal 9)\n    {yes}\n        ^~~~~~~~~~~~~~~\n\n1 of 1 section says yes.\n"
+    );
+    assert_eq!(run(&["search", seven(), yes]), Ran::new(&wanted, "", 0));
+    assert_eq!(run(&["search", seven(), no]), Ran::new("0 of 1 section says yes.\n", "", 1));
+    let turned = r#"ftnot ("w" window 40 words)"#;
+    assert_eq!(run(&["search", seven(), turned]), Ran::new("0 of 1 section says yes.\n", "", 1));
+}
+
 /// It says among how many finds there are too many choices, so that one can see what the answer would be.
 #[test]
 fn too_many_choices_of_finds() {
@@ -721,7 +736,11 @@ fn too_many_choices_of_finds() {
         too_many_of("choices among 7 finds", place.parse().unwrap(), search, caret);
     }
     // a list over an occurs, and a phrase under one, are lists like others
-    too_many(4, r#""w" occurs at least 6 times window 40 words"#, "                            ^~~~~~~~~~~~~~~");
+    too_many(
+        4,
+        r#""w" occurs at least 6 times window 40 words ordered"#,
+        "                            ^~~~~~~~~~~~~~~",
+    );
     let many = file("w.md", vec!["w"; 257].join(" "));
     let ran = run(&["search", many, r#""w" occurs at least 300 times"#]);
     assert!(ran.out().contains(": too many matches: over 256, or over 512 finds in them (refusal 9)\n"), "{ran:?}");
