@@ -3,15 +3,15 @@
 use Prim.Native.Nat.{ℕ, _+_, _-_, _≤_, _<_}
 use native.Mathlib.Omega.{arith}
 use mathlib.Core.Path.{_≡_, refl, sym, ap, ap₂, _∙_}
-use mathlib.Core.Bool.{Bool, true, false, not, _&&_, _||_, cond, and-true, and-false}
+use mathlib.Core.Bool.{Bool, true, false, not, _&&_, _||_, and-true, and-false}
 use mathlib.Core.List.{List, [], _∷_}
 use borrow.Author.Tests.{le-leb, lt-leb, ltb-true, ltb-false}
 use lib.Dec.{leb, ltb}
 use lib.ListN.{length, drop, getD}
 use Rattle.model.specs.AllStrings.{AllStrs}
-use Rattle.model.specs.Limits.{maxTokens, radix}
+use Rattle.model.specs.Limits.{radix}
 use Rattle.model.specs.Lists.{allOf, anyOf, fromTo, isEmpty}
-use Rattle.model.specs.Matches.{Match, Str, isYes}
+use Rattle.model.specs.Matches.{Str, isYes}
 use Rattle.model.specs.Rules.{covered, covers, insideWindow, window, windowEnds}
 use Rattle.model.proofs.ListsLaws.{range-empty, range-cons}
 use Rattle.model.proofs.RulesLaws.{length-none, window-none}
@@ -28,7 +28,7 @@ use Rattle.filter_yes.specs.Windows.{lastsAround, taken}
 
 -- ---- lastsAround
 
-pub inside-around : {n : ℕ} → WindowSize n → (last : ℕ) (s : Str) → covers (lastsAround n s) last ≡ insideWindow n last s
+inside-around : {n : ℕ} → WindowSize n → (last : ℕ) (s : Str) → covers (lastsAround n s) last ≡ insideWindow n last s
 inside-around {n} size last s = at (ltb last (s .start + n)) refl
   where
     at : (b : Bool) → ltb last (s .start + n) ≡ b → (leb (s .end) last && leb last (s .start + n - 1)) ≡ (b && leb (s .end) last)

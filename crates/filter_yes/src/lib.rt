@@ -16,7 +16,7 @@ use strings::ordering::all_agree;
 use units::Unit;
 use units::different::all_differ;
 use units::same::all_in_same;
-ghost use mathlib.Core.Bool.{not, true};
+ghost use mathlib.Core.Bool.{true};
 ghost use mathlib.Core.Path.{_≡_};
 ghost use Prim.Native.Nat.{ℕ};
 ghost use Rattle.model.specs.declared.Filter.the-variants.{Window};

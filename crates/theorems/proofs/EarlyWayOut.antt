@@ -19,7 +19,7 @@ use Rattle.model.specs.Matches.{Match, isYes}
 use Rattle.model.specs.Section.{Section, sectionOf}
 use Rattle.model.specs.Trees.{Tree, phrase, pair, change, parts}
 use Rattle.model.specs.Walk.{firstTooLong, unlessTooLong, build, givesYes, turned, orWalk, andWalk, walk}
-use Rattle.model.specs.Walked.{walkAnswer, walkBuilds, walkReaches}
+use Rattle.model.specs.Walked.{walkBuilds, walkReaches}
 use Rattle.model.proofs.ListsLaws.{sublist-append}
 use Rattle.model.proofs.WalkLaws.{firstTooLong-sublist, unlessTooLong-refused, unlessTooLong-nine, unlessTooLong-answered, walk-is, walkAnswer-complete}
 use Rattle.model.proofs.YesLaws.{yes-filter}

@@ -1,5 +1,5 @@
 -- Invariant: none of the matches passed gives a match without excludes, so those from at on answer for all. Measure: the numbers left.
-use Prim.Native.Nat.{ℕ, _-_}
+use Prim.Native.Nat.{_-_}
 use native.Mathlib.Omega.{arith}
 use mathlib.Core.Path.{_≡_, refl, sym, ap, _∙_}
 use borrow.Author.Needs.{needs}

@@ -1,6 +1,6 @@
 -- A window by those that are free; any other filter by its test on excludes.
 use mathlib.Core.Bool.{not}
-use mathlib.Core.Path.{sym, ap, _∙_}
+use mathlib.Core.Path.{ap, _∙_}
 use borrow.Author.Needs.{needs}
 use Rattle.model.specs.Section.{sectionOf}
 use Rattle.filter_rules.specs.Keepers.{filterOf}

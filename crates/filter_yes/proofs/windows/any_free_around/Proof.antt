@@ -1,8 +1,8 @@
 -- Invariant: the windows from the one in hand on are all taken just where all are. Measure: the windows left, as a pass that goes on moves it up. A pass
 -- moves it over taken windows only, and leaves it where it is free (CoveringLaws of `strings`).
-use Prim.Native.Nat.{ℕ, _+_, _-_, _≤_, _<_}
+use Prim.Native.Nat.{_+_, _-_}
 use native.Mathlib.Omega.{arith}
-use mathlib.Core.Bool.{Bool, not}
+use mathlib.Core.Bool.{not}
 use mathlib.Core.List.{List}
 use mathlib.Core.Path.{_≡_, refl, ap, sym, _∙_}
 use borrow.Author.Needs.{needs}

@@ -1,6 +1,5 @@
 -- A match without includes has no window; any other has one where its join is no longer than one.
 use native.Mathlib.Omega.{arith}
-use mathlib.Core.Path.{_∙_}
 use borrow.Author.Needs.{needs}
 use Rattle.filter_yes.proofs.WindowsLaws.{fits-none, fits-some, start-low}
 use Rattle.filter_yes.proofs.windows.has_window.Statement.{statement}
