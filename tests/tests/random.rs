@@ -330,13 +330,18 @@ fn filter_cases_meet_everything() {
             Listing::Refused { number, .. } => meet(format!("listing refused {number}")),
             Listing::Listed { yes, .. } => meet(format!("listed {yes}")),
         }
-        match second_engine::quick(&case.section, &case.selection, case.work_len) {
+        let quick = second_engine::quick(&case.section, &case.selection, case.work_len);
+        match quick {
             Quick::Refused { number, .. } => meet(format!("quick refused {number}")),
             Quick::Answered { yes, .. } => meet(format!("quick {yes}")),
         }
         if let Ok((section, tree)) = engine::check(&case.section, &case.selection, case.work_len, None) {
             for (filter, place) in reached(&section, &tree, "at the top") {
-                about_filter(&section, filter, &place, listing, &mut meet);
+                about_filter(&section, filter, &mut meet);
+                let Quick::Answered { yes, .. } = quick else { continue };
+                if listing == (Listing::Refused { number: 9, place: filter.place as u32 }) {
+                    meet(format!("only the listing refuses, 9 at a filter {place}: {yes}"));
+                }
             }
         }
     }
@@ -348,7 +353,7 @@ fn filter_cases_meet_everything() {
         let places =
             ["on the left of an or", "on the right of an or", "on the left of an and", "on the right of an and"];
         for place in places.into_iter().chain(["at the top", "under a not"]) {
-            needed.push(format!("only the listing refuses 9 at a filter {place}: {yes}"));
+            needed.push(format!("only the listing refuses, 9 at a filter {place}: {yes}"));
         }
         needed.push(format!("window 4096, over 100 excludes: {yes}"));
         needed.push(format!("a window over 500 excludes: {yes}"));
@@ -400,7 +405,7 @@ fn which(places: &[usize], length: usize) -> &'static str {
     }
 }
 
-fn about_filter(section: &Section, filter: &Tree, place: &str, listing: Listing, meet: &mut impl FnMut(String)) {
+fn about_filter(section: &Section, filter: &Tree, meet: &mut impl FnMut(String)) {
     let book = RuleBook::paper();
     let operand = match book.build(section, &filter.below[0]) {
         Ok(operand) => operand,
@@ -418,9 +423,6 @@ fn about_filter(section: &Section, filter: &Tree, place: &str, listing: Listing,
     };
     let yeses: Vec<usize> = (0..operand.len()).filter(|&at| gives_a_yes(&operand[at])).collect();
     let yes = !yeses.is_empty();
-    if listing == (Listing::Refused { number: 9, place: filter.place as u32 }) {
-        meet(format!("only the listing refuses 9 at a filter {place}: {yes}"));
-    }
     let Size { matches, strings } = Size::of(&operand);
     if matches + 1 >= 256 {
         meet(format!("as many matches below a filter as there may be: {yes}"));

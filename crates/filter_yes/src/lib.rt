@@ -32,7 +32,7 @@ ghost use Rattle.window.specs.Inside.{WindowSize};
 ghost use Rattle.filter_yes.specs.Gives.{givesAny, matchAt};
 
 // Does a filter give anything of a match with these includes? For nine filters this is `filter_rules::keeps`, said again. Called from two places, that would
-// be inlined at neither, and the lists of filters would take a tenth longer (docs/PERFORMANCE.md, 'Filters in the quick answer').
+// be inlined at neither, and the lists of filters would take longer (docs/PERFORMANCE.md, 'Filters in the quick answer').
 fn gives_any(section: &[u32], filter: Filter, includes: &[u32]) -> bool
     requires { ⌜ ((n : ℕ) → filter ≡ Window n → WindowSize n) ⌝ }
     requires { ⌜ AllStrs ValidStr (strsAt (now includes)) ⌝ }
@@ -109,6 +109,7 @@ pub fn is_yes(section: &[u32], filter: Filter, mem: &[u32], src: usize) -> bool
     let last = store::slot_end(mem, src);
     let mut at = src + store::FIRST_MATCH;
     while at < last {
+        // the match's `end`, known before the match is tested
         let next = store::match_end(mem, at);
         let Bounds {
             includes,

@@ -26,7 +26,7 @@ use Rattle.model.specs.Parts.{PartAt, isMildNot, partStart, postfix, rankAfter,
 use Rattle.model.specs.Rules.{phraseList}
 use Rattle.model.specs.Section.{Section, sectionOf, size}
 use Rattle.model.specs.Selection.{codeAt, upTo}
-use Rattle.model.specs.Trees.{Tree, phrase, pair, parts}
+use Rattle.model.specs.Trees.{Tree, pair}
 use Rattle.model.specs.Walk.{firstTooLong, unlessTooLong, build, turned, orWalk, andWalk, walk}
 use Rattle.model.specs.Walked.{walkAnswer, walkBuilds, walkReaches}
 use Rattle.model.proofs.PartsLaws.{PairAt, pair-at, change-at, phrase-at, word-at, part-some, part-length}

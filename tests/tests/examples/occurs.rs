@@ -283,7 +283,7 @@ fn a_filter_removes_the_excludes() {
 
 // The quick answer
 
-/// "The quick walk builds and counts them as it does filters."
+/// "The quick walk builds and counts them as it does filters", as it did before request F-4.
 #[test]
 fn the_count() {
     let answer = |selection: &Selection| quick(&plain(&[5, 7, 5]), &selection.numbers());
