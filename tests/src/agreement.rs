@@ -43,6 +43,9 @@ pub fn compare(engine: &dyn Engine, case: &Case) -> Result<(), String> {
     compare_snippets(engine, case)
 }
 
+/// Looks for a case of a seed on which an engine fails, among the first so many.
+pub type Hunt = fn(&dyn Engine, u64, usize) -> Result<(), String>;
+
 /// Compares an engine with the second engine on the first cases of a seed. The error names the first case that fails, and
 /// holds a test of it, made as small as it gets.
 pub fn hunt(engine: &dyn Engine, seed: u64, count: usize) -> Result<(), String> {

@@ -37,7 +37,7 @@ pub mod text;
 pub mod typed;
 pub mod typed_gen;
 
-pub use agreement::{compare, compare_text, compare_typed, hunt, hunt_filters, hunt_occurs, hunt_typed, Engine};
+pub use agreement::{compare, compare_text, compare_typed, hunt, hunt_filters, hunt_occurs, hunt_typed, Engine, Hunt};
 pub use engine::{listing, quick, snippet, unlimited, Listing, Quick, SecondEngine};
 pub use gen::{cases, filter_cases, occurs_cases, Case};
 pub use rules::{AllMatches, Match, Str};

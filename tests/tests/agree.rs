@@ -8,7 +8,7 @@ mod proved;
 mod words;
 
 use proved::Proved;
-use second_engine::{hunt, hunt_filters, hunt_occurs, Engine};
+use second_engine::{hunt, hunt_filters, hunt_occurs, Engine, Hunt};
 use std::time::Instant;
 
 fn engine() -> impl Engine {
@@ -17,9 +17,6 @@ fn engine() -> impl Engine {
 
 const OCCURS: u64 = 212_000;
 const FILTERS: u64 = 6_000;
-
-/// Looks for a case of a seed on which an engine fails.
-type Hunt = fn(&dyn Engine, u64, usize) -> Result<(), String>;
 
 /// One half of a seed's cases, on which the engines have to agree: so many in release, fewer without optimisation; or as the environment says:
 /// `CASES=1000000 SEED=7 cargo test ...`.

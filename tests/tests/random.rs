@@ -6,8 +6,8 @@ use second_engine::section::Section;
 use second_engine::selection::{self, Filter, Occurs, Rule, Tree};
 use second_engine::sizes::{self, Size};
 use second_engine::{
-    cases, engine, filter_cases, hunt, hunt_filters, hunt_occurs, occurs_cases, rules, section, text, Listing, Match,
-    Quick, Refusal, SecondEngine, BUFFER, WORK,
+    cases, engine, filter_cases, hunt, hunt_filters, hunt_occurs, occurs_cases, rules, section, text, Hunt, Listing,
+    Match, Quick, Refusal, SecondEngine, BUFFER, WORK,
 };
 use std::collections::BTreeMap;
 use std::slice::from_ref;
@@ -24,31 +24,27 @@ fn number(variable: &str) -> Option<u64> {
 
 #[test]
 fn the_second_engine_agrees_with_itself() {
-    let (count, begun) = (how_many() / 5, Instant::now());
+    agrees_with_itself(hunt, "cases", how_many() / 5);
+}
+
+fn agrees_with_itself(hunt: Hunt, name: &str, count: usize) {
+    let begun = Instant::now();
     if let Err(wrong) = hunt(&SecondEngine::new(), number("SEED").unwrap_or(1), count) {
         panic!("{wrong}");
     }
-    println!("{count} cases in {:?}", begun.elapsed());
+    println!("{count} {name} in {:?}", begun.elapsed());
 }
 
 /// The same on cases that have an occurs.
 #[test]
 fn the_second_engine_agrees_with_itself_on_occurs() {
-    let (count, begun) = (how_many() / 5, Instant::now());
-    if let Err(wrong) = hunt_occurs(&SecondEngine::new(), number("SEED").unwrap_or(1), count) {
-        panic!("{wrong}");
-    }
-    println!("{count} cases with an occurs in {:?}", begun.elapsed());
+    agrees_with_itself(hunt_occurs, "cases with an occurs", how_many() / 5);
 }
 
 /// And on cases made for the early way out of a filter.
 #[test]
 fn the_second_engine_agrees_with_itself_on_filters() {
-    let (count, begun) = (how_many() / 100, Instant::now());
-    if let Err(wrong) = hunt_filters(&SecondEngine::new(), number("SEED").unwrap_or(1), count) {
-        panic!("{wrong}");
-    }
-    println!("{count} cases with a filter in {:?}", begun.elapsed());
+    agrees_with_itself(hunt_filters, "cases with a filter", how_many() / 100);
 }
 
 /// The walk as it was before request F-4: filters built whole, and measured.

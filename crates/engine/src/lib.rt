@@ -1,5 +1,5 @@
 // The engine's calls: document 01's, and those of typed searches. None has a requires: any slices of any lengths may come in, and each gets a result or
-// one refusal. A typed call answers by the answer that its text has; every text has exactly one (theorems/specs/Demands.antt).
+// one refusal. A typed call answers by the answer that its text has; every text has exactly one (theorems/specs/Requests.antt).
 pub use calls::listing;
 pub use calls::quick;
 pub use calls::snippet;

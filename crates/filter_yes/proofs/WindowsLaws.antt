@@ -80,19 +80,19 @@ pub free-none : (n : ℕ) (includes excludes : List ℕ) → length includes < 2
 unfolding anyOf
 free-none n includes excludes h = ap isYes (sym (window-none n (matchAt includes excludes) (no-strings includes h)))
 
-pub fits-none : (n : ℕ) (includes : List ℕ) → length includes < 2 → false ≡ not (isEmpty (windowEnds n (strsAt includes)))
+pub has-none : (n : ℕ) (includes : List ℕ) → length includes < 2 → false ≡ not (isEmpty (windowEnds n (strsAt includes)))
 unfolding windowEnds isEmpty
-fits-none n includes h = ap (λ ss. not (isEmpty (windowEnds n ss))) (sym (no-strings includes h))
+has-none n includes h = ap (λ ss. not (isEmpty (windowEnds n ss))) (sym (no-strings includes h))
 
 -- the last positions of its windows, by its join
 ends-are : (n : ℕ) (includes : List ℕ) → 2 ≤ length includes → {start end : ℕ} → start ≡ joined (strsAt includes) .start → end ≡ joined (strsAt includes) .end
     → windowEnds n (strsAt includes) ≡ fromTo end (start + n - 1)
 ends-are n includes h a b = ends-some n (strsAt includes) (some-strings includes h) ∙ ap₂ (λ e s. fromTo e (s + n - 1)) (sym b) (sym a)
 
-pub fits-some : {n : ℕ} → WindowSize n → (includes : List ℕ) → 2 ≤ length includes → {start end : ℕ} → start ≡ joined (strsAt includes) .start → end ≡ joined (strsAt includes) .end
+pub has-some : {n : ℕ} → WindowSize n → (includes : List ℕ) → 2 ≤ length includes → {start end : ℕ} → start ≡ joined (strsAt includes) .start → end ≡ joined (strsAt includes) .end
     → ltb end (start + n) ≡ not (isEmpty (windowEnds n (strsAt includes)))
 unfolding isEmpty
-fits-some {n} size includes h {start} {end} a b = at (ltb end (start + n)) refl ∙ ap (λ ps. not (isEmpty ps)) (sym (ends-are n includes h a b))
+has-some {n} size includes h {start} {end} a b = at (ltb end (start + n)) refl ∙ ap (λ ps. not (isEmpty ps)) (sym (ends-are n includes h a b))
   where
     at : (t : Bool) → ltb end (start + n) ≡ t → t ≡ not (isEmpty (fromTo end (start + n - 1)))
     at true e = let k : end ≤ start + n - 1 = omega (arith, ltb-true end (start + n) e) in rw (range-cons end (start + n - 1) k)

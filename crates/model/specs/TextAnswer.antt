@@ -72,7 +72,7 @@ pub data AnswerOfTokens (tokens : List Token) (end : ℕ) : TextAnswer → Type 
   not-allowed : {place : ℕ} → NotAllowed tokens end place → AnswerOfTokens tokens end (error (refusal 10 place))
   too-large : {place : ℕ} → TooLarge tokens end place → AnswerOfTokens tokens end (error (refusal 11 place))
 
--- `AnswerOf text a`: the answer of the text is a. Every text has exactly one (theorems/specs/Demands.antt).
+-- `AnswerOf text a`: the answer of the text is a. Every text has exactly one (theorems/specs/Requests.antt).
 pub data AnswerOf (text : List ℕ) : TextAnswer → Type 0 where
   too-long : maxText < length text → AnswerOf text (error (refusal 11 0))
   by-tokens : {ts : List Token} {a : TextAnswer} → length text ≤ maxText → Tokens 1 text ts → AnswerOfTokens ts (suc (length text)) a → AnswerOf text a

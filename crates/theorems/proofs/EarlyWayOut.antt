@@ -23,7 +23,8 @@ use Rattle.model.specs.Walked.{walkBuilds, walkReaches}
 use Rattle.model.proofs.ListsLaws.{sublist-append}
 use Rattle.model.proofs.WalkLaws.{firstTooLong-sublist, unlessTooLong-refused, unlessTooLong-nine, unlessTooLong-answered, walk-is, walkAnswer-complete}
 use Rattle.model.proofs.YesLaws.{yes-filter}
-use Rattle.theorems.specs.Demands.{Has, FirstWith, WithoutExcludes, walkWith, walkBefore, FilterReachedOf, EarlyWayOut}
+use Rattle.theorems.specs.Demands.{Has, FirstWith, WithoutExcludes}
+use Rattle.theorems.specs.Requests.{walkWith, walkBefore, FilterReachedOf, EarlyWayOut}
 use Rattle.theorems.proofs.WordsLaws.{any-first-exactly, yes-exists, tooLong-exactly}
 
 module _ (s : Section) (f : Filter) (c : ℕ) (operand : Tree) where

@@ -19,7 +19,8 @@ use Rattle.model.proofs.EveryLaws.{every-weaker, every-append, every-map, every
 use Rattle.model.proofs.ListsLaws.{flatMap-append, length-sublist}
 use Rattle.model.proofs.TestsLaws.{both-true, and-join}
 use Rattle.model.proofs.YesLaws.{yes-atLeast, yes-fromTo, free-phrase}
-use Rattle.theorems.specs.Demands.{Has, WithoutExcludes, InOrder, Precedes, starts, Sooner, OccursChosen}
+use Rattle.theorems.specs.Demands.{Has, WithoutExcludes}
+use Rattle.theorems.specs.Requests.{InOrder, Precedes, starts, Sooner, OccursChosen}
 use Rattle.theorems.proofs.WordsLaws.{yes-exists}
 
 -- ---- Has

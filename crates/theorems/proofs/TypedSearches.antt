@@ -24,7 +24,8 @@ use Rattle.grammar.specs.Grammar.{readText}
 use Rattle.grammar.proofs.AnswerLaws as grammar
 use Rattle.grammar.proofs.ExamplesLaws.{examples-hold}
 use Rattle.grammar.proofs.PartingLaws.{tokens-exactly}
-use Rattle.theorems.specs.Demands.{ListingGiven, ListingRefuses, QuickGiven, QuickRefuses, Numbered, Derives, HasCodes, HasError, OfText, TextOf, TypedOf, TypedSearches}
+use Rattle.theorems.specs.Demands.{ListingGiven, ListingRefuses, QuickGiven, QuickRefuses, Numbered}
+use Rattle.theorems.specs.Requests.{Derives, HasCodes, HasError, OfText, TextOf, TypedOf, TypedSearches}
 use Rattle.theorems.proofs.Demand1.{demand-1}
 use Rattle.theorems.proofs.SpelledLaws.{derived-spelled}
 

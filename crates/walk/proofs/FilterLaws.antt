@@ -35,7 +35,7 @@ module _ {section sel mem : List ℕ} {hi : ℕ} (w : Walkable section sel mem h
   abbrev under : ChangeAt (shapeAt sel) hi (filtered f) (w .part .tree)
   under = change-at (shapeAt sel) hi (w .part) (filtered f) (ap shapeOf e)
 
-  abbrev pub operand : Tree
+  abbrev operand : Tree
   operand = under .operand .tree
 
   abbrev pub operand-walkable : Walkable section sel mem (hi - 1)

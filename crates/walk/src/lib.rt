@@ -86,7 +86,8 @@ fn answer_filter(
     answers::answered(yes, codes)
 }
 
-// The answer of a part that the walk does not go into: "a phrase is yes if its list isn't empty", found at the first find; a filter is asked of its operand's matches; any other part is built.
+// The answer of a part that the walk does not go into: "a phrase is yes if its list isn't empty", found at the first find; a filter is asked of its operand's
+// matches; any other part is built.
 fn answer_leaf(section: &[u32], selection: &[u32], work: &mut [u32], hi: u32) -> u64
     requires { ⌜ Walkable (now section) (now selection) (now work) hi ⌝ }
     ensures { λ r. ⌜ ((w : Walkable (now (section .entry)) (now (selection .entry)) (now (work .entry)) hi) → goesInto (shapeAt (now (selection .entry)) hi) ≡ false → answerOf r ≡ walkOf (sectionOf (now (section .entry))) (w .part .tree)) ⌝ }
