@@ -1,11 +1,12 @@
--- What the checks guarantee: where none of a list of checks refuses, each of them passes. A section has no faulty position exactly where each
--- counting is all zero, or all nonzero and never falling; an accepted selection is one tree that spells its codes.
-use Prim.Native.Nat.{ℕ, zero, suc, _+_, _-_, _≤_}
+-- What the checks guarantee: where none of a list of checks refuses, each of them passes. A section has no faulty position exactly where its nonzero
+-- sentences never fall, and its paragraphs are all zero, or all nonzero and never falling; an accepted selection is one tree that spells its codes.
+use Prim.Native.Nat.{ℕ, zero, suc, _+_, _-_, _≤_, _<_}
+use native.Mathlib.Nat.{eq-or-lt-of-le}
 use native.Mathlib.Omega.{arith}
-use mathlib.Core.Path.{_≡_, refl, sym, ap, ap₂, _∙_}
+use mathlib.Core.Path.{_≡_, refl, sym, ap, ap₂, subst, _∙_}
 use mathlib.Core.Bool.{Bool, true, false, not, _||_, xor}
 use mathlib.Core.List.{List, [], _∷_, _++_, map}
-use mathlib.Core.Logic.{_↔_, inl, inr}
+use mathlib.Core.Logic.{_↔_, _⊎_, inl, inr, ⊎-elim}
 use mathlib.Core.Option.{Option, some, none, Option·map, Option·some-ne-none, map-eq-none-iff}
 use lib.Dec.{eqb, leb, ltb}
 use lib.ListN.{length}
@@ -18,9 +19,9 @@ use Rattle.model.specs.Selection.{kindAt, operandAt, codeOf}
 use Rattle.model.specs.Kinds.{Shape, aWord, aPhrase, aPair, aChange, shapeOf, shapeAt, shapesOf}
 use Rattle.model.specs.Trees.{Tree, phrase, pair, change, placeOf, topTree, treeOf, parts}
 use Rattle.model.specs.Parts.{isNotCode, hasWords, postfix, renumbered, wellFormed, PartAt, codesOfTrees, phrasesAll}
-use Rattle.model.specs.Checks.{refusal, otherwise, Check, tried, wrongSection, faultyIn, faultyAt, faultyPosition, sectionRefusal, wrongSelection, unknownKind}
+use Rattle.model.specs.Checks.{refusal, otherwise, Check, tried, wrongSection, breaksOrder, lastNonzero, fallsBelow, faultyAt, faultyPosition, sectionRefusal, wrongSelection, unknownKind}
 use Rattle.model.specs.Checks.{operandFits, wrongOperand, wrongShape, occursOverOther, notOverPhrase, isNot, hasNot, mildOverNot, notUnderMildNot, selectionRefusal}
-use Rattle.model.specs.Accepted.{ReportedOrNot, AcceptedSection, maxPhrases, AcceptedSelection}
+use Rattle.model.specs.Accepted.{NonzeroNeverFall, LastNonzeroBefore, ReportedOrNot, AcceptedSection, maxPhrases, AcceptedSelection}
 use Rattle.model.proofs.ListsLaws.{any-append, first-range-none, range-first-none}
 use Rattle.model.proofs.SectionLaws.{WellSized, well-sized}
 use Rattle.model.proofs.TestsLaws.{both-true, both-false, xor-false, cond-none}
@@ -51,65 +52,171 @@ module _ (c : Check) (cs : List Check) (lent : List ℕ) where
   unfolding tried
   tried-stop place e = rw e
 
--- ---- faultyIn: a counting has no faulty position exactly where it is all zero, or all nonzero and never falling
+-- ---- lastNonzero
+
+last-or-before : (i k : ℕ) → i < suc (suc k) → (i ≡ suc k) ⊎ (i < suc k)
+last-or-before i k h = let l : i ≤ suc k = omega arith in eq-or-lt-of-le l
+
+module _ (unit : ℕ → ℕ) where
+  pub last-zero : (p : ℕ) → 1 ≤ p → unit p ≡ 0 → lastNonzero unit p ≡ lastNonzero unit (p - 1)
+  unfolding lastNonzero
+  last-zero zero h z = absurd (omega arith)
+  last-zero (suc k) h z = let e : suc k - 1 ≡ k = omega arith in rw (e, z)
+
+  pub last-some : (p : ℕ) → 1 ≤ p → 1 ≤ unit p → lastNonzero unit p ≡ unit p
+  unfolding lastNonzero
+  last-some zero h x = absurd (omega arith)
+  last-some (suc k) h x = rw (ne-eqb (unit (suc k)) 0 (λ e. omega (arith, x, e)))
+
+  -- up to k there is none, or it is the number at some position
+  pub last-found : (k : ℕ) → (lastNonzero unit k ≡ 0) ⊎ ((q : ℕ) × LastNonzeroBefore unit (suc k) q × (lastNonzero unit k ≡ unit q))
+  unfolding lastNonzero
+  last-found zero = inl refl
+  last-found (suc k) = at (unit (suc k)) refl (last-found k)
+    where
+      at : (u : ℕ) → unit (suc k) ≡ u → (lastNonzero unit k ≡ 0) ⊎ ((q : ℕ) × LastNonzeroBefore unit (suc k) q × (lastNonzero unit k ≡ unit q))
+          → (lastNonzero unit (suc k) ≡ 0) ⊎ ((q : ℕ) × LastNonzeroBefore unit (suc (suc k)) q × (lastNonzero unit (suc k) ≡ unit q))
+      at zero e (inl z) = inl (rw e z)
+      at zero e (inr w) =
+          let here : LastNonzeroBefore unit (suc (suc k)) (w .0) = record {
+            from-1 = w .1 .from-1;
+            before = omega (arith, w .1 .before);
+            nonzero = w .1 .nonzero;
+            zeros-between = λ i h l. ⊎-elim (λ s. ap unit s ∙ e) (λ s. w .1 .zeros-between i h s) (last-or-before i k l);
+          } in
+          inr (w .0, here, rw e (w .2))
+      at (suc u) e below =
+          let here : LastNonzeroBefore unit (suc (suc k)) (suc k) = record {
+            from-1 = omega arith;
+            before = omega arith;
+            nonzero = omega (arith, e);
+            zeros-between = λ i h l. absurd (omega (arith, h, l));
+          } in
+          inr (suc k, here, last-some (suc k) (omega arith) (omega (arith, e)))
+
+  pub last-is : (k q : ℕ) → LastNonzeroBefore unit (suc k) q → lastNonzero unit k ≡ unit q
+  last-is zero q w = absurd (omega (arith, w .from-1, w .before))
+  last-is (suc k) q w = ⊎-elim here (earlier (last-is k q)) (last-or-before q k (w .before))
+    where
+      here : q ≡ suc k → lastNonzero unit (suc k) ≡ unit q
+      here e = last-some (suc k) (omega arith) (subst (λ (i : ℕ). 1 ≤ unit i) e (w .nonzero)) ∙ ap unit (sym e)
+
+      earlier : (LastNonzeroBefore unit (suc k) q → lastNonzero unit k ≡ unit q) → q < suc k → lastNonzero unit (suc k) ≡ unit q
+      earlier is l =
+          let e : suc k - 1 ≡ k = omega arith in
+          let before : LastNonzeroBefore unit (suc k) q = record { from-1 = w .from-1; before = l; nonzero = w .nonzero; zeros-between = λ i h m. w .zeros-between i h (omega (arith, m)) } in
+          last-zero (suc k) (omega arith) (w .zeros-between (suc k) l (omega arith)) ∙ ap (lastNonzero unit) e ∙ is before
+
+-- ---- fallsBelow: no nonzero number is below the last one before it exactly where the nonzero ones never fall
+
+pub not-below : (last here : ℕ) → 1 ≤ here → fallsBelow last here ≡ false → last ≤ here
+not-below last here x e = ltb-false here last (rw (ne-eqb here 0 (λ z. omega (arith, x, z))) at e)
+
+pub below-none : (last here : ℕ) → (1 ≤ here → last ≤ here) → fallsBelow last here ≡ false
+below-none last zero h = refl
+below-none last (suc k) h = rw (ne-eqb (suc k) 0 (λ z. omega (arith, z)), le-ltb (suc k) last (h (omega arith)))
 
 module _ (unit : ℕ → ℕ) (n : ℕ) where
-  abbrev Sound : Type 0
-  Sound = (p : ℕ) → 2 ≤ p → p ≤ n → faultyIn unit p ≡ false
+  abbrev NoneBelow : Type 0
+  NoneBelow = (p : ℕ) → 2 ≤ p → p ≤ n → fallsBelow (lastNonzero unit (p - 1)) (unit p) ≡ false
 
-  next : Sound → (p : ℕ) → 1 ≤ p → p + 1 ≤ n → (unit p ≤ unit (p + 1)) × (eqb (unit (p + 1)) 0 ≡ eqb (unit p) 0)
-  next sound p h k =
+  -- a nonzero number is at most the last one up to d positions later
+  at-most-last : NoneBelow → (d p : ℕ) → 1 ≤ p → p + d ≤ n → 1 ≤ unit p → unit p ≤ lastNonzero unit (p + d)
+  at-most-last none-below zero p h k x = let e : p + 0 ≡ p = omega arith in rw e (omega (arith, last-some unit p h x))
+  at-most-last none-below (suc d) p h k x = at (unit (p + suc d)) refl (at-most-last none-below d p h (omega arith) x)
+    where
+      e : p + suc d - 1 ≡ p + d
+      e = omega arith
+
+      at : (u : ℕ) → unit (p + suc d) ≡ u → unit p ≤ lastNonzero unit (p + d) → unit p ≤ lastNonzero unit (p + suc d)
+      at zero z before = omega (arith, before, last-zero unit (p + suc d) (omega arith) z ∙ ap (lastNonzero unit) e)
+      at (suc u) z before =
+          let rises = not-below (lastNonzero unit (p + d)) (unit (p + suc d)) (omega (arith, z)) (rw e at (none-below (p + suc d) (omega arith) k)) in
+          omega (arith, before, rises, last-some unit (p + suc d) (omega arith) (omega (arith, z)))
+
+  pub never-fall : NoneBelow → NonzeroNeverFall unit n
+  never-fall none-below p q h k l x y =
+      let e : p + (q - p) ≡ q = omega arith in
+      omega (arith, rw e at (at-most-last none-below (q - p) p h (omega arith) x), last-some unit q (omega arith) y)
+
+  pub none-below : NonzeroNeverFall unit n → NoneBelow
+  none-below never p h k =
+      below-none (lastNonzero unit (p - 1)) (unit p)
+      (λ x. ⊎-elim
+        (λ z. omega (arith, z))
+        (λ w. omega (arith, w .2, never (w .0) p (w .1 .from-1) (omega (arith, w .1 .before)) k (w .1 .nonzero) x))
+        (last-found unit (p - 1)))
+
+-- ---- breaksOrder: a counting has no faulty position exactly where it is all zero, or all nonzero and never falling
+
+module _ (unit : ℕ → ℕ) (n : ℕ) where
+  abbrev InOrder : Type 0
+  InOrder = (p : ℕ) → 2 ≤ p → p ≤ n → breaksOrder (unit (p - 1)) (unit p) ≡ false
+
+  next : InOrder → (p : ℕ) → 1 ≤ p → p + 1 ≤ n → (unit p ≤ unit (p + 1)) × (eqb (unit (p + 1)) 0 ≡ eqb (unit p) 0)
+  next ordered p h k =
       let e : p + 1 - 1 ≡ p = omega arith in
-      let f = both-false (ltb (unit (p + 1)) (unit p)) (xor (eqb (unit (p + 1)) 0) (eqb (unit p) 0)) (rw e at (sound (p + 1) (omega arith) k)) in
+      let f = both-false (ltb (unit (p + 1)) (unit p)) (xor (eqb (unit (p + 1)) 0) (eqb (unit p) 0)) (rw e at (ordered (p + 1) (omega arith) k)) in
       (ltb-false (unit (p + 1)) (unit p) (f .0), xor-false (eqb (unit (p + 1)) 0) (eqb (unit p) 0) (f .1))
 
   -- from p up by d positions
-  rises : Sound → (d p : ℕ) → 1 ≤ p → p + d ≤ n → (unit p ≤ unit (p + d)) × (eqb (unit (p + d)) 0 ≡ eqb (unit p) 0)
-  rises sound zero p h k = let e : p + 0 ≡ p = omega arith in rw e (omega arith, refl)
-  rises sound (suc d) p h k =
+  rises : InOrder → (d p : ℕ) → 1 ≤ p → p + d ≤ n → (unit p ≤ unit (p + d)) × (eqb (unit (p + d)) 0 ≡ eqb (unit p) 0)
+  rises ordered zero p h k = let e : p + 0 ≡ p = omega arith in rw e (omega arith, refl)
+  rises ordered (suc d) p h k =
       let e : p + suc d ≡ p + d + 1 = omega arith in
-      let a = rises sound d p h (omega arith) in
-      let b = next sound (p + d) (omega arith) (omega arith) in
+      let a = rises ordered d p h (omega arith) in
+      let b = next ordered (p + d) (omega arith) (omega arith) in
       rw e (omega (arith, a .0, b .0), b .1 ∙ a .1)
 
-  pub reported : Sound → ReportedOrNot unit n
-  reported sound = at (unit 1) refl
+  pub reported : InOrder → ReportedOrNot unit n
+  reported ordered = at (unit 1) refl
     where
       up : (p q : ℕ) → 1 ≤ p → p ≤ q → q ≤ n → (unit p ≤ unit q) × (eqb (unit q) 0 ≡ eqb (unit p) 0)
-      up p q h k l = let e : p + (q - p) ≡ q = omega arith in rw e at (rises sound (q - p) p h (omega arith))
+      up p q h k l = let e : p + (q - p) ≡ q = omega arith in rw e at (rises ordered (q - p) p h (omega arith))
 
       -- position 1 decides
       at : (k : ℕ) → unit 1 ≡ k → ReportedOrNot unit n
       at zero e = inl (λ p h l. eqb-true _ _ (up 1 p (omega arith) h l .1 ∙ eq-eqb _ _ e))
       at (suc k) e = inr (record { nonzero = λ p h l. omega (arith, e, up 1 p (omega arith) h l .0); never-falling = λ p q h k l. up p q h k l .0 })
 
-  pub sound : ReportedOrNot unit n → Sound
+  pub in-order : ReportedOrNot unit n → InOrder
   unfolding xor
-  sound (inl zeros) p h k = let z = zeros p (omega arith) k in let y = zeros (p - 1) (omega arith) (omega arith) in rw (z, y)
-  sound (inr r) p h k =
+  in-order (inl zeros) p h k = let z = zeros p (omega arith) k in let y = zeros (p - 1) (omega arith) (omega arith) in rw (z, y)
+  in-order (inr r) p h k =
       let some = r .nonzero p (omega arith) k in
       let before = r .nonzero (p - 1) (omega arith) (omega arith) in
       let falls = le-ltb (unit p) (unit (p - 1)) (r .never-falling (p - 1) p (omega arith) (omega arith) k) in
       rw (falls, ne-eqb (unit p) 0 (λ z. omega arith), ne-eqb (unit (p - 1)) 0 (λ z. omega arith))
 
--- Refusal 2 falls on no section whose sentence and paragraph numbers are reported or not, and on every other.
-pub faultyPosition-none : (section : List ℕ)
-    → (faultyPosition section ≡ none) ↔ (ReportedOrNot (sentenceAt section) (size section) × ReportedOrNot (paragraphAt section) (size section))
-unfolding faultyPosition faultyAt
-faultyPosition-none section = (there, back)
-  where
-    there : first (faultyAt section) (fromTo 2 (size section)) ≡ none
-        → ReportedOrNot (sentenceAt section) (size section) × ReportedOrNot (paragraphAt section) (size section)
-    there e =
-        let f : (p : ℕ) → 2 ≤ p → p ≤ size section → (faultyIn (sentenceAt section) p ≡ false) × (faultyIn (paragraphAt section) p ≡ false) =
-        λ p h k. both-false (faultyIn (sentenceAt section) p) (faultyIn (paragraphAt section) p) (first-range-none (faultyAt section) 2 (size section) e p h k) in
-        (reported (sentenceAt section) (size section) (λ p h k. f p h k .0), reported (paragraphAt section) (size section) (λ p h k. f p h k .1))
+-- ---- faultyPosition
 
-    back : ReportedOrNot (sentenceAt section) (size section) × ReportedOrNot (paragraphAt section) (size section)
-        → first (faultyAt section) (fromTo 2 (size section)) ≡ none
-    back r =
-        range-first-none (faultyAt section) 2 (size section)
-        (λ p h k. let s = sound (sentenceAt section) (size section) (r .0) p h k in let q = sound (paragraphAt section) (size section) (r .1) p h k in rw (s, q))
+module _ (section : List ℕ) where
+  abbrev sentenceFaulty : ℕ → Bool
+  sentenceFaulty p = fallsBelow (lastNonzero (sentenceAt section) (p - 1)) (sentenceAt section p)
+
+  abbrev paragraphFaulty : ℕ → Bool
+  paragraphFaulty p = breaksOrder (paragraphAt section (p - 1)) (paragraphAt section p)
+
+  abbrev UnitsInOrder : Type 0
+  UnitsInOrder = NonzeroNeverFall (sentenceAt section) (size section) × ReportedOrNot (paragraphAt section) (size section)
+
+  sound-units : faultyPosition section ≡ none → UnitsInOrder
+  unfolding faultyPosition faultyAt
+  sound-units e =
+      let f : (p : ℕ) → 2 ≤ p → p ≤ size section → (sentenceFaulty p ≡ false) × (paragraphFaulty p ≡ false) =
+      λ p h k. both-false (sentenceFaulty p) (paragraphFaulty p) (first-range-none (faultyAt section) 2 (size section) e p h k) in
+      (never-fall (sentenceAt section) (size section) (λ p h k. f p h k .0), reported (paragraphAt section) (size section) (λ p h k. f p h k .1))
+
+  units-sound : UnitsInOrder → faultyPosition section ≡ none
+  unfolding faultyPosition faultyAt
+  units-sound r =
+      range-first-none (faultyAt section) 2 (size section)
+      (λ p h k. let s = none-below (sentenceAt section) (size section) (r .0) p h k in let q = in-order (paragraphAt section) (size section) (r .1) p h k in rw (s, q))
+
+  -- Refusal 2 falls on no section whose nonzero sentence numbers never fall and whose paragraph numbers are reported or not, and on every other.
+  pub faultyPosition-none : (faultyPosition section ≡ none)
+      ↔ (NonzeroNeverFall (sentenceAt section) (size section) × ReportedOrNot (paragraphAt section) (size section))
+  faultyPosition-none = (sound-units, units-sound)
 
 -- ---- sectionRefusal
 

@@ -1,5 +1,5 @@
 -- What the checks guarantee, as facts: words of the demands, and of callers' proofs.
-use Prim.Native.Nat.{ℕ, _+_, _*_, _≤_}
+use Prim.Native.Nat.{ℕ, _+_, _*_, _≤_, _<_}
 use mathlib.Core.Bool.{true}
 use mathlib.Core.List.{List}
 use mathlib.Core.Logic.{_⊎_}
@@ -16,8 +16,20 @@ use Rattle.model.specs.Selection.{kindAt, operandAt}
 use Rattle.model.specs.Kinds.{shapesOf}
 use Rattle.model.specs.Trees.{treeOf, parts}
 
--- "Sentence numbers are all zero (not reported) or all nonzero and never falling; paragraph numbers likewise." A unit is either, as the number at a
--- position.
+-- A unit is a sentence or a paragraph, as the number at a position. For sentences F-5: "Sentence zero may now stand among numbered ones, in any place; the
+-- nonzero ones still never fall."
+abbrev pub NonzeroNeverFall : (ℕ → ℕ) → ℕ → Type 0
+NonzeroNeverFall unit n = (p q : ℕ) → 1 ≤ p → p ≤ q → q ≤ n → 1 ≤ unit p → 1 ≤ unit q → unit p ≤ unit q
+
+-- F-5's "last nonzero one before it": the one before position p stands at q
+pub record LastNonzeroBefore (unit : ℕ → ℕ) (p q : ℕ) : Type 0 where
+  pub from-1 : 1 ≤ q
+  pub before : q < p
+  pub nonzero : 1 ≤ unit q
+  pub zeros-between : (i : ℕ) → q < i → i < p → unit i ≡ 0
+
+-- For paragraphs document 01: "Sentence numbers are all zero (not reported) or all nonzero and never falling; paragraph numbers likewise." F-5:
+-- "Paragraphs keep their rule."
 abbrev pub NotReported : (ℕ → ℕ) → ℕ → Type 0
 NotReported unit n = (p : ℕ) → 1 ≤ p → p ≤ n → unit p ≡ 0
 
@@ -31,7 +43,7 @@ ReportedOrNot unit n = NotReported unit n ⊎ Reported unit n
 pub record AcceptedSection (section : List ℕ) : Type 0 where
   pub sized : length section ≡ 1 + 2 * size section
   pub few : size section ≤ maxTokens
-  pub sentences : ReportedOrNot (sentenceAt section) (size section)
+  pub sentences : NonzeroNeverFall (sentenceAt section) (size section)
   pub paragraphs : ReportedOrNot (paragraphAt section) (size section)
 
 -- A phrase has a word and a code of its own, so there are at most half as many phrases as codes.

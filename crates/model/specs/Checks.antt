@@ -1,5 +1,5 @@
--- Refusals 1 to 8 of the two calls, and 12 of document 02's F-3. "Tried in this order, each over the whole input before the next."
-use Prim.Native.Nat.{ℕ, _-_, _/_, _%_}
+-- Refusals 1 to 8 of the two calls, with document 02's F-5 in 2, and 12 of its F-3. "Tried in this order, each over the whole input before the next."
+use Prim.Native.Nat.{ℕ, zero, suc, _-_, _/_, _%_}
 use mathlib.Core.Bool.{Bool, true, false, not, _&&_, _||_, cond, xor}
 use mathlib.Core.List.{List, [], _∷_}
 use mathlib.Core.Option.{Option, some, none, Option·map}
@@ -36,13 +36,25 @@ tried (c ∷ cs) lent = let later = tried cs lent in otherwise (Option·map (ref
 unfoldable pub wrongSection : List ℕ → Option ℕ
 wrongSection section = cond (wellSized 0 maxTokens section) none (some 0)
 
--- 2, first faulty position: "In rule 2 a position is faulty if its sentence or its paragraph number is below that of the position before it, or
--- just one of the two is zero." Position 1 has none before it.
-abbrev pub faultyIn : (ℕ → ℕ) → ℕ → Bool
-faultyIn unit p = ltb (unit p) (unit (p - 1)) || xor (eqb (unit p) 0) (eqb (unit (p - 1)) 0)
+-- 2, first faulty position. For paragraphs document 01's rule: "a position is faulty if its .. number is below that of the position before it, or just one
+-- of the two is zero." Position 1 has none before it.
+abbrev pub breaksOrder : ℕ → ℕ → Bool
+breaksOrder before here = ltb here before || xor (eqb here 0) (eqb before 0)
+
+-- For sentences F-5's: "refusal 2 falls on a nonzero one below the last nonzero one before it."
+
+-- the last nonzero one at the positions 1 to p; 0 where there is none
+unfoldable pub lastNonzero : (ℕ → ℕ) → ℕ → ℕ
+lastNonzero unit zero = 0
+lastNonzero unit (suc p) = cond (eqb (unit (suc p)) 0) (lastNonzero unit p) (unit (suc p))
+
+abbrev pub fallsBelow : ℕ → ℕ → Bool
+fallsBelow last here = not (eqb here 0) && ltb here last
 
 unfoldable pub faultyAt : List ℕ → ℕ → Bool
-faultyAt section p = faultyIn (sentenceAt section) p || faultyIn (paragraphAt section) p
+faultyAt section p =
+    fallsBelow (lastNonzero (sentenceAt section) (p - 1)) (sentenceAt section p)
+    || breaksOrder (paragraphAt section (p - 1)) (paragraphAt section p)
 
 unfoldable pub faultyPosition : List ℕ → Option ℕ
 faultyPosition section = first (faultyAt section) (fromTo 2 (size section))

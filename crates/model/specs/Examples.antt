@@ -1,5 +1,5 @@
 -- Document 01's starred examples, and the one under `ftlist`, "proved of the definitions jointly, as entries of one list checked by one fact", and worked
--- examples of document 02's F-3 and F-4. Each is put to the calls' definitions as lent numbers, with everything that is said of it.
+-- examples of document 02's F-3, F-4 and F-5. Each is put to the calls' definitions as lent numbers, with everything that is said of it.
 use Prim.Native.Nat.{ℕ, _+_, _*_}
 use mathlib.Core.Path.{_≡_, refl}
 use mathlib.Core.Bool.{Bool, true, false, _&&_, Bool·beq, xor}
@@ -13,7 +13,7 @@ use Rattle.model.specs.declared.Quick.the-variants.{Answered, Refused as
 use Rattle.model.specs.declared.Refusal.{Refusal}
 use Rattle.model.specs.AllMatches.{filterList, allMatches}
 use Rattle.model.specs.Answers.{completeList, listingRefusal, listingAnswer, listingNumbers, listingBuffer, quickAnswer}
-use Rattle.model.specs.Checks.{tried, wrongSection, faultyAt, faultyPosition, wrongSelection, unknownKind, filterOperandFits, timesOperandFits, operandFits, wrongOperand, wrongShape, notOverPhrase, notUnderMildNot, sectionRefusal, selectionRefusal, inputRefusal, listingChecks, quickChecks}
+use Rattle.model.specs.Checks.{tried, wrongSection, lastNonzero, faultyAt, faultyPosition, wrongSelection, unknownKind, filterOperandFits, timesOperandFits, operandFits, wrongOperand, wrongShape, notOverPhrase, notUnderMildNot, sectionRefusal, selectionRefusal, inputRefusal, listingChecks, quickChecks}
 use Rattle.model.specs.Limits.{workLength, bufferLength, radix}
 use Rattle.model.specs.Lists.{allOf, anyOf, isEmpty, keep, first, allPairs, neighbours, insertSorted, sort, choose, upFrom, fromTo}
 use Rattle.model.specs.Matches.{Str, Match, strings}
@@ -128,6 +128,10 @@ at ps = map (λ p. record { start = p; end = p; query = 1; contiguous = true }) 
 these : List ℕ → List ℕ → Match
 these is es = record { includes = at is; excludes = at es }
 
+-- a match of two single words, a find of the first phrase and one of the second
+both : ℕ → ℕ → Match
+both a b = record { includes = at (a ∷ []) ++ record { start = b; end = b; query = 2; contiguous = true } ∷ []; excludes = [] }
+
 -- "Words 10 20 30 10 40 20; sentences 1 1 1 2 2 2; paragraph 1."
 six : List ℕ
 six = inParagraph 1 (10 ∷ 20 ∷ 30 ∷ 10 ∷ 40 ∷ 20 ∷ []) (1 ∷ 1 ∷ 1 ∷ 2 ∷ 2 ∷ 2 ∷ [])
@@ -138,6 +142,10 @@ emptySection = 0 ∷ []
 -- "Words 1 2 3 4"
 four : List ℕ
 four = inParagraph 0 (1 ∷ 2 ∷ 3 ∷ 4 ∷ []) (0 ∷ 0 ∷ 0 ∷ 0 ∷ [])
+
+-- the words of six: a heading of two, and one word without a sentence inside sentence 1
+headed : List ℕ
+headed = inParagraph 1 (10 ∷ 20 ∷ 30 ∷ 10 ∷ 40 ∷ 20 ∷ []) (0 ∷ 0 ∷ 1 ∷ 1 ∷ 0 ∷ 1 ∷ [])
 
 -- n tokens of the word 7
 sevens : ℕ → List ℕ
@@ -242,12 +250,25 @@ entries =
     ∷ record { section = six; selection = select (0 ∷ 1 ∷ 7 ∷ 6 ∷ []) (10 ∷ 1 ∷ 129 ∷ 0 ∷ []); claims = refused 9 3 ∷ [] }
     ∷ record { section = sevens 8; selection = select (0 ∷ 1 ∷ 17 ∷ 6 ∷ []) (7 ∷ 1 ∷ 4 ∷ 0 ∷ []); claims = refused 9 3 ∷ [] }
     ∷ record { section = six; selection = select (0 ∷ 1 ∷ 7 ∷ 0 ∷ 1 ∷ 5 ∷ []) (10 ∷ 1 ∷ 129 ∷ 20 ∷ 1 ∷ 0 ∷ []); claims = refused 9 3 ∷ [] }
+    -- F-5: 10 and 20 in the same sentence, in different ones, and in the same paragraph
+    ∷ record { section = headed; selection = select (0 ∷ 1 ∷ 0 ∷ 1 ∷ 3 ∷ 9 ∷ []) (10 ∷ 1 ∷ 20 ∷ 1 ∷ 0 ∷ 0 ∷ []); claims = lists (both 4 6 ∷ []) ∷ answers true ∷ [] }
+    ∷ record { section = headed; selection = select (0 ∷ 1 ∷ 0 ∷ 1 ∷ 3 ∷ 11 ∷ []) (10 ∷ 1 ∷ 20 ∷ 1 ∷ 0 ∷ 0 ∷ []); claims = lists [] ∷ answers false ∷ [] }
+    ∷ record { section = headed; selection = select (0 ∷ 1 ∷ 0 ∷ 1 ∷ 3 ∷ 10 ∷ []) (10 ∷ 1 ∷ 20 ∷ 1 ∷ 0 ∷ 0 ∷ []); claims = hasMatches 4 ∷ answers true ∷ [] }
+    -- 10 and not 40, and the same in the same sentence: the 40 is in none, and no longer excludes; and not that
+    ∷ record { section = headed; selection = select (0 ∷ 1 ∷ 0 ∷ 1 ∷ 4 ∷ 3 ∷ []) (10 ∷ 1 ∷ 40 ∷ 1 ∷ 0 ∷ 0 ∷ []); claims = answers false ∷ [] }
+    ∷ record { section = headed; selection = select (0 ∷ 1 ∷ 0 ∷ 1 ∷ 4 ∷ 3 ∷ 9 ∷ []) (10 ∷ 1 ∷ 40 ∷ 1 ∷ 0 ∷ 0 ∷ 0 ∷ []); claims = lists (one true 1 4 4 ∷ []) ∷ answers true ∷ [] }
+    ∷ record { section = headed; selection = select (0 ∷ 1 ∷ 0 ∷ 1 ∷ 4 ∷ 3 ∷ 9 ∷ 4 ∷ []) (10 ∷ 1 ∷ 40 ∷ 1 ∷ 0 ∷ 0 ∷ 0 ∷ 0 ∷ []); claims = answers false ∷ [] }
+    -- a fall, and one behind zeros; the same number, and a zero at the end; paragraph 0 after 1
+    ∷ record { section = inParagraph 1 (7 ∷ 7 ∷ 7 ∷ []) (0 ∷ 2 ∷ 1 ∷ []); selection = select (0 ∷ 1 ∷ []) (7 ∷ 1 ∷ []); claims = refused 2 3 ∷ [] }
+    ∷ record { section = inParagraph 1 (7 ∷ 7 ∷ 7 ∷ 7 ∷ []) (2 ∷ 0 ∷ 0 ∷ 1 ∷ []); selection = select (0 ∷ 1 ∷ []) (7 ∷ 1 ∷ []); claims = refused 2 4 ∷ [] }
+    ∷ record { section = inParagraph 1 (7 ∷ 7 ∷ 7 ∷ 7 ∷ []) (2 ∷ 0 ∷ 2 ∷ 0 ∷ []); selection = select (0 ∷ 1 ∷ []) (7 ∷ 1 ∷ []); claims = hasMatches 4 ∷ answers true ∷ [] }
+    ∷ record { section = 2 ∷ 7 ∷ 7 ∷ (1 * radix + 1) ∷ 0 ∷ []; selection = select (0 ∷ 1 ∷ []) (7 ∷ 1 ∷ []); claims = refused 2 2 ∷ [] }
     ∷ []
 
 pub examples-hold : allOf right entries ≡ true
-unfolding eachSame sameStr sameMatch countsMatches countsStrings listingSays quickSays quickCounts sameRefusal listingRefuses quickRefuses buffered holds right inParagraph select one at these six emptySection four sevens occurs entries
+unfolding eachSame sameStr sameMatch countsMatches countsStrings listingSays quickSays quickCounts sameRefusal listingRefuses quickRefuses buffered holds right inParagraph select one at these both six headed emptySection four sevens occurs entries
     xor allOf anyOf isEmpty keep first allPairs neighbours insertSorted sort choose upFrom fromTo flatMap wellSized upTo shapesOf firstMisfitFrom placeOf combine changeLast read readAll topTree treeOf parts strings
     standFrom phraseList andList notList mildNotList leastStart greatestEnd join kept windowEnds window inUnitFor joinedAll choicesOf atLeast fromToTimes filterList allMatches
-    tried wrongSection faultyAt faultyPosition wrongSelection unknownKind filterOperandFits timesOperandFits operandFits wrongOperand wrongShape notOverPhrase notUnderMildNot sectionRefusal selectionRefusal inputRefusal listingChecks quickChecks
+    tried wrongSection lastNonzero faultyAt faultyPosition wrongSelection unknownKind filterOperandFits timesOperandFits operandFits wrongOperand wrongShape notOverPhrase notUnderMildNot sectionRefusal selectionRefusal inputRefusal listingChecks quickChecks
     firstTooLong build filterWalk walk listingRefusal listingAnswer listingNumbers listingBuffer quickAnswer
 examples-hold = refl
