@@ -143,9 +143,9 @@ module _ (unit : ℕ → ℕ) (n : ℕ) where
   none-below never p h k =
       below-none (lastNonzero unit (p - 1)) (unit p)
       (λ x. ⊎-elim
-        (λ z. omega (arith, z))
-        (λ w. omega (arith, w .2, never (w .0) p (w .1 .from-1) (omega (arith, w .1 .before)) k (w .1 .nonzero) x))
-        (last-found unit (p - 1)))
+      (λ z. omega (arith, z))
+      (λ w. omega (arith, w .2, never (w .0) p (w .1 .from-1) (omega (arith, w .1 .before)) k (w .1 .nonzero) x))
+      (last-found unit (p - 1)))
 
 -- ---- breaksOrder: a counting has no faulty position exactly where it is all zero, or all nonzero and never falling
 

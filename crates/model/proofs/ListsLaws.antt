@@ -85,6 +85,14 @@ upFrom-snoc a (suc n) =
     let e : a + 1 + n ≡ a + suc n = omega arith in
     ap (λ l. a ∷ l) (upFrom-snoc (a + 1) n ∙ ap (λ k. upFrom (a + 1) n ++ k ∷ []) e)
 
+upFrom-append : (a m n : ℕ) → upFrom a (m + n) ≡ upFrom a m ++ upFrom (a + m) n
+unfolding upFrom
+upFrom-append a zero n = let e : a + 0 ≡ a = omega arith in let f : 0 + n ≡ n = omega arith in rw (e, f)
+upFrom-append a (suc m) n =
+    let e : suc m + n ≡ suc (m + n) = omega arith in
+    let f : a + suc m ≡ a + 1 + m = omega arith in
+    rw (e, f) (ap (λ l. a ∷ l) (upFrom-append (a + 1) m n))
+
 pub length-range : (a b : ℕ) → length (fromTo a b) ≡ b + 1 - a
 unfolding fromTo
 length-range a b = length-upFrom a (b + 1 - a)
@@ -96,6 +104,13 @@ range-empty a b h = let e : b + 1 - a ≡ 0 = omega arith in rw e
 pub range-cons : (a b : ℕ) → a ≤ b → fromTo a b ≡ a ∷ fromTo (a + 1) b
 unfolding fromTo upFrom
 range-cons a b h = let e : b + 1 - a ≡ suc (b + 1 - (a + 1)) = omega arith in rw e
+
+pub range-append : (a b c : ℕ) → a ≤ b + 1 → b ≤ c → fromTo a c ≡ fromTo a b ++ fromTo (b + 1) c
+unfolding fromTo
+range-append a b c h k =
+    let e : c + 1 - a ≡ (b + 1 - a) + (c + 1 - (b + 1)) = omega arith in
+    let f : a + (b + 1 - a) ≡ b + 1 = omega arith in
+    ap (upFrom a) e ∙ upFrom-append a (b + 1 - a) (c + 1 - (b + 1)) ∙ ap (λ i. upFrom a (b + 1 - a) ++ upFrom i (c + 1 - (b + 1))) f
 
 -- ---- first, over a range: what a search from a up finds
 

@@ -1,3 +1,4 @@
 pub mod OrderLaws
 pub mod CheckLaws
 pub mod RisesLaws
+pub mod LooksLaws

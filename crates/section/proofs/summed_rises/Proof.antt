@@ -5,18 +5,18 @@ use Rattle.model.specs.Section.{size}
 use borrow.Author.Needs.{needs}
 use native.Mathlib.Omega.{arith}
 use Rattle.section.specs.Rises.{SummedRises}
-use Rattle.section.proofs.RisesLaws.{summed-one, summed-more}
+use Rattle.section.proofs.RisesLaws.{summed-none, summed-more}
 use Rattle.section.proofs.summed_rises.Statement.{statement}
 use Rattle.section.proofs.summed_rises.Tie as tie
 
 abbrev Inv-loop : tie.InvT-loop
-Inv-loop section n sum₀ p₀ sum p = (p ≤ n) × SummedRises section p sum
+Inv-loop section n from to sum₀ p₀ sum p = (from ≤ p) × (p ≤ to) × SummedRises section from p sum
 
 abbrev μ-loop : tie.MeasureT-loop
-μ-loop section n sum₀ p₀ sum p = n - p
+μ-loop section n from to sum₀ p₀ sum p = to - p
 
 loop-holds : tie.Need-loop-holds Inv-loop μ-loop
-loop-holds c = (omega arith, summed-one _)
+loop-holds c = (omega arith, omega arith, summed-none _ _)
 
 add-wrapping-sub-u32 : tie.Need-add-wrapping-sub-u32 Inv-loop μ-loop
 add-wrapping-sub-u32 c = search needs
@@ -59,14 +59,14 @@ loop-again c =
     let here : a .n + l .loop .p + 1 ≡ size s + (l .loop .p + 1) = omega arith in
     let before : a .n + l .loop .p ≡ size s + l .loop .p = omega arith in
     let d = c .wrapping-sub-u32 in
-    (omega arith, summed-more s (l .loop .p) (l .loop .sum) (d .result) (d .ok) (rw (← here, ← before) (d .ensures)) (l .loop .inv .1))
+    (omega arith, omega arith, summed-more s (a .from) (l .loop .p) (l .loop .sum) (d .result) (l .loop .inv .0) (d .ok) (rw (← here, ← before) (d .ensures)) (l .loop .inv .2))
 
 returns : tie.Need-returns Inv-loop μ-loop
 returns c =
     let l = c .before in
     let a = l .before .before .args in
-    let e : l .loop .p ≡ a .n = omega arith in
-    subst (λ (p : ℕ). SummedRises (a .section .now) p (l .loop .sum)) e (l .loop .inv .1)
+    let e : l .loop .p ≡ a .to = omega arith in
+    subst (λ (p : ℕ). SummedRises (a .section .now) (a .from) p (l .loop .sum)) e (l .loop .inv .2)
 
 pub summed-rises-spec : {M : Type 1} → statement M
 summed-rises-spec =
