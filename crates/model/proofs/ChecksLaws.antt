@@ -13,7 +13,7 @@ use lib.ListN.{length}
 use borrow.Author.Tests.{eqb-true, eq-eqb, ne-eqb, ltb-false, le-ltb, leb-false, not-false}
 use Rattle.model.specs.declared.Refusal.{Refusal}
 use Rattle.model.specs.Limits.{maxTokens, maxCodes, maxWaiting}
-use Rattle.model.specs.Lists.{allOf, anyOf, first, fromTo}
+use Rattle.model.specs.Lists.{allOf, anyOf, first}
 use Rattle.model.specs.Section.{size, wellSized, sentenceAt, paragraphAt}
 use Rattle.model.specs.Selection.{kindAt, operandAt, codeOf}
 use Rattle.model.specs.Kinds.{Shape, aWord, aPhrase, aPair, aChange, shapeOf, shapeAt, shapesOf}
@@ -79,7 +79,7 @@ module _ (unit : ℕ → ℕ) where
       at zero e (inl z) = inl (rw e z)
       at zero e (inr w) =
           let here : LastNonzeroBefore unit (suc (suc k)) (w .0) = record {
-            from-1 = w .1 .from-1;
+            from-one = w .1 .from-one;
             before = omega (arith, w .1 .before);
             nonzero = w .1 .nonzero;
             zeros-between = λ i h l. ⊎-elim (λ s. ap unit s ∙ e) (λ s. w .1 .zeros-between i h s) (last-or-before i k l);
@@ -87,7 +87,7 @@ module _ (unit : ℕ → ℕ) where
           inr (w .0, here, rw e (w .2))
       at (suc u) e below =
           let here : LastNonzeroBefore unit (suc (suc k)) (suc k) = record {
-            from-1 = omega arith;
+            from-one = omega arith;
             before = omega arith;
             nonzero = omega (arith, e);
             zeros-between = λ i h l. absurd (omega (arith, h, l));
@@ -95,7 +95,7 @@ module _ (unit : ℕ → ℕ) where
           inr (suc k, here, last-some (suc k) (omega arith) (omega (arith, e)))
 
   pub last-is : (k q : ℕ) → LastNonzeroBefore unit (suc k) q → lastNonzero unit k ≡ unit q
-  last-is zero q w = absurd (omega (arith, w .from-1, w .before))
+  last-is zero q w = absurd (omega (arith, w .from-one, w .before))
   last-is (suc k) q w = ⊎-elim here (earlier (last-is k q)) (last-or-before q k (w .before))
     where
       here : q ≡ suc k → lastNonzero unit (suc k) ≡ unit q
@@ -104,7 +104,7 @@ module _ (unit : ℕ → ℕ) where
       earlier : (LastNonzeroBefore unit (suc k) q → lastNonzero unit k ≡ unit q) → q < suc k → lastNonzero unit (suc k) ≡ unit q
       earlier is l =
           let e : suc k - 1 ≡ k = omega arith in
-          let before : LastNonzeroBefore unit (suc k) q = record { from-1 = w .from-1; before = l; nonzero = w .nonzero; zeros-between = λ i h m. w .zeros-between i h (omega (arith, m)) } in
+          let before : LastNonzeroBefore unit (suc k) q = record { from-one = w .from-one; before = l; nonzero = w .nonzero; zeros-between = λ i h m. w .zeros-between i h (omega (arith, m)) } in
           last-zero (suc k) (omega arith) (w .zeros-between (suc k) l (omega arith)) ∙ ap (lastNonzero unit) e ∙ is before
 
 -- ---- fallsBelow: no nonzero number is below the last one before it exactly where the nonzero ones never fall
@@ -144,7 +144,7 @@ module _ (unit : ℕ → ℕ) (n : ℕ) where
       below-none (lastNonzero unit (p - 1)) (unit p)
       (λ x. ⊎-elim
       (λ z. omega (arith, z))
-      (λ w. omega (arith, w .2, never (w .0) p (w .1 .from-1) (omega (arith, w .1 .before)) k (w .1 .nonzero) x))
+      (λ w. omega (arith, w .2, never (w .0) p (w .1 .from-one) (omega (arith, w .1 .before)) k (w .1 .nonzero) x))
       (last-found unit (p - 1)))
 
 -- ---- breaksOrder: a counting has no faulty position exactly where it is all zero, or all nonzero and never falling

@@ -23,7 +23,7 @@ NonzeroNeverFall unit n = (p q : ℕ) → 1 ≤ p → p ≤ q → q ≤ n → 1 
 
 -- F-5's "last nonzero one before it": the one before position p stands at q
 pub record LastNonzeroBefore (unit : ℕ → ℕ) (p q : ℕ) : Type 0 where
-  pub from-1 : 1 ≤ q
+  pub from-one : 1 ≤ q
   pub before : q < p
   pub nonzero : 1 ≤ unit q
   pub zeros-between : (i : ℕ) → q < i → i < p → unit i ≡ 0

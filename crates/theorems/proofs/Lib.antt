@@ -6,6 +6,7 @@ pub mod TypedSearches
 pub mod SpansRead
 pub mod OccursChosen
 pub mod EarlyWayOut
+pub mod Headings
 -- .. and the laws of their words.
 pub mod WordsLaws
 pub mod SpelledLaws

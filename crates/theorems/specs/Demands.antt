@@ -1,8 +1,8 @@
 -- The three demands, sentence by sentence, over the definitions that the calls' contracts name (calls/src/lib.rt and engine/src/lib.rt): the listing answers
 -- `listingAnswer ..` and leaves `listingBuffer ..` in the buffer, the quick answer answers `quickAnswer ..`, the snippet is `snippetOf ..`. So what is proved
 -- of these holds of the calls. proofs/ has a proof of each. What document 02's requests say is in Requests.antt.
--- Document 01 is meant here as F-3 and F-4 change it: kinds 16 and 17 in the lists and in the walk, refusal 12 in the table; and where the walk reaches a
--- filter, it builds the lists under it and not the filter's own.
+-- Document 01 is meant here as F-3, F-4 and F-5 change it: kinds 16 and 17 in the lists and in the walk, refusal 12 in the table; where the walk reaches a
+-- filter, it builds the lists under it and not the filter's own; and refusal 2 lets sentence zero stand among numbered ones.
 -- Quotation marks enclose the demands' own words, or document 01's or 02's where it is named. `A ↔ B` is 'A exactly when B', `(x : A) × B` 'there is an x
 -- with B', `⊎` 'or', `¬` 'not'.
 use Prim.Native.Nat.{ℕ, _≤_, _<_}
@@ -18,7 +18,7 @@ use Rattle.model.specs.declared.Listing.the-variants.{Listed, Refused as Listin
 use Rattle.model.specs.declared.Quick.{Quick}
 use Rattle.model.specs.declared.Quick.the-variants.{Answered, Refused as QuickRefused}
 use Rattle.model.specs.declared.Refusal.{Refusal}
-use Rattle.model.specs.Accepted.{ReportedOrNot}
+use Rattle.model.specs.Accepted.{NonzeroNeverFall, ReportedOrNot}
 use Rattle.model.specs.AllMatches.{allMatches}
 use Rattle.model.specs.AllStrings.{AllList}
 use Rattle.model.specs.Answers.{completeList, listingAnswer, listingNumbers, listingBuffer, quickAnswer, snippetOf}
@@ -164,10 +164,10 @@ pub record Demand2Of (section selection : List ℕ) (work : ℕ) (buffer : List 
   pub refused-exactly : (r : Refusal)
       → ListingRefuses (listingAnswer section selection work (length buffer)) r ↔ FirstToFall (listingTable section selection work (length buffer)) r
   pub given-exactly : ListingGiven (listingAnswer section selection work (length buffer)) ↔ NoneFalls (listingTable section selection work (length buffer))
-  -- Document 01 has what refusal 2 asks of a section in these words too: "Sentence numbers are all zero (not reported) or all nonzero and never
-  -- falling; paragraph numbers likewise."
+  -- What refusal 2 asks of a section stands in these words too. F-5, of sentences: "Sentence zero may now stand among numbered ones, in any place; the
+  -- nonzero ones still never fall." Document 01, of paragraphs: "all zero (not reported) or all nonzero and never falling".
   pub units-exactly : (faultyPosition section ≡ none)
-      ↔ (ReportedOrNot (sentenceAt section) (size section) × ReportedOrNot (paragraphAt section) (size section))
+      ↔ (NonzeroNeverFall (sentenceAt section) (size section) × ReportedOrNot (paragraphAt section) (size section))
   -- "is the AllMatches of that standard, as document 01 sets it down: the same matches, in the same order, with every include and exclude."
   -- M and S are the complete list's; the buffer holds its numbers, which are no other list's, and is otherwise unchanged.
   pub counts-complete : (m s : ℕ) (y : Bool) → listingAnswer section selection work (length buffer) ≡ Listed m s y

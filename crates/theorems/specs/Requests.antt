@@ -1,16 +1,17 @@
--- What document 02's F-1 to F-4 say, request by request, over the definitions that the calls' contracts name: for the answer of its text a typed call answers
--- `typedListing ..`, `typedQuick ..`, `readAnswer ..` (engine/src/lib.rt). F-2 speaks of no call, but of what is read inside them; F-3 of the lists and F-4
--- of the walk, which the calls answer by. proofs/ has a proof of each.
+-- What document 02's F-1 to F-5 say, request by request, over the definitions that the calls' contracts name: for the answer of its text a typed call answers
+-- `typedListing ..`, `typedQuick ..`, `readAnswer ..` (engine/src/lib.rt). F-2 speaks of no call, but of what is read inside them; F-3 of the lists, F-4
+-- of the walk and F-5 of refusal 2, which the calls answer by. proofs/ has a proof of each.
 -- Quotation marks enclose document 02's words, or document 01's where it is named. The words are those of Demands.antt.
-use Prim.Native.Nat.{ℕ, suc, _/_, _%_, _^_, _≤_, _<_}
-use mathlib.Core.Bool.{Bool, true, not}
+use Prim.Native.Nat.{ℕ, suc, _-_, _/_, _%_, _^_, _≤_, _<_}
+use mathlib.Core.Bool.{Bool, true, not, _||_}
 use mathlib.Core.List.{List, [], _∷_, _++_, map, Sublistᴰ}
 use mathlib.Core.Logic.{_↔_, _⊎_}
-use mathlib.Core.Option.{some}
+use mathlib.Core.Option.{Option, some, none}
 use mathlib.Core.Path.{_≡_}
 use lib.ListN.{length, drop}
 use Rattle.model.specs.declared.Code.{Code}
 use Rattle.model.specs.declared.Filter.{Filter}
+use Rattle.model.specs.declared.Filter.the-variants.{SameSentence, DifferentSentence}
 use Rattle.model.specs.declared.Pair.the-variants.{Or, And, MildNot}
 use Rattle.model.specs.declared.Quick.{Quick}
 use Rattle.model.specs.declared.Quick.the-variants.{Answered}
@@ -18,16 +19,18 @@ use Rattle.model.specs.declared.Reading.the-variants.{Read, Refused as ReadingR
 use Rattle.model.specs.declared.Refusal.{Refusal}
 use Rattle.model.specs.declared.Times.{Times}
 use Rattle.model.specs.declared.Times.the-variants.{FromTo, AtLeast}
-use Rattle.model.specs.AllMatches.{filterMatch, allMatches}
+use Rattle.model.specs.Accepted.{LastNonzeroBefore, NotReported}
+use Rattle.model.specs.AllMatches.{filterMatch, filterList, allMatches}
+use Rattle.model.specs.AllStrings.{AllList}
 use Rattle.model.specs.Answers.{listingAnswer, spanOf, listingBuffer, quickAnswer}
-use Rattle.model.specs.Checks.{refusal, wrongSelection}
+use Rattle.model.specs.Checks.{refusal, breaksOrder, faultyPosition, wrongSelection}
 use Rattle.model.specs.Kinds.{negated, filtered, occurring}
 use Rattle.model.specs.Limits.{maxCodes, maxText, radix, selectionLength}
-use Rattle.model.specs.Lists.{Every, isEmpty}
+use Rattle.model.specs.Lists.{Every, isEmpty, first, fromTo}
 use Rattle.model.specs.Matches.{Str, Match}
 use Rattle.model.specs.Productions.{FTSelection}
 use Rattle.model.specs.Rules.{phraseList, joinedAll}
-use Rattle.model.specs.Section.{Section, size, sectionOf}
+use Rattle.model.specs.Section.{Section, size, sentenceAt, paragraphAt, sectionOf}
 use Rattle.model.specs.Selection.{codeAt, upTo}
 use Rattle.model.specs.TextAnswer.{TextAnswer, codes, error, AnswerOf, NotAllowed, TooLarge}
 use Rattle.model.specs.Tokens.{Token, Tokens}
@@ -209,3 +212,51 @@ pub record EarlyWayOut : Type 0 where
   -- What was answered before is answered so still, count and all; and it refuses only where the walk before refused, though perhaps at a later code.
   pub answers-as-before : (s : Section) (t : Tree) (y : Bool) (codes : ℕ) → walkBefore s t ≡ Answered y codes → walk s t ≡ Answered y codes
   pub refused-before : (s : Section) (t : Tree) (r : Refusal) → QuickRefuses (walk s t) r → (q : Refusal) × QuickRefuses (walkBefore s t) q
+
+-- ---- document 02's F-5, headings
+
+-- "a nonzero one below the last nonzero one before it", of sentences
+abbrev pub SentenceFalls : List ℕ → ℕ → Type 0
+SentenceFalls section p =
+    (1 ≤ sentenceAt section p) × ((q : ℕ) × LastNonzeroBefore (sentenceAt section) p q × (sentenceAt section p < sentenceAt section q))
+
+-- Document 01, of paragraphs: "below that of the position before it, or just one of the two is zero"
+abbrev pub ParagraphBreaks : List ℕ → ℕ → Type 0
+ParagraphBreaks section p =
+    (paragraphAt section p < paragraphAt section (p - 1))
+    ⊎ ((paragraphAt section p ≡ 0) × (1 ≤ paragraphAt section (p - 1)))
+    ⊎ ((1 ≤ paragraphAt section p) × (paragraphAt section (p - 1) ≡ 0))
+
+-- refusal 2 before F-5: one rule for both countings
+abbrev pub faultyBefore : List ℕ → Option ℕ
+faultyBefore section =
+    first
+    (λ p. breaksOrder (sentenceAt section (p - 1)) (sentenceAt section p) || breaksOrder (paragraphAt section (p - 1)) (paragraphAt section p))
+    (fromTo 2 (size section))
+
+abbrev pub AllNonzero : (ℕ → ℕ) → ℕ → Type 0
+AllNonzero unit n = (p : ℕ) → 1 ≤ p → p ≤ n → 1 ≤ unit p
+
+-- for a section
+pub record HeadingsOf (section : List ℕ) : Type 0 where
+  -- "For sentences, refusal 2 falls on a nonzero one below the last nonzero one before it." "Paragraphs keep their rule." The place is the first position
+  -- of either sort, from 2 on. (That a section is accepted exactly where the nonzero sentences never fall is `units-exactly` of demand 2.)
+  pub refused-exactly : (p : ℕ)
+      → (faultyPosition section ≡ some p) ↔ FirstWith (λ q. SentenceFalls section q ⊎ ParagraphBreaks section q) (fromTo 2 (size section)) p
+  -- "Sentence zero may now stand among numbered ones, in any place": no section is refused that wasn't; and one whose sentences are all zero, or all
+  -- nonzero, is refused where it was.
+  pub accepted-before : faultyBefore section ≡ none → faultyPosition section ≡ none
+  pub as-before : NotReported (sentenceAt section) (size section) ⊎ AllNonzero (sentenceAt section) (size section)
+      → faultyPosition section ≡ faultyBefore section
+
+-- a string starts in a sentence and ends in one
+pub record InSentences (s : Section) (i : Str) : Type 0 where
+  pub starts : 1 ≤ s .sentence (i .start)
+  pub ends : 1 ≤ s .sentence (i .end)
+
+pub record Headings : Type 0 where
+  pub sections : (section : List ℕ) → HeadingsOf section
+  -- "Section headings have no sentence": so no string of a match that same sentence or different sentence gives starts or ends in a heading, whatever the
+  -- section.
+  pub same-sentence : (s : Section) (ms : List Match) → AllList (InSentences s) (filterList s SameSentence ms)
+  pub different-sentence : (s : Section) (ms : List Match) → AllList (InSentences s) (filterList s DifferentSentence ms)

@@ -1,7 +1,7 @@
-// The three demands hold, and what document 02's F-1 says of typed searches, F-2 of spans, F-3 of occurs and F-4 of filters that the walk reaches:
-// specs/Demands.antt and Requests.antt state them, and the crate isn't proved unless proofs/ inhabits each. Nothing imports it.
+// The three demands hold, and what document 02's F-1 says of typed searches, F-2 of spans, F-3 of occurs, F-4 of filters that the walk reaches and F-5 of
+// headings: specs/Demands.antt and Requests.antt state them, and the crate isn't proved unless proofs/ inhabits each. Nothing imports it.
 ghost use Rattle.theorems.specs.Demands.{Demand1, Demand2, Demand3};
-ghost use Rattle.theorems.specs.Requests.{EarlyWayOut, OccursChosen, SpansRead, TypedSearches};
+ghost use Rattle.theorems.specs.Requests.{EarlyWayOut, Headings, OccursChosen, SpansRead, TypedSearches};
 
 pub fn demands_hold()
     ensures { λ _. ⌜ Demand1 ⌝ }
@@ -11,4 +11,5 @@ pub fn demands_hold()
     ensures { λ _. ⌜ SpansRead ⌝ }
     ensures { λ _. ⌜ OccursChosen ⌝ }
     ensures { λ _. ⌜ EarlyWayOut ⌝ }
+    ensures { λ _. ⌜ Headings ⌝ }
 {}

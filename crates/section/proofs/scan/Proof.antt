@@ -1,11 +1,11 @@
 -- Invariant: what the look at the positions after p finds is what the whole look finds, and `last` is the last nonzero sentence up to p. Measure: the
 -- positions left.
-use Prim.Native.Nat.{_+_, _-_, _≤_}
+use Prim.Native.Nat.{_-_, _≤_}
 use borrow.Author.Needs.{needs}
 use native.Mathlib.Omega.{arith}
 use mathlib.Core.Path.{_≡_, refl, sym, ap, _∙_}
 use Rattle.model.specs.Checks.{lastNonzero}
-use Rattle.model.specs.Section.{size, sentenceAt}
+use Rattle.model.specs.Section.{sentenceAt}
 use Rattle.section.specs.declared.Looked.the-variants.{Sound}
 use Rattle.section.specs.Looks.{faultyAfter}
 use Rattle.section.proofs.LooksLaws.{no-position, faulty-next, sound-next, faulty-told, last-told}
