@@ -13,8 +13,8 @@ use Rattle.model.specs.Lists.{first, fromTo}
 use Rattle.model.specs.Section.{size, sentenceAt}
 use Rattle.model.proofs.ChecksLaws.{last-zero, last-some}
 use Rattle.model.proofs.ListsLaws.{first-append, range-append, first-range-empty, first-range-here, first-range-later}
-use Rattle.section.specs.declared.Looked.{Looked}
-use Rattle.section.specs.declared.Looked.the-variants.{Faulty, Sound, Unclear}
+use Rattle.section.specs.declared.looks.Looked.{Looked}
+use Rattle.section.specs.declared.looks.Looked.the-variants.{Faulty, Sound, Unclear}
 use Rattle.section.specs.Looks.{faultyAfter, lookOf, lastAfter, Faultless}
 
 -- ---- lookOf: what an answer tells, where it may also be unclear

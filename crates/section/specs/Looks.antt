@@ -8,8 +8,8 @@ use lib.Dec.{eqb}
 use Rattle.model.specs.Checks.{lastNonzero, faultyAt}
 use Rattle.model.specs.Lists.{first, fromTo}
 use Rattle.model.specs.Section.{sentenceAt}
-use Rattle.section.specs.declared.Looked.{Looked}
-use Rattle.section.specs.declared.Looked.the-variants.{Faulty, Sound}
+use Rattle.section.specs.declared.looks.Looked.{Looked}
+use Rattle.section.specs.declared.looks.Looked.the-variants.{Faulty, Sound}
 
 -- the first that is faulty
 unfoldable pub faultyAfter : List ℕ → ℕ → ℕ → Option ℕ

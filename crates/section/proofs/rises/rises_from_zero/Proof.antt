@@ -1,7 +1,7 @@
 -- Two cases, by the first number.
 use borrow.Author.Tests.{eq-eqb, ne-eqb}
-use Rattle.section.proofs.rises_from_zero.Statement.{statement}
-use Rattle.section.proofs.rises_from_zero.Tie as tie
+use Rattle.section.proofs.rises.rises_from_zero.Statement.{statement}
+use Rattle.section.proofs.rises.rises_from_zero.Tie as tie
 
 returns : tie.Need-returns
 returns c = rw (ne-eqb _ _ (c .if1 .taken))

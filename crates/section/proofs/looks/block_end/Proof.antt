@@ -3,8 +3,8 @@ use Prim.Native.Nat.{_≤_}
 use borrow.Author.Needs.{needs}
 use native.Mathlib.Omega.{arith}
 use mathlib.Core.Logic.{⊎-elim}
-use Rattle.section.proofs.block_end.Statement.{statement}
-use Rattle.section.proofs.block_end.Tie as tie
+use Rattle.section.proofs.looks.block_end.Statement.{statement}
+use Rattle.section.proofs.looks.block_end.Tie as tie
 
 sub-if2 : tie.Need-sub-if2
 sub-if2 c = search needs

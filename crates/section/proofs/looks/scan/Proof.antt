@@ -6,11 +6,11 @@ use native.Mathlib.Omega.{arith}
 use mathlib.Core.Path.{_≡_, refl, sym, ap, _∙_}
 use Rattle.model.specs.Checks.{lastNonzero}
 use Rattle.model.specs.Section.{sentenceAt}
-use Rattle.section.specs.declared.Looked.the-variants.{Sound}
+use Rattle.section.specs.declared.looks.Looked.the-variants.{Sound}
 use Rattle.section.specs.Looks.{faultyAfter}
 use Rattle.section.proofs.LooksLaws.{no-position, faulty-next, sound-next, faulty-told, last-told}
-use Rattle.section.proofs.scan.Statement.{statement}
-use Rattle.section.proofs.scan.Tie as tie
+use Rattle.section.proofs.looks.scan.Statement.{statement}
+use Rattle.section.proofs.looks.scan.Tie as tie
 
 abbrev Inv-loop : tie.InvT-loop
 Inv-loop section n from to before last₀ p₀ last p =

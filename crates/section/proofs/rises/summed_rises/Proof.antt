@@ -6,8 +6,8 @@ use borrow.Author.Needs.{needs}
 use native.Mathlib.Omega.{arith}
 use Rattle.section.specs.Rises.{SummedRises}
 use Rattle.section.proofs.RisesLaws.{summed-none, summed-more}
-use Rattle.section.proofs.summed_rises.Statement.{statement}
-use Rattle.section.proofs.summed_rises.Tie as tie
+use Rattle.section.proofs.rises.summed_rises.Statement.{statement}
+use Rattle.section.proofs.rises.summed_rises.Tie as tie
 
 abbrev Inv-loop : tie.InvT-loop
 Inv-loop section n from to sum₀ p₀ sum p = (from ≤ p) × (p ≤ to) × SummedRises section from p sum

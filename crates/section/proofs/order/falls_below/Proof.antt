@@ -1,7 +1,7 @@
 -- Two cases: zero, which is below nothing here, and any other number.
 use borrow.Author.Tests.{eq-eqb, ne-eqb}
-use Rattle.section.proofs.falls_below.Statement.{statement}
-use Rattle.section.proofs.falls_below.Tie as tie
+use Rattle.section.proofs.order.falls_below.Statement.{statement}
+use Rattle.section.proofs.order.falls_below.Tie as tie
 
 returns : tie.Need-returns
 returns c = rw (eq-eqb _ _ (c .if1 .taken))

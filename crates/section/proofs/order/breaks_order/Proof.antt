@@ -1,7 +1,7 @@
 -- Two cases, after a zero and after any other number (OrderLaws).
 use Rattle.section.proofs.OrderLaws.{after-zero, after-some}
-use Rattle.section.proofs.breaks_order.Statement.{statement}
-use Rattle.section.proofs.breaks_order.Tie as tie
+use Rattle.section.proofs.order.breaks_order.Statement.{statement}
+use Rattle.section.proofs.order.breaks_order.Tie as tie
 
 returns : tie.Need-returns
 returns c = let a = c .before .before .before .args in after-zero (a .here .0) (a .before .0) (c .before .if1 .taken)

@@ -7,8 +7,8 @@ use mathlib.Core.Logic.{inl, inr}
 use mathlib.Core.Path.{sym, _∙_}
 use Rattle.model.proofs.TestsLaws.{false-true}
 use Rattle.section.proofs.RisesLaws.{faultless}
-use Rattle.section.proofs.is_faultless.Statement.{statement}
-use Rattle.section.proofs.is_faultless.Tie as tie
+use Rattle.section.proofs.rises.is_faultless.Statement.{statement}
+use Rattle.section.proofs.rises.is_faultless.Tie as tie
 
 add-first : tie.Need-add-first
 add-first c = search needs

@@ -10,8 +10,8 @@ use Rattle.model.specs.Checks.{lastNonzero, faultyPosition}
 use Rattle.model.specs.Section.{size, sentenceAt}
 use Rattle.section.specs.Looks.{faultyAfter}
 use Rattle.section.proofs.LooksLaws.{look-faulty, look-sound, look-unclear, whole, no-position, found-first, found-later, last-first}
-use Rattle.section.proofs.first_faulty.Statement.{statement}
-use Rattle.section.proofs.first_faulty.Tie as tie
+use Rattle.section.proofs.looks.first_faulty.Statement.{statement}
+use Rattle.section.proofs.looks.first_faulty.Tie as tie
 
 abbrev Inv-loop : tie.InvT-loop
 Inv-loop section n last₀ p₀ close-until₀ last p close-until =

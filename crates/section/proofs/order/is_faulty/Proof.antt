@@ -1,8 +1,8 @@
 -- Its sentence by one rule, its paragraph by the other.
 use borrow.Author.Needs.{needs}
 use mathlib.Core.Path.{sym, _∙_}
-use Rattle.section.proofs.is_faulty.Statement.{statement}
-use Rattle.section.proofs.is_faulty.Tie as tie
+use Rattle.section.proofs.order.is_faulty.Statement.{statement}
+use Rattle.section.proofs.order.is_faulty.Tie as tie
 
 falls-below-requires : tie.Need-falls-below-requires
 falls-below-requires c κs = search needs

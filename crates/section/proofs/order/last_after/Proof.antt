@@ -1,7 +1,7 @@
 -- Two cases, by the number.
 use borrow.Author.Tests.{eq-eqb, ne-eqb}
-use Rattle.section.proofs.last_after.Statement.{statement}
-use Rattle.section.proofs.last_after.Tie as tie
+use Rattle.section.proofs.order.last_after.Statement.{statement}
+use Rattle.section.proofs.order.last_after.Tie as tie
 
 returns : tie.Need-returns
 returns c = rw (eq-eqb _ _ (c .if1 .taken))

@@ -3,10 +3,10 @@ use borrow.Author.Needs.{needs}
 use borrow.Author.Tests.{not-true}
 use mathlib.Core.Logic.{inl, inr}
 use mathlib.Core.Path.{refl, ap}
-use Rattle.section.specs.declared.Looked.the-variants.{Sound}
+use Rattle.section.specs.declared.looks.Looked.the-variants.{Sound}
 use Rattle.section.proofs.LooksLaws.{last-of-block}
-use Rattle.section.proofs.look.Statement.{statement}
-use Rattle.section.proofs.look.Tie as tie
+use Rattle.section.proofs.looks.look.Statement.{statement}
+use Rattle.section.proofs.looks.look.Tie as tie
 
 is-faultless-requires : tie.Need-is-faultless-requires
 is-faultless-requires c κs = search needs
