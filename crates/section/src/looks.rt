@@ -10,10 +10,10 @@ ghost use mathlib.Core.Logic.{_⊎_};
 ghost use Prim.Native.Nat.{_+_, _*_, _≤_, _<_};
 ghost use lib.ListN.{length};
 ghost use Rattle.model.specs.Answers.{faultOf};
-ghost use Rattle.model.specs.Checks.{faultyPosition, lastNonzero};
+ghost use Rattle.model.specs.Checks.{faultyPosition};
 ghost use Rattle.model.specs.Limits.{maxTokens};
-ghost use Rattle.model.specs.Section.{sentenceAt, size};
-ghost use Rattle.section.specs.Looks.{lookedAt};
+ghost use Rattle.model.specs.Section.{size};
+ghost use Rattle.section.specs.Looks.{LookGiven, lookedAt};
 ghost use Rattle.section.specs.declared.looks.Looked.the-variants.{Unclear};
 
 // How many positions are looked at together, and how many where they have to be looked at more closely.
@@ -33,9 +33,7 @@ enum Looked {
 
 // The positions after `from` up to `to`, one by one.
 fn scan(section: &[u32], n: usize, from: usize, to: usize, before: u32) -> Looked
-    requires { ⌜ n ≡ size (now section) ⌝ }
-    requires { ⌜ (1 ≤ from) × (from ≤ to) × (to ≤ n) × (n ≤ maxTokens) × (length (now section) ≡ 1 + 2 * n) ⌝ }
-    requires { ⌜ before ≡ lastNonzero (sentenceAt (now section)) from ⌝ }
+    requires { ⌜ LookGiven (now section) n from to before ⌝ }
     ensures { λ r. ⌜ r ≡ lookedAt (now (section .entry)) from to ⌝ }
 {
     let mut last = before;
@@ -53,9 +51,7 @@ fn scan(section: &[u32], n: usize, from: usize, to: usize, before: u32) -> Looke
 
 // The positions after `from` up to `to`: together, and, if they are looked at closely, one by one where that doesn't tell.
 fn look(section: &[u32], n: usize, from: usize, to: usize, closely: bool, last: u32) -> Looked
-    requires { ⌜ n ≡ size (now section) ⌝ }
-    requires { ⌜ (1 ≤ from) × (from ≤ to) × (to ≤ n) × (n ≤ maxTokens) × (length (now section) ≡ 1 + 2 * n) ⌝ }
-    requires { ⌜ last ≡ lastNonzero (sentenceAt (now section)) from ⌝ }
+    requires { ⌜ LookGiven (now section) n from to last ⌝ }
     ensures { λ r. ⌜ (r ≡ lookedAt (now (section .entry)) from to) ⊎ ((r ≡ Unclear) × (closely ≡ false)) ⌝ }
 {
     if is_faultless(section, n, from, to, last) {

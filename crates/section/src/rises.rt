@@ -5,10 +5,9 @@ ghost use mathlib.Core.Bool.{not, true, _&&_};
 ghost use Prim.Native.Nat.{_+_, _*_, _≤_};
 ghost use lib.Dec.{eqb};
 ghost use lib.ListN.{length};
-ghost use Rattle.model.specs.Checks.{lastNonzero};
 ghost use Rattle.model.specs.Limits.{maxTokens};
-ghost use Rattle.model.specs.Section.{sentenceAt, size};
-ghost use Rattle.section.specs.Looks.{Faultless};
+ghost use Rattle.model.specs.Section.{size};
+ghost use Rattle.section.specs.Looks.{Faultless, LookGiven};
 ghost use Rattle.section.specs.Rises.{SummedRises};
 
 // How far the paragraph numbers rise between two positions: each place less the one before it, modulo 2^32, and of that the upper half, summed. No turn of
@@ -42,9 +41,7 @@ fn rises_from_zero(first: u32, last: u32) -> bool
 // of the place, and there are fewer falls than 65,536: where it is the rise from first to last, nothing falls. Numbers that never fall are zero beside
 // nonzero only if they rise from zero. Sentences may do that if none was nonzero before.
 pub fn is_faultless(section: &[u32], n: usize, from: usize, to: usize, last: u32) -> bool
-    requires { ⌜ n ≡ size (now section) ⌝ }
-    requires { ⌜ (1 ≤ from) × (from ≤ to) × (to ≤ n) × (n ≤ maxTokens) × (length (now section) ≡ 1 + 2 * n) ⌝ }
-    requires { ⌜ last ≡ lastNonzero (sentenceAt (now section)) from ⌝ }
+    requires { ⌜ LookGiven (now section) n from to last ⌝ }
     ensures { λ r. ⌜ (r ≡ true → Faultless (now (section .entry)) from to) ⌝ }
 {
     let first = section[n + from];

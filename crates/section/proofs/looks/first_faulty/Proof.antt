@@ -42,7 +42,8 @@ block-end-requires : tie.Need-block-end-requires Inv-loop μ-loop
 block-end-requires c κs = search needs
 
 look-requires : tie.Need-look-requires Inv-loop μ-loop
-look-requires c κs = (c .before .before .before .before .before .before .pre .0, ((omega arith, omega arith, omega arith, omega arith, omega arith), c .before .before .loop .inv .3))
+look-requires c κs =
+    record { size-is = c .before .before .before .before .before .before .pre .0; few = omega arith; sized = omega arith; from-one = omega arith; in-order = omega arith; up-to = omega arith; last-is = c .before .before .loop .inv .3 }
 
 enum-known-looked : tie.Need-enum-known-looked Inv-loop μ-loop
 enum-known-looked c = search needs

@@ -29,7 +29,7 @@ returns c =
     let s = a .section .now in
     let pre = c .before .before .before .before .before .pre in
     let f = c .before .before .before .is-faultless .ensures (c .before .before .if1 .taken) in
-    inl (rw (f .none-faulty) (ap Sound (last-of-block s (a .n) (a .from) (a .to) (a .last) _ (pre .0) (pre .1 .1) f (c .last-after .ensures))))
+    inl (rw (f .none-faulty) (ap Sound (last-of-block s (a .n) (a .from) (a .to) (a .last) _ (pre .size-is) (pre .last-is) f (c .last-after .ensures))))
 
 returns-2 : tie.Need-returns-2
 returns-2 c = inr (refl, not-true _ (c .if2 .taken))

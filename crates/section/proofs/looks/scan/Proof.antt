@@ -20,7 +20,7 @@ abbrev μ-loop : tie.MeasureT-loop
 μ-loop section n from to before last₀ p₀ last p = to - p
 
 loop-holds : tie.Need-loop-holds Inv-loop μ-loop
-loop-holds c = (omega arith, omega arith, c .before .pre .1 .1, refl)
+loop-holds c = (omega arith, omega arith, c .before .pre .last-is, refl)
 
 add-here : tie.Need-add-here Inv-loop μ-loop
 add-here c = search needs
@@ -57,7 +57,7 @@ returns c =
     let i = c .before .before .before .before .before .loop .inv in
     let a = c .before .before .before .before .before .before .before .args in
     let s = a .section .now in
-    let faulty = faulty-told s (a .n) (c .before .before .before .before .before .loop .p) _ (c .before .before .before .before .before .before .before .pre .0) (i .2) _ (c .before .is-faulty .ensures) ∙ c .if1 .taken in
+    let faulty = faulty-told s (a .n) (c .before .before .before .before .before .loop .p) _ (c .before .before .before .before .before .before .before .pre .size-is) (i .2) _ (c .before .is-faulty .ensures) ∙ c .if1 .taken in
     let e = sym (i .3) ∙ faulty-next s (c .before .before .before .before .before .loop .p) (a .to) (omega arith) faulty in
     rw e
 
@@ -75,8 +75,8 @@ loop-again c =
     let i = c .before .before .before .before .before .before .loop .inv in
     let a = c .before .before .before .before .before .before .before .before .args in
     let s = a .section .now in
-    let sound = faulty-told s (a .n) (c .before .before .before .before .before .before .loop .p) _ (c .before .before .before .before .before .before .before .before .pre .0) (i .2) _ (c .before .before .is-faulty .ensures) ∙ c .before .if1 .left in
-    (omega arith, omega arith, last-told s (a .n) (c .before .before .before .before .before .before .loop .p) _ (c .before .before .before .before .before .before .before .before .pre .0) (i .2) _ (c .last-after .ensures), sym (sound-next s (c .before .before .before .before .before .before .loop .p) (a .to) (omega arith) sound) ∙ i .3)
+    let sound = faulty-told s (a .n) (c .before .before .before .before .before .before .loop .p) _ (c .before .before .before .before .before .before .before .before .pre .size-is) (i .2) _ (c .before .before .is-faulty .ensures) ∙ c .before .if1 .left in
+    (omega arith, omega arith, last-told s (a .n) (c .before .before .before .before .before .before .loop .p) _ (c .before .before .before .before .before .before .before .before .pre .size-is) (i .2) _ (c .last-after .ensures), sym (sound-next s (c .before .before .before .before .before .before .loop .p) (a .to) (omega arith) sound) ∙ i .3)
 
 returns-2 : tie.Need-returns-2 Inv-loop μ-loop
 returns-2 c =

@@ -47,10 +47,10 @@ returns-3 : tie.Need-returns-3
 returns-3 c = λ t.
     let a = c .before .before .before .before .before .before .before .before .args in
     let pre = c .before .before .before .before .before .before .before .before .pre in
-    faultless (a .section .now) (a .from) (a .to) (omega arith) (omega arith) (a .n) _ (a .last) (pre .0) (omega arith) (c .before .before .before .before .summed-rises .ensures)
+    faultless (a .section .now) (a .from) (a .to) (omega arith) (omega arith) (a .n) _ (a .last) (pre .size-is) (omega arith) (c .before .before .before .before .summed-rises .ensures)
     (c .before .before .before .if1 .left)
     (sym (c .before .before .rises-from-zero .ensures) ∙ c .before .if2 .left)
-    (pre .1 .1)
+    (pre .last-is)
     (inl (c .if3 .taken))
 
 rises-from-zero-requires-2 : tie.Need-rises-from-zero-requires-2
@@ -60,10 +60,10 @@ returns-4 : tie.Need-returns-4
 returns-4 c = λ t.
     let a = c .before .before .before .before .before .before .before .before .before .args in
     let pre = c .before .before .before .before .before .before .before .before .before .pre in
-    faultless (a .section .now) (a .from) (a .to) (omega arith) (omega arith) (a .n) _ (a .last) (pre .0) (omega arith) (c .before .before .before .before .before .summed-rises .ensures)
+    faultless (a .section .now) (a .from) (a .to) (omega arith) (omega arith) (a .n) _ (a .last) (pre .size-is) (omega arith) (c .before .before .before .before .before .summed-rises .ensures)
     (c .before .before .before .before .if1 .left)
     (sym (c .before .before .before .rises-from-zero .ensures) ∙ c .before .before .if2 .left)
-    (pre .1 .1)
+    (pre .last-is)
     (inr (sym (c .rises-from-zero2 .ensures) ∙ not-true _ t))
 
 pub is-faultless-spec : {M : Type 1} → statement M
