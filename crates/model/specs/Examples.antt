@@ -143,9 +143,9 @@ emptySection = 0 ∷ []
 four : List ℕ
 four = inParagraph 0 (1 ∷ 2 ∷ 3 ∷ 4 ∷ []) (0 ∷ 0 ∷ 0 ∷ 0 ∷ [])
 
--- the words of six: a heading of two, and one word without a sentence inside sentence 1
+-- the words of six: a heading of two, and one word without a sentence between words of sentence 2
 headed : List ℕ
-headed = inParagraph 1 (10 ∷ 20 ∷ 30 ∷ 10 ∷ 40 ∷ 20 ∷ []) (0 ∷ 0 ∷ 1 ∷ 1 ∷ 0 ∷ 1 ∷ [])
+headed = inParagraph 1 (10 ∷ 20 ∷ 30 ∷ 10 ∷ 40 ∷ 20 ∷ []) (0 ∷ 0 ∷ 1 ∷ 2 ∷ 0 ∷ 2 ∷ [])
 
 -- n tokens of the word 7
 sevens : ℕ → List ℕ
@@ -250,15 +250,16 @@ entries =
     ∷ record { section = six; selection = select (0 ∷ 1 ∷ 7 ∷ 6 ∷ []) (10 ∷ 1 ∷ 129 ∷ 0 ∷ []); claims = refused 9 3 ∷ [] }
     ∷ record { section = sevens 8; selection = select (0 ∷ 1 ∷ 17 ∷ 6 ∷ []) (7 ∷ 1 ∷ 4 ∷ 0 ∷ []); claims = refused 9 3 ∷ [] }
     ∷ record { section = six; selection = select (0 ∷ 1 ∷ 7 ∷ 0 ∷ 1 ∷ 5 ∷ []) (10 ∷ 1 ∷ 129 ∷ 20 ∷ 1 ∷ 0 ∷ []); claims = refused 9 3 ∷ [] }
-    -- F-5: 10 and 20 in the same sentence, in different ones, and in the same paragraph
+    -- F-5: 10 and 20 in the same sentence, in different ones, and in the same paragraph; 30 and 20 in different sentences
     ∷ record { section = headed; selection = select (0 ∷ 1 ∷ 0 ∷ 1 ∷ 3 ∷ 9 ∷ []) (10 ∷ 1 ∷ 20 ∷ 1 ∷ 0 ∷ 0 ∷ []); claims = lists (both 4 6 ∷ []) ∷ answers true ∷ [] }
     ∷ record { section = headed; selection = select (0 ∷ 1 ∷ 0 ∷ 1 ∷ 3 ∷ 11 ∷ []) (10 ∷ 1 ∷ 20 ∷ 1 ∷ 0 ∷ 0 ∷ []); claims = lists [] ∷ answers false ∷ [] }
     ∷ record { section = headed; selection = select (0 ∷ 1 ∷ 0 ∷ 1 ∷ 3 ∷ 10 ∷ []) (10 ∷ 1 ∷ 20 ∷ 1 ∷ 0 ∷ 0 ∷ []); claims = hasMatches 4 ∷ answers true ∷ [] }
-    -- 10 and not 40, and the same in the same sentence: the 40 is in none, and no longer excludes; and not that
+    ∷ record { section = headed; selection = select (0 ∷ 1 ∷ 0 ∷ 1 ∷ 3 ∷ 11 ∷ []) (30 ∷ 1 ∷ 20 ∷ 1 ∷ 0 ∷ 0 ∷ []); claims = lists (both 3 6 ∷ []) ∷ answers true ∷ [] }
+    -- 10 and not 40; the same in the same sentence, where the 40 is in none and no longer excludes; the not of that
     ∷ record { section = headed; selection = select (0 ∷ 1 ∷ 0 ∷ 1 ∷ 4 ∷ 3 ∷ []) (10 ∷ 1 ∷ 40 ∷ 1 ∷ 0 ∷ 0 ∷ []); claims = answers false ∷ [] }
     ∷ record { section = headed; selection = select (0 ∷ 1 ∷ 0 ∷ 1 ∷ 4 ∷ 3 ∷ 9 ∷ []) (10 ∷ 1 ∷ 40 ∷ 1 ∷ 0 ∷ 0 ∷ 0 ∷ []); claims = lists (one true 1 4 4 ∷ []) ∷ answers true ∷ [] }
     ∷ record { section = headed; selection = select (0 ∷ 1 ∷ 0 ∷ 1 ∷ 4 ∷ 3 ∷ 9 ∷ 4 ∷ []) (10 ∷ 1 ∷ 40 ∷ 1 ∷ 0 ∷ 0 ∷ 0 ∷ 0 ∷ []); claims = answers false ∷ [] }
-    -- a fall, and one behind zeros; the same number, and a zero at the end; paragraph 0 after 1
+    -- a fall, and one after zeros; the same number after a zero, and a zero at the end; paragraph 0 after 1
     ∷ record { section = inParagraph 1 (7 ∷ 7 ∷ 7 ∷ []) (0 ∷ 2 ∷ 1 ∷ []); selection = select (0 ∷ 1 ∷ []) (7 ∷ 1 ∷ []); claims = refused 2 3 ∷ [] }
     ∷ record { section = inParagraph 1 (7 ∷ 7 ∷ 7 ∷ 7 ∷ []) (2 ∷ 0 ∷ 0 ∷ 1 ∷ []); selection = select (0 ∷ 1 ∷ []) (7 ∷ 1 ∷ []); claims = refused 2 4 ∷ [] }
     ∷ record { section = inParagraph 1 (7 ∷ 7 ∷ 7 ∷ 7 ∷ []) (2 ∷ 0 ∷ 2 ∷ 0 ∷ []); selection = select (0 ∷ 1 ∷ []) (7 ∷ 1 ∷ []); claims = hasMatches 4 ∷ answers true ∷ [] }

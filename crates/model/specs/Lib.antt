@@ -1,4 +1,4 @@
--- The meaning of document 01, in its order, with document 02's F-3 and F-4 ..
+-- The meaning of document 01, in its order, with document 02's F-3 to F-5 ..
 pub mod Limits
 pub mod Lists
 pub mod Section

@@ -38,7 +38,7 @@ lookedAt section from to = lookOf (faultyAfter section from to) (lastNonzero (se
 abbrev pub lastAfter : ℕ → ℕ → ℕ
 lastAfter last here = cond (eqb here 0) last here
 
--- None is faulty; and if the last has no sentence, none of them has.
+-- None is faulty; the last nonzero sentence up to `to` is that at `to`, or, where that is zero, the one up to `from`.
 pub record Faultless (section : List ℕ) (from to : ℕ) : Type 0 where
   pub none-faulty : faultyAfter section from to ≡ none
   pub last-is : lastNonzero (sentenceAt section) to ≡ lastAfter (lastNonzero (sentenceAt section) from) (sentenceAt section to)

@@ -2,7 +2,7 @@
 -- that is one now, and more. What same and different sentence keep has passed their tests for nonzero sentences.
 use Prim.Native.Nat.{ℕ, zero, suc, _+_, _-_, _≤_, _<_}
 use native.Mathlib.Omega.{arith}
-use mathlib.Core.Path.{_≡_, refl, sym, ap}
+use mathlib.Core.Path.{_≡_, refl, sym, ap, _∙_}
 use mathlib.Core.Bool.{Bool, true, false, not, _&&_, _||_, cond, xor, or-false}
 use mathlib.Core.List.{List, [], _∷_, flatMap}
 use mathlib.Core.Logic.{_↔_, _⊎_, inl, inr, ⊎-elim}
@@ -23,7 +23,7 @@ use Rattle.model.proofs.ChecksLaws.{last-some, last-found, last-is, reported, f
 use Rattle.model.proofs.EveryLaws.{every-append}
 use Rattle.model.proofs.ListsLaws.{first-range-none}
 use Rattle.model.proofs.TestsLaws.{false-true, both-true, both-false, positive}
-use Rattle.theorems.specs.Requests.{SentenceFalls, ParagraphBreaks, faultyBefore, AllNonzero, HeadingsOf, InSentences, Headings}
+use Rattle.theorems.specs.Requests.{SentenceFalls, ParagraphBreaks, faultyBefore, AllNonzero, HeadingsOf, SomeZeroed, InSentences, Headings}
 use Rattle.theorems.proofs.WordsLaws.{first-exactly}
 
 -- ---- the tests, in words
@@ -125,6 +125,30 @@ headings-of section =
       as-before = same-as-before section;
     }
 
+-- ---- some sentences zero
+
+module _ (section other : List ℕ) (z : SomeZeroed section other) where
+  zeroed-never : NonzeroNeverFall (sentenceAt section) (size section) → NonzeroNeverFall (sentenceAt other) (size other)
+  zeroed-never never p q h k l x y =
+      let kept-at : (i : ℕ) → 1 ≤ i → i ≤ size section → 1 ≤ sentenceAt other i → sentenceAt other i ≡ sentenceAt section i =
+      λ i one up some-unit. ⊎-elim (λ e. absurd (omega (arith, e, some-unit))) (λ e. e) (z .sentences i one up) in
+      let before = kept-at p h (omega (arith, z .same-size)) x in
+      let here = kept-at q (omega arith) (omega (arith, z .same-size)) y in
+      omega (arith, before, here, never p q h k (omega (arith, z .same-size)) (omega (arith, before, x)) (omega (arith, here, y)))
+
+  zeroed-reported : ReportedOrNot (paragraphAt section) (size section) → ReportedOrNot (paragraphAt other) (size other)
+  zeroed-reported (inl zeros) = inl (λ p h k. z .paragraphs p h (omega (arith, z .same-size)) ∙ zeros p h (omega (arith, z .same-size)))
+  zeroed-reported (inr r) =
+      let same-at : (i : ℕ) → 1 ≤ i → i ≤ size other → paragraphAt other i ≡ paragraphAt section i = λ i one up. z .paragraphs i one (omega (arith, up, z .same-size)) in
+      inr
+      (record {
+        nonzero = λ p h k. omega (arith, same-at p h k, r .nonzero p h (omega (arith, k, z .same-size)));
+        never-falling = λ p q h k l. omega (arith, same-at p h (omega (arith, k, l)), same-at q (omega (arith, h, k)) l, r .never-falling p q h k (omega (arith, l, z .same-size)));
+      })
+
+  zeroed : faultyPosition section ≡ none → faultyPosition other ≡ none
+  zeroed e = let units = faultyPosition-none section .0 e in faultyPosition-none other .1 (zeroed-never (units .0), zeroed-reported (units .1))
+
 -- ---- what same and different sentence keep
 
 all-passed : {A : Type 0} (P : A → Type 0) (p : A → Bool) → ((x : A) → p x ≡ true → P x) → (xs : List A) → allOf p xs ≡ true → Every P xs
@@ -190,4 +214,4 @@ module _ (s : Section) where
       (λ is e t. units-nonzero e (both-true (unitsNonzero (s .sentence) e) (allOf (unitsApart (s .sentence) e) is) t .0)) ms
 
 pub headings : Headings
-headings = record { sections = headings-of; same-sentence = same-in; different-sentence = different-in }
+headings = record { sections = headings-of; in-any-place = zeroed; same-sentence = same-in; different-sentence = different-in }

@@ -68,7 +68,7 @@ QuickRefuses answer r = answer ≡ QuickRefused r
 abbrev pub RefusesForSize : Quick → ℕ → Type 0
 RefusesForSize answer place = QuickRefuses answer (refusal 9 place)
 
--- Document 01's table of refusals with document 02's F-3, for some input: each row has a number, and the place where it falls, if it does.
+-- Document 01's table of refusals with document 02's F-3 and F-5, for some input: each row has a number, and the place where it falls, if it does.
 -- model/specs/Checks.antt has the table's words beside each.
 pub record Row : Type 0 where
   pub number : ℕ

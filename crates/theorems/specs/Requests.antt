@@ -1,6 +1,6 @@
 -- What document 02's F-1 to F-5 say, request by request, over the definitions that the calls' contracts name: for the answer of its text a typed call answers
 -- `typedListing ..`, `typedQuick ..`, `readAnswer ..` (engine/src/lib.rt). F-2 speaks of no call, but of what is read inside them; F-3 of the lists, F-4
--- of the walk and F-5 of refusal 2, which the calls answer by. proofs/ has a proof of each.
+-- of the walk, F-5 of refusal 2 and of two filters, which the calls answer by. proofs/ has a proof of each.
 -- Quotation marks enclose document 02's words, or document 01's where it is named. The words are those of Demands.antt.
 use Prim.Native.Nat.{ℕ, suc, _-_, _/_, _%_, _^_, _≤_, _<_}
 use mathlib.Core.Bool.{Bool, true, not, _||_}
@@ -240,14 +240,20 @@ AllNonzero unit n = (p : ℕ) → 1 ≤ p → p ≤ n → 1 ≤ unit p
 -- for a section
 pub record HeadingsOf (section : List ℕ) : Type 0 where
   -- "For sentences, refusal 2 falls on a nonzero one below the last nonzero one before it." "Paragraphs keep their rule." The place is the first position
-  -- of either sort, from 2 on. (That a section is accepted exactly where the nonzero sentences never fall is `units-exactly` of demand 2.)
+  -- of either sort, from 2 on. (That it falls on no section exactly where "the nonzero ones still never fall", and paragraphs keep their rule, is
+  -- `units-exactly` of demand 2.)
   pub refused-exactly : (p : ℕ)
       → (faultyPosition section ≡ some p) ↔ FirstWith (λ q. SentenceFalls section q ⊎ ParagraphBreaks section q) (fromTo 2 (size section)) p
-  -- "Sentence zero may now stand among numbered ones, in any place": no section is refused that wasn't; and one whose sentences are all zero, or all
-  -- nonzero, is refused where it was.
+  -- It falls on no more than before; and where sentences are all zero, or all nonzero, where it did.
   pub accepted-before : faultyBefore section ≡ none → faultyPosition section ≡ none
   pub as-before : NotReported (sentenceAt section) (size section) ⊎ AllNonzero (sentenceAt section) (size section)
       → faultyPosition section ≡ faultyBefore section
+
+-- a section, and the same with some sentences zero
+pub record SomeZeroed (section other : List ℕ) : Type 0 where
+  pub same-size : size other ≡ size section
+  pub sentences : (p : ℕ) → 1 ≤ p → p ≤ size section → (sentenceAt other p ≡ 0) ⊎ (sentenceAt other p ≡ sentenceAt section p)
+  pub paragraphs : (p : ℕ) → 1 ≤ p → p ≤ size section → paragraphAt other p ≡ paragraphAt section p
 
 -- a string starts in a sentence and ends in one
 pub record InSentences (s : Section) (i : Str) : Type 0 where
@@ -256,7 +262,10 @@ pub record InSentences (s : Section) (i : Str) : Type 0 where
 
 pub record Headings : Type 0 where
   pub sections : (section : List ℕ) → HeadingsOf section
-  -- "Section headings have no sentence": so no string of a match that same sentence or different sentence gives starts or ends in a heading, whatever the
-  -- section.
+  -- "Sentence zero may now stand among numbered ones, in any place": refusal 2 doesn't fall where it didn't before they were zero.
+  pub in-any-place : (section other : List ℕ) → SomeZeroed section other → faultyPosition section ≡ none → faultyPosition other ≡ none
+  -- "Section headings have no sentence": so no string of a match that same sentence or different sentence gives starts or ends at a token without a
+  -- sentence, whatever the section.
   pub same-sentence : (s : Section) (ms : List Match) → AllList (InSentences s) (filterList s SameSentence ms)
   pub different-sentence : (s : Section) (ms : List Match) → AllList (InSentences s) (filterList s DifferentSentence ms)
+  -- "The listing and quick answer hold for these sections": the demands are of every section.
