@@ -32,11 +32,34 @@ fn text(n: usize) -> Vec<u32> {
     notation::section_of(words, 12, 60)
 }
 
+/// The same with so many headings of five tokens, the first at the start.
+fn headed(section: &[u32], headings: usize) -> Vec<u32> {
+    let n = section[0] as usize;
+    let in_heading = |at: &usize| at % (n / headings) < 5;
+    without_sentence(section, (0..n).filter(in_heading))
+}
+
+/// The same with some tokens that have no sentence, counted from 0.
+fn without_sentence(section: &[u32], tokens: impl Iterator<Item = usize>) -> Vec<u32> {
+    let mut section = section.to_vec();
+    let n = section[0] as usize;
+    tokens.for_each(|at| section[1 + n + at] &= 0xFFFF_0000);
+    section
+}
+
 pub fn all() -> Vec<Case> {
     let (short, long) = (text(400), text(4_096));
     let mut cases = vec![
         case("absent word, 400 tokens", &short, "9"),
         case("absent word, 4,096 tokens", &long, "9"),
+        case("absent word, 400 tokens, a heading", &headed(&short, 1), "9"),
+        case("absent word, 4,096 tokens, a heading", &headed(&long, 1), "9"),
+        case("absent word, 4,096 tokens, 20 headings", &headed(&long, 20), "9"),
+        case(
+            "absent word, 4,096 tokens, every second one without a sentence",
+            &without_sentence(&long, (0..4_096).step_by(2)),
+            "9",
+        ),
         case("rare word, 4,096 tokens", &long, "1"),
         case("common word, 400 tokens", &short, "2"),
         case("common word, 4,096 tokens", &long, "2"),

@@ -22,11 +22,11 @@ usage:
                                ftlist reads them
   manual --help, -h
 
-FILE. Markdown headings begin sections, and a heading's words belong to its
-section; blank lines part paragraphs; a sentence ends at . ! or ? before a blank
-or a line's end, so after 'approx.' too. A word is a run of letters and digits;
-large and small letters are alike; there are no wildcards, and no other forms of
-a word are found. The file is UTF-8.
+FILE. Markdown headings begin sections; a heading's words belong to its section,
+as a paragraph, and to no sentence. Blank lines part paragraphs; a sentence ends
+at . ! or ? before a blank or a line's end, so after 'approx.' too. A word is a
+run of letters and digits; large and small letters are alike; there are no
+wildcards, and no other forms of a word are found. The file is UTF-8.
 
 SEARCH. It stands in single quotes, so that the shell leaves the double ones.
 Its words are those of XQuery Full Text. A and B are searches:
@@ -52,7 +52,8 @@ After a search, or inside parentheses with it, any number of filters:
   entire content             the finds are the whole section
 Filters work from left to right. A window or a distance makes one find of
 several: after it 'ordered' always holds and 'different ..' never, so they stand
-before it.
+before it. 'same sentence' and 'different sentence' drop what is found in a
+heading; to look there too take 'same paragraph', a window or a distance.
 
 'occurs' counts the finds of the phrase just before it. Each choice of so many
 finds is a match, and many finds have too many choices. Up to seven in a section

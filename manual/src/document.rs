@@ -22,7 +22,7 @@ pub struct Section {
     pub line: usize,
     pub part: Part,
     pub tokens: Vec<Token>,
-    /// The bytes of each sentence; the first has number 1.
+    /// The bytes of each sentence, at its number; at 0 those of the heading.
     sentences: Vec<Range<usize>>,
 }
 
@@ -35,7 +35,8 @@ pub struct Part {
     pub is_inside: bool,
 }
 
-/// A word of a section: its bytes, and the sentence and the paragraph that it stands in, counted from 1.
+/// A word of a section: its bytes, and the sentence and the paragraph that it stands in, counted from 1. Sentence 0 is
+/// none: a heading's words have it.
 #[derive(Clone, Debug, PartialEq, Eq)]
 pub struct Token {
     pub bytes: Range<usize>,
@@ -76,13 +77,15 @@ impl Manual {
     fn read_sections(&self) -> Vec<Section> {
         let mut sections: Vec<Section> = Vec::new();
         for block in blocks(&self.text) {
-            let (Block::Heading(bytes) | Block::Paragraph(bytes)) = &block;
-            let is_heading = matches!(block, Block::Heading(_));
-            if is_heading || sections.is_empty() {
-                let heading = Some(one_line(&self.text[bytes.clone()])).filter(|text| is_heading && !text.is_empty());
-                sections.push(Section::new(heading, self.line(bytes.start)));
+            match block {
+                Block::Heading(bytes) => sections.push(self.begin_section(bytes)),
+                Block::Paragraph(bytes) => {
+                    if sections.is_empty() {
+                        sections.push(self.begin_section(bytes.start..bytes.start));
+                    }
+                    sections.last_mut().expect("one was begun").add_paragraph(&self.text, bytes);
+                }
             }
-            sections.last_mut().expect("one was begun").add_paragraph(&self.text, bytes.clone());
         }
         sections.retain(|section| section.heading.is_some() || !section.tokens.is_empty());
         let mut sections: Vec<Section> = sections.into_iter().flat_map(Section::parts).collect();
@@ -91,14 +94,19 @@ impl Manual {
         }
         sections
     }
+
+    /// A section that has the words of its heading alone; empty bytes are no heading.
+    fn begin_section(&self, bytes: Range<usize>) -> Section {
+        let heading = Some(one_line(&self.text[bytes.clone()])).filter(|heading| !heading.is_empty());
+        let part = Part { number: 1, count: 1, is_inside: false };
+        let line = self.line(bytes.start);
+        let mut section = Section { heading, line, part, tokens: Vec::new(), sentences: Vec::new() };
+        section.add_words(&self.text, bytes, 1);
+        section
+    }
 }
 
 impl Section {
-    fn new(heading: Option<String>, line: usize) -> Section {
-        let part = Part { number: 1, count: 1, is_inside: false };
-        Section { heading, line, part, tokens: Vec::new(), sentences: Vec::new() }
-    }
-
     /// What it is called for people.
     pub fn name(&self) -> &str {
         self.heading.as_deref().unwrap_or("(no heading)")
@@ -109,27 +117,27 @@ impl Section {
         self.tokens[string.start - 1].bytes.start..self.tokens[string.end - 1].bytes.end
     }
 
-    /// The bytes of a sentence, by its number.
+    /// The bytes of a sentence, by its number; 0 gives the heading's.
     pub fn sentence(&self, number: usize) -> Range<usize> {
-        self.sentences[number - 1].clone()
+        self.sentences[number].clone()
     }
 
     fn add_paragraph(&mut self, text: &str, bytes: Range<usize>) {
         let paragraph = 1 + self.tokens.last().map_or(0, |last| last.paragraph);
         for sentence in sentences(text, bytes) {
-            let words = tokens(&text[sentence.clone()]);
-            if words.is_empty() {
-                continue;
+            if !tokens(&text[sentence.clone()]).is_empty() {
+                self.add_words(text, sentence, paragraph);
             }
-            let number = self.sentences.len() + 1;
-            let token = |word: Range<usize>| Token {
-                bytes: sentence.start + word.start..sentence.start + word.end,
-                sentence: number,
-                paragraph,
-            };
-            self.tokens.extend(words.into_iter().map(token));
-            self.sentences.push(sentence);
         }
+    }
+
+    /// Adds the words of the heading, which comes first, or of the next sentence.
+    fn add_words(&mut self, text: &str, bytes: Range<usize>, paragraph: usize) {
+        let sentence = self.sentences.len();
+        let bytes_of = |word: Range<usize>| bytes.start + word.start..bytes.start + word.end;
+        let token = |word: Range<usize>| Token { bytes: bytes_of(word), sentence, paragraph };
+        self.tokens.extend(tokens(&text[bytes.clone()]).into_iter().map(token));
+        self.sentences.push(bytes);
     }
 
     /// The section in parts that the engine can take.
@@ -152,21 +160,24 @@ impl Section {
         (1..=count).map(part).collect()
     }
 
-    /// Some tokens of a section. Sentences and paragraphs are counted anew; what is cut of a sentence doesn't belong to it.
+    /// Some tokens of a section. Sentences and paragraphs are counted anew; what is cut of a sentence, or of the heading,
+    /// doesn't belong to it.
     fn cut(&self, range: Range<usize>) -> Section {
         let (first, last) = (&self.tokens[range.start], &self.tokens[range.end - 1]);
+        // how many sentences end before the part; if it begins in the heading, none does
+        let before = first.sentence.saturating_sub(1);
         let counted_anew = |token: &Token| Token {
             bytes: token.bytes.clone(),
-            sentence: token.sentence - (first.sentence - 1),
+            sentence: token.sentence - before,
             paragraph: token.paragraph - (first.paragraph - 1),
         };
-        let mut sentences = self.sentences[first.sentence - 1..last.sentence].to_vec();
+        let mut sentences = [&self.sentences[..1], &self.sentences[before + 1..=last.sentence]].concat();
         let is_cut = |at: usize| self.tokens[at - 1].sentence == self.tokens[at].sentence;
         if range.start > 0 && is_cut(range.start) {
-            sentences[0].start = first.bytes.start;
+            sentences[first.sentence - before].start = first.bytes.start;
         }
         if range.end < self.tokens.len() && is_cut(range.end) {
-            sentences[last.sentence - first.sentence].end = last.bytes.end;
+            sentences[last.sentence - before].end = last.bytes.end;
         }
         let tokens = self.tokens[range].iter().map(counted_anew).collect();
         Section { heading: self.heading.clone(), tokens, sentences, ..*self }

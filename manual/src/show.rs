@@ -142,7 +142,7 @@ impl Page<'_> {
         }
     }
 
-    /// The sentences in which some of the strings lie, a line each, with their words marked.
+    /// The heading and the sentences in which some of the strings lie, a line each, with their words marked.
     fn sentences(&self, section: &Section, includes: &[Str], excludes: &[Str]) -> String {
         let (includes, excludes) = (spans(includes), spans(excludes));
         let marks = [(&includes, self.marks.include), (&excludes, self.marks.exclude)];
@@ -163,7 +163,7 @@ impl Page<'_> {
         text
     }
 
-    /// A sentence, with what is marked of its words between its signs. Far from these its words are left out.
+    /// A sentence or a heading, with what is marked of its words between its signs. Far from these its words are left out.
     fn sentence(&self, bytes: Range<usize>, words: &[Word]) -> String {
         let runs: Vec<&[Word]> = words.chunk_by(|one, next| one.mark == next.mark).collect();
         let mut text = String::new();

@@ -114,9 +114,10 @@ fn a_not_answers_the_opposite() {
 #[test]
 fn excludes_in_another_sentence_do_not_count_with_same_sentence() {
     yes(r#""needle" ftand ftnot "latch""#, &[4, 7, 10, 11, 14, 15, 18, 19, 24, 26, 29]);
-    // 8 and 23 turn to yes: they have sentences with 'needle' and without 'latch'; 36 has none
+    // 8 and 23 turn to yes: they have sentences with 'needle' and without 'latch'; 36 has none;
+    // 26 turns to no: it has 'needle' in its heading alone
     let same = r#""needle" ftand ftnot "latch" same sentence"#;
-    yes(same, &[4, 7, 8, 10, 11, 14, 15, 18, 19, 23, 24, 26, 29]);
+    yes(same, &[4, 7, 8, 10, 11, 14, 15, 18, 19, 23, 24, 29]);
 }
 
 #[test]
@@ -127,9 +128,33 @@ fn two_words_in_the_same_unit_or_in_different_ones() {
     yes(r#""cam" ftand "cover" same paragraph"#, &[34, 37, 39, 41]);
     yes(r#""cam" ftand "cover" same sentence"#, &[34, 37, 39]);
     yes(r#""sensor" ftand "belt" different sentence"#, &[16]);
-    // the heading is a sentence of its own, so 'Bulletin 7' and 'This bulletin applies' are different ones
-    yes(r#""7" ftand "applies" same sentence"#, &[]);
-    yes(r#""7" ftand "applies" different sentence"#, &[34]);
+}
+
+#[test]
+fn a_heading_is_a_paragraph_and_no_sentence() {
+    // 'loose' stands in the heading of 34 alone, before 'bolt'
+    yes(r#""loose" ftand "bolt" same sentence"#, &[]);
+    yes(r#""loose" ftand "bolt" different sentence"#, &[]);
+    yes(r#""loose" ftand "bolt" same paragraph"#, &[34]);
+    yes(r#""loose" ftand "bolt" window 2 words"#, &[34]);
+    yes(r#""loose" ftand "bolt" distance exactly 0 words"#, &[34]);
+    // 'Bulletin 7' is the heading, 'This bulletin applies' the first sentence
+    yes(r#""7" ftand "applies" different sentence"#, &[]);
+    yes(r#""7" ftand "applies" different paragraph"#, &[34]);
+    yes(r#""7" ftand "applies" distance exactly 7 words"#, &[34]);
+    yes(r#""loose" same sentence"#, &[]);
+    yes(r#""loose" same paragraph"#, &[34]);
+}
+
+#[test]
+fn an_exclude_in_a_heading_does_not_count_with_same_sentence() {
+    // 33 has 'false alarms' in its heading alone
+    yes(r#"ftnot "false alarms""#, &all_but(&[33]));
+    yes(r#"ftnot "false alarms" same paragraph"#, &all_but(&[33]));
+    yes(r#"ftnot "false alarms" same sentence"#, &all_but(&[]));
+    yes(r#""tensioner" ftand ftnot ("false" ftand "yarn")"#, &[22, 23]);
+    yes(r#""tensioner" ftand ftnot ("false" ftand "yarn" same paragraph)"#, &[22, 23]);
+    yes(r#""tensioner" ftand ftnot ("false" ftand "yarn" same sentence)"#, &[22, 23, 33]);
 }
 
 #[test]
@@ -217,7 +242,10 @@ fn an_occurs_under_ftnot() {
 fn filters_over_an_occurs() {
     yes(r#""cam" occurs at least 2 times same sentence"#, &[30]);
     yes(r#""cam" occurs at least 2 times same paragraph"#, &[30, 41]);
-    yes(r#""cam" occurs at least 3 times different sentence"#, &[32, 41]);
+    // 32 has the third 'cam' in its heading
+    yes(r#""cam" occurs at least 3 times"#, &[32, 41]);
+    yes(r#""cam" occurs at least 3 times different sentence"#, &[41]);
+    yes(r#""cam" occurs at least 3 times different paragraph"#, &[32, 41]);
     // seven words lie between the two in 30
     yes(r#""cam" occurs at least 2 times window 9 words"#, &[30]);
     yes(r#""cam" occurs at least 2 times window 8 words"#, &[]);
@@ -389,18 +417,32 @@ fn colour_is_the_default_on_a_terminal() {
 
 #[test]
 fn the_first_match_without_excludes_decides() {
-    // in section 2 the heading and the last two sentences have 'cover' too
+    // in section 2 the heading is no sentence, and the last two sentences have 'cover' too
     let wanted = r#"Section 1, line 1: (no heading)
       1: The [cam] is hot after work.
   Match 1 of 1 decides: "cam" in line 1, not excluded by "cover" (not in this section).
 
 Section 2, line 4: Cam and cover
       6: The raising [cam] has one bolt.
-  Match 2 of 4 decides: "cam" in line 7, not excluded by "cover" (lines 4, 6, 9, 10).
+  Match 1 of 3 decides: "cam" in line 7, not excluded by "cover" (lines 4, 6, 9, 10).
 
 2 of 3 sections say yes.
 "#;
     gives(&["search", small(), r#""cam" ftand ftnot "cover" same sentence"#], wanted, 0);
+    // the heading is a paragraph
+    let wanted = r#"Section 1, line 1: (no heading)
+      1: The [cam] is hot after work.
+  Match 1 of 1 decides: "cam" in line 1, not excluded by "and" (not in this section).
+
+Section 2, line 4: Cam and cover
+      6: The raising [cam] has one bolt.
+      9: The [cam] lies under the cover.
+      9: A guard [cam] lies beneath the cover too.
+  Match 2 of 4 decides: "cam" in line 7, not excluded by "and" (line 4).
+
+2 of 3 sections say yes.
+"#;
+    gives(&["search", small(), r#""cam" ftand ftnot "and" same paragraph"#], wanted, 0);
 }
 
 #[test]
@@ -411,15 +453,13 @@ fn all_shows_every_match_with_its_excludes_in_braces() {
   Match 1 of 1 decides: "cam" in line 1, not excluded by "cover" (not in this section).
 
 Section 2, line 4: Cam and cover
-  Match 1: "Cam" in line 4, excluded by "cover" in line 4.
-      4: [Cam] and {cover}
-  Match 2: "cam" in line 7, not excluded.
+  Match 1: "cam" in line 7, not excluded.
       6: The raising [cam] has one bolt.
-  Match 3: "cam" in line 9, excluded by "cover" in line 9.
+  Match 2: "cam" in line 9, excluded by "cover" in line 9.
       9: The [cam] lies under the {cover}.
-  Match 4: "cam" in line 9, excluded by "cover" in line 10.
+  Match 3: "cam" in line 9, excluded by "cover" in line 10.
       9: A guard [cam] lies beneath the {cover} too.
-  Match 2 of 4 decides: "cam" in line 7, not excluded by "cover" (lines 4, 6, 9, 10).
+  Match 1 of 3 decides: "cam" in line 7, not excluded by "cover" (lines 4, 6, 9, 10).
 
 2 of 3 sections say yes.
 "#;
@@ -496,7 +536,7 @@ fn finds_that_overlap_stand_in_one_pair_of_brackets() {
     let ran = search(small(), r#""raising cam" ftor "has one""#);
     assert!(ran.out().contains("      6: The [raising cam] [has one] bolt.\n"), "{ran:?}");
     // an exclude that an include covers in part
-    let excluded = r#"  Match 4: "cam" in line 9, excluded by "guard cam lies" in line 9.
+    let excluded = r#"  Match 3: "cam" in line 9, excluded by "guard cam lies" in line 9.
       9: A {guard} [cam] {lies} beneath the cover too.
 "#;
     let ran = run(&["search", "--all", small(), r#""cam" ftand ftnot "guard cam lies" same sentence"#]);
@@ -512,6 +552,129 @@ fn a_heading_is_a_find_like_others() {
 1 of 3 sections says yes.
 "#;
     gives(&["search", small(), r#""bolts""#], wanted, 0);
+    let excluded = r#"Section 2, line 4: Cam and cover
+  Match 1: "Cam and" in line 4, excluded by "cover" in line 4.
+      4: [Cam and] {cover}
+  No: every match is excluded.
+
+0 of 3 sections say yes.
+"#;
+    gives(&["search", "--all", small(), r#""cam and" ftand ftnot "cover" distance at most 1 words"#], excluded, 1);
+}
+
+/// Headings with full stops, of one line and of two.
+fn stops() -> &'static str {
+    file("stops.md", "# Never oil. Clean it.\n\nIt rusts. Call us.\n\nStop! Lift the\ncover. Now\n---\nIt falls.\n")
+}
+
+#[test]
+fn a_heading_with_full_stops_is_shown_whole() {
+    let wanted = r#"Section 1, line 1: Never oil. Clean it.
+      1: Never oil. [Clean] it.
+  Match 1 of 1 decides: "Clean" in line 1.
+
+Section 2, line 5: Stop! Lift the cover. Now
+      5: Stop! Lift the [cover]. Now
+  Match 1 of 1 decides: "cover" in line 6.
+
+2 of 2 sections say yes.
+"#;
+    gives(&["search", stops(), r#""clean" ftor "cover""#], wanted, 0);
+    let over_a_stop = r#"Section 1, line 1: Never oil. Clean it.
+      1: Never [oil. Clean] it.
+  Match 1 of 1 decides: "oil. Clean" in line 1.
+
+1 of 2 sections says yes.
+"#;
+    gives(&["search", stops(), r#""oil clean""#], over_a_stop, 0);
+    let all = r#"Section 2, line 5: Stop! Lift the cover. Now
+  Match 1: "Stop" in line 5, excluded by "cover" in line 6.
+      5: [Stop]! Lift the {cover}. Now
+  No: every match is excluded.
+
+0 of 2 sections say yes.
+"#;
+    gives(&["search", "--all", stops(), r#""stop" ftand ftnot "cover""#], all, 1);
+}
+
+#[test]
+fn a_find_from_a_heading_into_the_text_is_shown_in_both() {
+    let wanted = r#"Section 1, line 1: Never oil. Clean it.
+      1: Never oil. [Clean it].
+      3: [It] rusts.
+  Match 1 of 1 decides: "Clean it. It" in line 1.
+
+1 of 2 sections says yes.
+"#;
+    gives(&["search", stops(), r#""clean it it""#], wanted, 0);
+    for filter in ["same sentence", "same paragraph", "different sentence"] {
+        gives(&["search", stops(), &format!(r#""clean it it" {filter}"#)], "0 of 2 sections say yes.\n", 1);
+    }
+}
+
+#[test]
+fn finds_in_a_heading_are_in_no_sentence() {
+    let none = "0 of 2 sections say yes.\n";
+    for search in [
+        r#""clean" same sentence"#,
+        r#""clean" ftand "it" same sentence"#,
+        r#""oil" ftand "clean" same sentence"#,
+        r#""oil" ftand "clean" different sentence"#,
+        r#""oil" ftand "rusts" different sentence"#,
+        r#""clean" ftand "oil" ftand "rusts" ftand "call" different sentence"#,
+        r#""oil" occurs at least 1 times same sentence"#,
+        r#""oil" ftand "clean" window 2 words same sentence"#,
+    ] {
+        gives(&["search", stops(), search], none, 1);
+        gives(&["search", "--all", stops(), search], none, 1);
+    }
+    for search in [
+        r#""oil" ftand "clean" same paragraph"#,
+        r#""oil" ftand "rusts" different paragraph"#,
+        r#""oil" ftand "rusts" window 5 words"#,
+        r#""oil" ftand "rusts" ordered distance at most 3 words"#,
+        r#""never" at start"#,
+        r#""rusts" ftand "call" different sentence"#,
+    ] {
+        assert_eq!(answered(&object(stops(), search), "yes"), [1], "{search}");
+    }
+}
+
+#[test]
+fn same_sentence_takes_away_an_exclude_in_a_heading() {
+    let excluded = r#"  Match 1: no word has to be found, excluded by "Clean" in line 1.
+      1: Never oil. {Clean} it.
+  No: every match is excluded.
+"#;
+    for search in [r#"ftnot "clean""#, r#"ftnot "clean" same paragraph"#] {
+        let ran = run(&["search", "--all", stops(), search]);
+        assert!(ran.out().contains(excluded), "{ran:?}");
+    }
+    let wanted = r#"Section 1, line 1: Never oil. Clean it.
+  Match 1 of 1 decides: no word has to be found, not excluded by "clean" (line 1).
+
+Section 2, line 5: Stop! Lift the cover. Now
+  Match 1 of 1 decides: no word has to be found, not excluded by "clean" (not in this section).
+
+2 of 2 sections say yes.
+"#;
+    gives(&["search", stops(), r#"ftnot "clean" same sentence"#], wanted, 0);
+    let wanted = r#"Section 1, line 1: Never oil. Clean it.
+      3: It [rusts].
+  Match 1 of 1 decides: "rusts" in line 3, not excluded by "clean" (line 1).
+
+1 of 2 sections says yes.
+"#;
+    gives(&["search", stops(), r#""rusts" ftand ftnot "clean" same sentence"#], wanted, 0);
+    let wanted = r#"Section 1, line 1: Never oil. Clean it.
+      3: It [rusts].
+      3: [Call] us.
+  Match 1 of 1 decides: "rusts" in line 3 and "Call" in line 3, not excluded by "clean" (line 1).
+
+1 of 2 sections says yes.
+"#;
+    let search = r#""rusts" ftand "call" ftand ftnot "clean" different sentence"#;
+    gives(&["search", stops(), search], wanted, 0);
 }
 
 #[test]
@@ -972,6 +1135,36 @@ fn json_of_finds_beyond_the_larger_number() {
 }
 
 #[test]
+fn json_of_finds_in_a_heading() {
+    let wanted = r#"{
+        "search": "(\"stop\" ftand ftnot \"cover\" same paragraph) ftor (\"falls\" ftand ftnot \"cover\" same sentence)",
+        "unknown_words": [],
+        "sections_asked": 2,
+        "split": [],
+        "sections": [{
+            "section": 2, "heading": "Stop! Lift the cover. Now", "part": 1, "parts": 1, "line": 5, "answer": "yes",
+            "matches": [{
+                "includes": [{"phrase": 1, "start": 1, "end": 1, "contiguous": true, "line": 5, "text": "Stop"}],
+                "excludes": [{"phrase": 2, "start": 4, "end": 4, "contiguous": true, "line": 6, "text": "cover"}]
+            }, {
+                "includes": [{"phrase": 3, "start": 7, "end": 7, "contiguous": true, "line": 8, "text": "falls"}],
+                "excludes": []
+            }],
+            "deciding": 2,
+            "not_excluded": [{
+                "phrase": 2, "typed": "\"cover\"",
+                "finds": [{"phrase": 2, "start": 4, "end": 4, "contiguous": true, "line": 6, "text": "cover"}]
+            }, {
+                "phrase": 4, "typed": "\"cover\"",
+                "finds": [{"phrase": 4, "start": 4, "end": 4, "contiguous": true, "line": 6, "text": "cover"}]
+            }]
+        }]
+    }"#;
+    let search = r#"("stop" ftand ftnot "cover" same paragraph) ftor ("falls" ftand ftnot "cover" same sentence)"#;
+    prints_object(stops(), search, wanted);
+}
+
+#[test]
 fn json_of_a_section_without_heading_and_of_words_that_are_missing() {
     let wanted = r#"{
         "search": "ftnot \"Nowhere\" ftand \"hot\"",
@@ -1072,13 +1265,16 @@ fn words_are_numbered_in_their_order() {
 #[test]
 fn encode_writes_words_sentences_and_paragraphs() {
     // turn 20, the 18, bolt 5, bolts 6
-    let bolts = [4, 6, 20, 18, 5, 0x1_0001, 0x2_0002, 0x2_0002, 0x2_0002];
+    let bolts = [4, 6, 20, 18, 5, 0x1_0000, 0x2_0001, 0x2_0001, 0x2_0001];
     assert_eq!(encoded(&[small(), "3"]), bolts);
     let cover = encoded(&[small(), "2"]);
     assert_eq!(cover[..7], [26, 7, 3, 8, 15, 18, 8]);
-    let lengths = [(0x1_0001, 3), (0x2_0002, 3), (0x2_0003, 6), (0x3_0004, 6), (0x3_0005, 8)];
+    let lengths = [(0x1_0000, 3), (0x2_0001, 3), (0x2_0002, 6), (0x3_0003, 6), (0x3_0004, 8)];
     let places: Vec<u32> = lengths.into_iter().flat_map(|(place, count)| vec![place; count]).collect();
     assert_eq!(cover[27..], places);
+    // without a heading, and under one with full stops
+    assert_eq!(encoded(&[small(), "1"])[9..], [[0x1_0001; 2].as_slice(), &[0x1_0002; 6]].concat());
+    assert_eq!(encoded(&[stops(), "2"])[8..], [[0x1_0000; 5].as_slice(), &[0x2_0001; 2]].concat());
 }
 
 #[test]
@@ -1164,10 +1360,12 @@ fn parts_of_a_section_in_json_and_in_numbers() {
     let part = |section: &Json| ["section", "part", "parts"].map(|name| section.get(name).number());
     let found: Vec<[i64; 3]> = parts.get("sections").list().iter().map(part).collect();
     assert_eq!(found, [[1, 1, 2], [2, 2, 2], [3, 1, 1]]);
-    for (section, words) in [("1", 4_005), ("2", 201), ("3", 2)] {
+    // the sentence of the first word is the heading's 0, or 1 in a part without it
+    for (section, words, first) in [("1", 4_005, 0x1_0000_u32), ("2", 201, 0x1_0001), ("3", 2, 0x1_0000)] {
         let bytes = run(&["encode", long(), section]).bytes;
         assert_eq!(bytes.len(), 4 * (1 + 2 * words), "section {section}");
         assert_eq!(bytes[..4], (words as u32).to_le_bytes(), "section {section}");
+        assert_eq!(bytes[4 * (1 + words)..][..4], first.to_le_bytes(), "section {section}");
     }
 }
 
@@ -1205,6 +1403,54 @@ Section 2, line 414: Long (part 2 of 2)
 "#;
     assert_eq!((ran.out(), ran.status), (wanted, 0));
     assert_eq!(ran.err, SPLIT.replace("parts,", "parts, some beginning inside a paragraph,"));
+}
+
+/// A heading of 4,100 words, the last one in line 2, and a paragraph.
+fn long_heading() -> &'static str {
+    file("long heading.md", format!("First. {}\nlast!\n---\n\nText here. More.\n", repeated("w", 4_098)))
+}
+
+#[test]
+fn a_heading_over_4096_words_is_shown_in_parts() {
+    let heading = format!("First. {} last!", repeated("w", 4_098));
+    let wanted = format!(
+        r#"Section 1, line 1: HEADING (part 1 of 2)
+      1: [First]. {} ..
+  Match 1 of 1 decides: "First" in line 1.
+
+Section 2, line 1: HEADING (part 2 of 2)
+      1: w w w [last]!
+      5: [Text] here.
+  Match 1 of 2 decides: "last" in line 2.
+
+2 of 2 sections say yes.
+"#,
+        repeated("w", 20)
+    );
+    let ran = search(long_heading(), r#""first" ftor "last" ftor "text""#);
+    assert_eq!((ran.out().replace(&heading, "HEADING"), ran.status), (wanted, 0));
+    let split = SPLIT.replace("parts,", "parts, some beginning inside a paragraph,");
+    assert_eq!(ran.err.replace(&heading, "Long"), split);
+}
+
+#[test]
+fn a_heading_over_4096_words_is_in_no_sentence_of_its_parts() {
+    for (search, status) in [
+        (r#""first" same sentence"#, 1),
+        (r#""last" same sentence"#, 1),
+        (r#""last" ftand "text" different sentence"#, 1),
+        (r#""last" ftand "text" distance exactly 0 words"#, 0),
+        (r#""text" ftand "more" different sentence"#, 0),
+    ] {
+        gives(&["search", "--quiet", long_heading(), search], "", status);
+    }
+    let places = |section: &str| {
+        let bytes = run(&["encode", long_heading(), section]).bytes;
+        let numbers = bytes.chunks(4).map(|bytes| u32::from_le_bytes(bytes.try_into().unwrap()));
+        numbers.skip(1 + (bytes.len() - 4) / 8).collect::<Vec<u32>>()
+    };
+    assert_eq!(places("1"), [0x1_0000; 4_096]);
+    assert_eq!(places("2"), [0x1_0000, 0x1_0000, 0x1_0000, 0x1_0000, 0x2_0001, 0x2_0001, 0x2_0002]);
 }
 
 /// A search for 'dd' shows no part of the section that is split; that it is must be said all the same.

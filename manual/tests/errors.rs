@@ -145,6 +145,10 @@ fn files_that_are_empty_or_without_words() {
     unreadable(file("lines.md", "\n\n\n"), "lines.md has no words");
     unreadable(file("signs.md", "# --\n\n...! (?)\n"), "signs.md has no words");
     unreadable(file("heading.md", "#\n"), "heading.md has no words");
+    // the words of a heading are enough, though they stand in no sentence
+    let search = |search: &str| run(&["search", "--quiet", file("headed.md", "# Cam\n"), search]);
+    assert_eq!(search(CAM), Ran::new("", "", 0));
+    assert_eq!(search(r#""cam" same sentence"#), Ran::new("", "", 1));
 }
 
 // Refused searches
@@ -698,6 +702,18 @@ fn too_many_matches_under_a_filter() {
     let caret = " ".repeat(search.rfind("ftor").unwrap()) + "^~~~";
     too_many(35, &search, &caret);
     assert_eq!(run(&["search", "--quiet", seven(), r#""w" ftand "w" same sentence"#]), Ran::new("", "", 0));
+}
+
+/// Also where the filter would drop them all, as it does with finds in a heading.
+#[test]
+fn too_many_matches_in_a_heading() {
+    let name = file("seventeen.md", format!("# {}\n\nText.\n", ["w"; 17].join(" ")));
+    let search = |search: &str| run(&["search", name, search]);
+    assert_eq!(search(r#""w" same sentence"#), Ran::new("0 of 1 section says yes.\n", "", 1));
+    let ran = search(r#""w" ftand "w" same sentence"#);
+    assert_eq!((ran.err.as_str(), ran.status), ("", 2));
+    let caret = "(refusal 9)\n    \"w\" ftand \"w\" same sentence\n        ^~~~~\n";
+    assert!(ran.out().contains(caret), "{ran:?}");
 }
 
 /// Where the list of the last filter alone is too long, yes or no is known; a yes can't be listed.

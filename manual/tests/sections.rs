@@ -49,17 +49,17 @@ fn hold(cases: &[(&str, &str)]) {
 #[test]
 fn one_to_six_signs_and_a_blank_begin_a_heading() {
     hold(&[
-        ("# A\nb", "1 A: A/1.1 b/2.2"),
-        ("## A\nb", "1 A: A/1.1 b/2.2"),
-        ("### A\nb", "1 A: A/1.1 b/2.2"),
-        ("###### A\nb", "1 A: A/1.1 b/2.2"),
-        ("#\tA\nb", "1 A: A/1.1 b/2.2"),
-        ("#    A   B  \nc", "1 A B: A B/1.1 c/2.2"),
-        (" # A\nb", "1 A: A/1.1 b/2.2"),
-        ("   # A\nb", "1 A: A/1.1 b/2.2"),
-        ("# A", "1 A: A/1.1"),
-        ("# A\r\nb\r\n", "1 A: A/1.1 b/2.2"),
-        ("# 1. Ölwechsel (HV 220)\nb", "1 1. Ölwechsel (HV 220): 1/1.1 Ölwechsel HV 220/1.2 b/2.3"),
+        ("# A\nb", "1 A: A/1.0 b/2.1"),
+        ("## A\nb", "1 A: A/1.0 b/2.1"),
+        ("### A\nb", "1 A: A/1.0 b/2.1"),
+        ("###### A\nb", "1 A: A/1.0 b/2.1"),
+        ("#\tA\nb", "1 A: A/1.0 b/2.1"),
+        ("#    A   B  \nc", "1 A B: A B/1.0 c/2.1"),
+        (" # A\nb", "1 A: A/1.0 b/2.1"),
+        ("   # A\nb", "1 A: A/1.0 b/2.1"),
+        ("# A", "1 A: A/1.0"),
+        ("# A\r\nb\r\n", "1 A: A/1.0 b/2.1"),
+        ("# 1. Ölwechsel (HV 220)\nb", "1 1. Ölwechsel (HV 220): 1 Ölwechsel HV 220/1.0 b/2.1"),
     ]);
 }
 
@@ -83,31 +83,31 @@ fn seven_signs_or_no_blank_or_code_begin_no_heading() {
 #[test]
 fn closing_signs_are_not_shown() {
     hold(&[
-        ("# A #\nb", "1 A: A/1.1 b/2.2"),
-        ("# A ##", "1 A: A/1.1"),
-        ("## A #########", "1 A: A/1.1"),
-        ("# A   #  \nb", "1 A: A/1.1 b/2.2"),
-        ("# Using C#\nb", "1 Using C#: Using C/1.1 b/2.2"),
-        ("# Using C# #", "1 Using C#: Using C/1.1"),
-        ("# A # B", "1 A # B: A B/1.1"),
-        ("# #1 wrench", "1 #1 wrench: 1 wrench/1.1"),
+        ("# A #\nb", "1 A: A/1.0 b/2.1"),
+        ("# A ##", "1 A: A/1.0"),
+        ("## A #########", "1 A: A/1.0"),
+        ("# A   #  \nb", "1 A: A/1.0 b/2.1"),
+        ("# Using C#\nb", "1 Using C#: Using C/1.0 b/2.1"),
+        ("# Using C# #", "1 Using C#: Using C/1.0"),
+        ("# A # B", "1 A # B: A B/1.0"),
+        ("# #1 wrench", "1 #1 wrench: 1 wrench/1.0"),
     ]);
 }
 
 #[test]
 fn an_underlined_paragraph_is_a_heading() {
     hold(&[
-        ("A\n=\nb", "1 A: A/1.1 b/2.2"),
-        ("A\n-\nb", "1 A: A/1.1 b/2.2"),
-        ("A b\n=======\nc", "1 A b: A b/1.1 c/2.2"),
-        ("A b\n-------\nc", "1 A b: A b/1.1 c/2.2"),
-        ("A\nB\n---\nc", "1 A B: A B/1.1 c/2.2"),
-        ("A\n   ===\nb", "1 A: A/1.1 b/2.2"),
-        ("A\n===  \nb", "1 A: A/1.1 b/2.2"),
-        ("A\r\n===\r\nb", "1 A: A/1.1 b/2.2"),
-        ("a.\n\nB\n===\nc", "1 -: a/1.1 | 3 B: B/1.1 c/2.2"),
-        ("# A\nB\n---\nc", "1 A: A/1.1 | 2 B: B/1.1 c/2.2"),
-        ("A\n===\nB\n---\nc", "1 A: A/1.1 | 3 B: B/1.1 c/2.2"),
+        ("A\n=\nb", "1 A: A/1.0 b/2.1"),
+        ("A\n-\nb", "1 A: A/1.0 b/2.1"),
+        ("A b\n=======\nc", "1 A b: A b/1.0 c/2.1"),
+        ("A b\n-------\nc", "1 A b: A b/1.0 c/2.1"),
+        ("A\nB\n---\nc", "1 A B: A B/1.0 c/2.1"),
+        ("A\n   ===\nb", "1 A: A/1.0 b/2.1"),
+        ("A\n===  \nb", "1 A: A/1.0 b/2.1"),
+        ("A\r\n===\r\nb", "1 A: A/1.0 b/2.1"),
+        ("a.\n\nB\n===\nc", "1 -: a/1.1 | 3 B: B/1.0 c/2.1"),
+        ("# A\nB\n---\nc", "1 A: A/1.0 | 2 B: B/1.0 c/2.1"),
+        ("A\n===\nB\n---\nc", "1 A: A/1.0 | 3 B: B/1.0 c/2.1"),
     ]);
 }
 
@@ -115,9 +115,9 @@ fn an_underlined_paragraph_is_a_heading() {
 fn other_lines_underline_nothing() {
     hold(&[
         ("===\nA", "2 -: A/1.1"),
-        ("---\nA\n---\nb", "2 A: A/1.1 b/2.2"),
+        ("---\nA\n---\nb", "2 A: A/1.0 b/2.1"),
         ("A\n\n===\nb", "1 -: A/1.1 b/2.2"),
-        ("# A\n===\nb", "1 A: A/1.1 b/2.2"),
+        ("# A\n===\nb", "1 A: A/1.0 b/2.1"),
         ("A\n=-=\nb", "1 -: A b/1.1"),
         ("A\n= =\nb", "1 -: A b/1.1"),
         ("A\n== b", "1 -: A b/1.1"),
@@ -129,30 +129,30 @@ fn other_lines_underline_nothing() {
 #[test]
 fn nothing_between_fences_is_a_heading() {
     hold(&[
-        ("```\n# A\n```\n# B", "2 -: A/1.1 | 4 B: B/1.1"),
-        ("~~~\n# A\n~~~\n# B", "2 -: A/1.1 | 4 B: B/1.1"),
-        ("~~~~~\n# A\n~~~~~\n# B", "2 -: A/1.1 | 4 B: B/1.1"),
+        ("```\n# A\n```\n# B", "2 -: A/1.1 | 4 B: B/1.0"),
+        ("~~~\n# A\n~~~\n# B", "2 -: A/1.1 | 4 B: B/1.0"),
+        ("~~~~~\n# A\n~~~~~\n# B", "2 -: A/1.1 | 4 B: B/1.0"),
         ("```sh\n# A\n\n# B\n```\nc", "2 -: A/1.1 B/2.2 c/3.3"),
         ("```\nA\n===\n```\nb", "2 -: A/1.1 b/2.2"),
         ("~~~\nA\n---\n~~~\nb", "2 -: A/1.1 b/2.2"),
-        ("  ```\n# A\n  ```\n# B", "2 -: A/1.1 | 4 B: B/1.1"),
-        ("# A\n```\n# B\n```\n```\n# C\n```\n# D", "1 A: A/1.1 B/2.2 C/3.3 | 8 D: D/1.1"),
+        ("  ```\n# A\n  ```\n# B", "2 -: A/1.1 | 4 B: B/1.0"),
+        ("# A\n```\n# B\n```\n```\n# C\n```\n# D", "1 A: A/1.0 B/2.1 C/3.2 | 8 D: D/1.0"),
         ("a\n```\n# B\n\nC\n---", "1 -: a/1.1 B/2.2 C/3.3"),
-        ("    ```\n# A", "2 A: A/1.1"),
-        ("a ```\n# B", "1 -: a/1.1 | 2 B: B/1.1"),
-        ("``a``\n# B", "1 -: a/1.1 | 2 B: B/1.1"),
+        ("    ```\n# A", "2 A: A/1.0"),
+        ("a ```\n# B", "1 -: a/1.1 | 2 B: B/1.0"),
+        ("``a``\n# B", "1 -: a/1.1 | 2 B: B/1.0"),
     ]);
 }
 
 #[test]
 fn a_fence_ends_at_one_of_its_own_sign_and_length() {
     hold(&[
-        ("```\n~~~\n# A\n```\n# B", "2 -: A/1.1 | 5 B: B/1.1"),
-        ("~~~\n```\n# A\n~~~\n# B", "2 -: A/1.1 | 5 B: B/1.1"),
-        ("````\n```\n# A\n```\n````\n# B", "2 -: A/1.1 | 6 B: B/1.1"),
-        ("```\n# A\n`````\n# B", "2 -: A/1.1 | 4 B: B/1.1"),
-        ("```\n```sh\n# A\n```\n# B", "2 -: sh A/1.1 | 5 B: B/1.1"),
-        ("~~~\n~~\n# A\n~~~\n# B", "2 -: A/1.1 | 5 B: B/1.1"),
+        ("```\n~~~\n# A\n```\n# B", "2 -: A/1.1 | 5 B: B/1.0"),
+        ("~~~\n```\n# A\n~~~\n# B", "2 -: A/1.1 | 5 B: B/1.0"),
+        ("````\n```\n# A\n```\n````\n# B", "2 -: A/1.1 | 6 B: B/1.0"),
+        ("```\n# A\n`````\n# B", "2 -: A/1.1 | 4 B: B/1.0"),
+        ("```\n```sh\n# A\n```\n# B", "2 -: sh A/1.1 | 5 B: B/1.0"),
+        ("~~~\n~~\n# A\n~~~\n# B", "2 -: A/1.1 | 5 B: B/1.0"),
     ]);
 }
 
@@ -169,12 +169,12 @@ fn code_is_not_underlined() {
 #[test]
 fn lists_and_quotations_are_not_underlined() {
     hold(&[
-        ("# A\n\n- b\n- c\n---\nd", "1 A: A/1.1 b c/2.2 d/3.3"),
+        ("# A\n\n- b\n- c\n---\nd", "1 A: A/1.0 b c/2.1 d/3.2"),
         ("* b\nc\n---", "1 -: b c/1.1"),
         ("+ b\n===", "1 -: b/1.1"),
         ("> b\n---\nc", "1 -: b/1.1 c/2.2"),
-        ("- a\n\nB\n---", "1 -: a/1.1 | 3 B: B/1.1"),
-        ("-a\n---", "1 -a: a/1.1"),
+        ("- a\n\nB\n---", "1 -: a/1.1 | 3 B: B/1.0"),
+        ("-a\n---", "1 -a: a/1.0"),
     ]);
 }
 
@@ -191,43 +191,67 @@ fn only_blanks_and_tabs_indent() {
 #[test]
 fn a_heading_after_code_has_none_of_it() {
     hold(&[
-        ("```\na\n```\n\nB\n---\nc", "2 -: a/1.1 | 5 B: B/1.1 c/2.2"),
-        ("```\na\n```\nB\n---\nc", "2 -: a/1.1 | 4 B: B/1.1 c/2.2"),
+        ("```\na\n```\n\nB\n---\nc", "2 -: a/1.1 | 5 B: B/1.0 c/2.1"),
+        ("```\na\n```\nB\n---\nc", "2 -: a/1.1 | 4 B: B/1.0 c/2.1"),
         ("    a\nB\n===\nc", "1 -: a B/1.1 c/2.2"),
-        ("A\n    b\n---\nc", "1 A b: A b/1.1 c/2.2"),
+        ("A\n    b\n---\nc", "1 A b: A b/1.0 c/2.1"),
     ]);
 }
 
 #[test]
 fn code_inside_a_line_opens_no_fence() {
     hold(&[
-        ("```a``` b\n# C", "1 -: a b/1.1 | 2 C: C/1.1"),
+        ("```a``` b\n# C", "1 -: a b/1.1 | 2 C: C/1.0"),
         ("~~~ a`b\n# C\n~~~", "2 -: C/1.1"),
-        ("````a```` b\n\nC\n---", "1 -: a b/1.1 | 3 C: C/1.1"),
+        ("````a```` b\n\nC\n---", "1 -: a b/1.1 | 3 C: C/1.0"),
     ]);
 }
 
 #[test]
 fn a_headings_words_are_a_paragraph_of_its_section() {
     hold(&[
-        ("# A b\nc", "1 A b: A b/1.1 c/2.2"),
-        ("# A b\n\n\nc", "1 A b: A b/1.1 c/2.2"),
-        ("# A. B!\nc", "1 A. B!: A/1.1 B/1.2 c/2.3"),
-        ("a\n# B\nc", "1 -: a/1.1 | 2 B: B/1.1 c/2.2"),
-        ("# A\n# B\n## C\nd", "1 A: A/1.1 | 2 B: B/1.1 | 3 C: C/1.1 d/2.2"),
-        ("# A\n\nb. c\n\n# D\n\ne. f", "1 A: A/1.1 b/2.2 c/2.3 | 5 D: D/1.1 e/2.2 f/2.3"),
+        ("# A b\nc", "1 A b: A b/1.0 c/2.1"),
+        ("# A b\n\n\nc", "1 A b: A b/1.0 c/2.1"),
+        ("# A. B!\nc", "1 A. B!: A B/1.0 c/2.1"),
+        ("a\n# B\nc", "1 -: a/1.1 | 2 B: B/1.0 c/2.1"),
+        ("# A\n# B\n## C\nd", "1 A: A/1.0 | 2 B: B/1.0 | 3 C: C/1.0 d/2.1"),
+        ("# A\n\nb. c\n\n# D\n\ne. f", "1 A: A/1.0 b/2.1 c/2.2 | 5 D: D/1.0 e/2.1 f/2.2"),
         ("# ...\na", "1 ...: a/1.1"),
+    ]);
+}
+
+#[test]
+fn a_headings_words_stand_in_no_sentence() {
+    hold(&[
+        ("# A. B! C? d", "1 A. B! C? d: A B C d/1.0"),
+        ("# Never oil. Clean it.\na. b", "1 Never oil. Clean it.: Never oil Clean it/1.0 a/2.1 b/2.2"),
+        ("Never oil.\nClean it!\n---\na. b", "1 Never oil. Clean it!: Never oil Clean it/1.0 a/2.1 b/2.2"),
+        ("A. B\n===\n\nc.\n\nd. e", "1 A. B: A B/1.0 c/2.1 d/3.2 e/3.3"),
+        ("# A.\n# B.\nc", "1 A.: A/1.0 | 2 B.: B/1.0 c/2.1"),
+        ("a. b\n# C. D\ne. f", "1 -: a/1.1 b/1.2 | 2 C. D: C D/1.0 e/2.1 f/2.2"),
+    ]);
+}
+
+#[test]
+fn a_heading_without_words_leaves_the_numbers_to_the_text() {
+    hold(&[
+        ("#\na. b\n\nc", "1 -: a/1.1 b/1.2 c/2.3"),
+        ("## ##\na. b", "1 -: a/1.1 b/1.2"),
+        ("# ...\na. b", "1 ...: a/1.1 b/1.2"),
+        ("...\n---\na. b", "1 ...: a/1.1 b/1.2"),
+        ("# A\n#\nb", "1 A: A/1.0 | 2 -: b/1.1"),
+        ("# A\n#\n# B", "1 A: A/1.0 | 3 B: B/1.0"),
     ]);
 }
 
 #[test]
 fn text_before_the_first_heading_is_a_section() {
     hold(&[
-        ("a\n\nb\n\n# C\nd", "1 -: a/1.1 b/2.2 | 5 C: C/1.1 d/2.2"),
-        ("\n\na\n# B", "3 -: a/1.1 | 4 B: B/1.1"),
+        ("a\n\nb\n\n# C\nd", "1 -: a/1.1 b/2.2 | 5 C: C/1.0 d/2.1"),
+        ("\n\na\n# B", "3 -: a/1.1 | 4 B: B/1.0"),
         ("a b", "1 -: a b/1.1"),
-        ("\n \n# A", "3 A: A/1.1"),
-        ("...\n# A", "2 A: A/1.1"),
+        ("\n \n# A", "3 A: A/1.0"),
+        ("...\n# A", "2 A: A/1.0"),
         ("", ""),
         ("\n \t\r\n\n", ""),
     ]);
@@ -249,7 +273,7 @@ fn blank_lines_part_paragraphs() {
         ("a\r\n  \r\nb", "1 -: a/1.1 b/2.2"),
         ("a\n\n  b\n    c", "1 -: a/1.1 b c/2.2"),
         ("a\n\n* * *\n\nb", "1 -: a/1.1 b/2.2"),
-        ("# A\n\nb\n\nc\n\nd", "1 A: A/1.1 b/2.2 c/3.3 d/4.4"),
+        ("# A\n\nb\n\nc\n\nd", "1 A: A/1.0 b/2.1 c/3.2 d/4.3"),
     ]);
 }
 
@@ -287,7 +311,7 @@ fn a_sentence_runs_over_line_ends_and_ends_with_its_paragraph() {
         ("a\nb\nc. d\ne", "1 -: a b c/1.1 d e/1.2"),
         ("a\r\nb. c", "1 -: a b/1.1 c/1.2"),
         ("a\n\nb", "1 -: a/1.1 b/2.2"),
-        ("a\n# B\nc", "1 -: a/1.1 | 2 B: B/1.1 c/2.2"),
+        ("a\n# B\nc", "1 -: a/1.1 | 2 B: B/1.0 c/2.1"),
         ("- a\n- b\n- c", "1 -: a b c/1.1"),
     ]);
 }
@@ -306,16 +330,16 @@ fn only_sentences_with_words_have_a_number() {
 fn numbers_of_sentences_run_on_over_paragraphs() {
     hold(&[
         ("a. b.\n\nc. d.\n\ne", "1 -: a/1.1 b/1.2 c/2.3 d/2.4 e/3.5"),
-        ("# A\nb. c\n\nd", "1 A: A/1.1 b/2.2 c/2.3 d/3.4"),
+        ("# A\nb. c\n\nd", "1 A: A/1.0 b/2.1 c/2.2 d/3.3"),
     ]);
 }
 
-/// The text of each sentence of the first section.
+/// The heading of the first section, and the text of each of its sentences.
 fn sentences(text: &str) -> Vec<String> {
     let manual = manual(text);
     let section = &manual.sections[0];
     let last = section.tokens.last().map_or(0, |token| token.sentence);
-    (1..=last).map(|number| manual.text()[section.sentence(number)].to_string()).collect()
+    (0..=last).map(|number| manual.text()[section.sentence(number)].to_string()).collect()
 }
 
 #[test]
@@ -324,8 +348,17 @@ fn a_sentence_has_its_signs_and_no_blanks_around_it() {
         sentences("# Oil it!\n  Clean (3.5 bar)  .\n\n \"Stop\" at\nE12."),
         ["Oil it!", "Clean (3.5 bar)  .", "\"Stop\" at\nE12."]
     );
-    assert_eq!(sentences("a... b?! . c"), ["a...", "b?!", "c"]);
+    assert_eq!(sentences("a... b?! . c"), ["", "a...", "b?!", "c"]);
     assert_eq!(sentences("# A #\r\nb. \r\nc\r\n"), ["A", "b.", "c"]);
+}
+
+#[test]
+fn a_heading_is_whole() {
+    assert_eq!(sentences("##  (Never oil.)  Clean it!  ##\na. b"), ["(Never oil.)  Clean it!", "a.", "b"]);
+    assert_eq!(sentences("Never oil.\nClean it!\n===\na"), ["Never oil.\nClean it!", "a"]);
+    assert_eq!(sentences("# Never oil. Clean it."), ["Never oil. Clean it."]);
+    assert_eq!(sentences("# ... \na"), ["...", "a"]);
+    assert_eq!(sentences("#\na"), ["", "a"]);
 }
 
 #[test]
@@ -445,9 +478,9 @@ fn a_section_in_numbers_is_its_size_its_words_and_their_places() {
     let words = Words::of(&manual);
     let numbers = |index: usize| manual.numbers(&manual.sections[index], &words);
     let at = |paragraph: u32, sentence: u32| paragraph * 65_536 + sentence;
-    assert_eq!(numbers(0), [5, 2, 1, 3, 1, 2, at(1, 1), at(1, 1), at(2, 2), at(2, 3), at(3, 4)]);
+    assert_eq!(numbers(0), [5, 2, 1, 3, 1, 2, at(1, 0), at(1, 0), at(2, 1), at(2, 2), at(3, 3)]);
     assert_eq!(numbers(1), [0]);
-    assert_eq!(numbers(2), [1, 3, at(1, 1)]);
+    assert_eq!(numbers(2), [1, 3, at(1, 0)]);
 }
 
 // Sections of over 4,096 words
@@ -481,7 +514,7 @@ fn split(cases: &[(&[&[usize]], &str)]) {
 #[test]
 fn a_section_of_4096_words_is_not_split() {
     split(&[(&[&[4096]], "1/1 4096 1.1-1.1"), (&[&[1000, 2000], &[1000], &[96]], "1/1 4096 1.1-3.4")]);
-    assert_eq!(parts(&format!("# H\n{}", long(&[&[4095]]))), "1/1 4096 1.1-2.2");
+    assert_eq!(parts(&format!("# H\n{}", long(&[&[4095]]))), "1/1 4096 1.0-2.1");
 }
 
 #[test]
@@ -507,8 +540,6 @@ fn too_long_a_paragraph_is_split_where_the_last_sentence_ends_in_time() {
         (&[&[100], &[3000, 1097]], "1/2 3100 1.1-2.2 | +2/2 1097 1.1-1.1"),
         (&[&[100], &[2000, 3000, 3000]], "1/3 2100 1.1-2.2 | +2/3 3000 1.1-1.1 | +3/3 3000 1.1-1.1"),
     ]);
-    let headed = |paragraphs| parts(&format!("# H\n{}", long(paragraphs)));
-    assert_eq!(headed(&[&[4000, 97]]), "1/2 4001 1.1-2.2 | +2/2 97 1.1-1.1");
 }
 
 #[test]
@@ -519,6 +550,59 @@ fn a_longer_sentence_is_split_after_4096_words() {
         (&[&[8193]], "1/3 4096 1.1-1.1 | +2/3 4096 1.1-1.1 | +3/3 1 1.1-1.1"),
         (&[&[10, 5000, 10], &[20]], "1/2 4096 1.1-1.2 | +2/2 944 1.1-2.3"),
     ]);
+}
+
+/// Sections with the heading `H` and these paragraphs have these parts.
+fn split_headed(cases: &[(&[&[usize]], &str)]) {
+    for (paragraphs, expected) in cases {
+        assert_eq!(parts(&format!("# H\n{}", long(paragraphs))), *expected, "{paragraphs:?}");
+    }
+}
+
+#[test]
+fn parts_after_the_heading_have_sentences_from_one() {
+    split_headed(&[
+        (&[&[2000], &[2000], &[2000, 5]], "1/2 4001 1.0-3.2 | 2/2 2005 1.1-1.2"),
+        (&[&[4096]], "1/2 1 1.0-1.0 | 2/2 4096 1.1-1.1"),
+        (&[&[4096], &[5]], "1/3 1 1.0-1.0 | 2/3 4096 1.1-1.1 | 3/3 5 1.1-1.1"),
+        (&[&[4000, 97]], "1/2 4001 1.0-2.1 | +2/2 97 1.1-1.1"),
+        (&[&[4095, 2, 3], &[4]], "1/2 4096 1.0-2.1 | +2/2 9 1.1-2.3"),
+        (&[&[4097]], "1/2 4096 1.0-2.1 | +2/2 2 1.1-1.1"),
+    ]);
+}
+
+/// Sections of these paragraphs, the first one underlined, have these parts.
+fn split_underlined(cases: &[(&[&[usize]], &str)]) {
+    for (paragraphs, expected) in cases {
+        let text = format!("{}\n---\n{}", long(&paragraphs[..1]), long(&paragraphs[1..]));
+        assert_eq!(parts(&text), *expected, "{paragraphs:?}");
+    }
+}
+
+/// A full stop in it is no place to cut it at.
+#[test]
+fn too_long_a_heading_is_split_after_4096_words() {
+    split_underlined(&[
+        (&[&[4096]], "1/1 4096 1.0-1.0"),
+        (&[&[4096], &[1, 1]], "1/2 4096 1.0-1.0 | 2/2 2 1.1-1.2"),
+        (&[&[4097]], "1/2 4096 1.0-1.0 | +2/2 1 1.0-1.0"),
+        (&[&[3000, 3000]], "1/2 4096 1.0-1.0 | +2/2 1904 1.0-1.0"),
+        (&[&[8193]], "1/3 4096 1.0-1.0 | +2/3 4096 1.0-1.0 | +3/3 1 1.0-1.0"),
+        (&[&[4097], &[2, 3], &[4]], "1/2 4096 1.0-1.0 | +2/2 10 1.0-3.3"),
+        (&[&[4097], &[4000], &[96]], "1/3 4096 1.0-1.0 | +2/3 4001 1.0-2.1 | 3/3 96 1.1-1.1"),
+        (&[&[4097], &[4095, 10]], "1/3 4096 1.0-1.0 | +2/3 4096 1.0-2.1 | +3/3 10 1.1-1.1"),
+    ]);
+}
+
+#[test]
+fn a_heading_that_is_cut_has_its_own_words_in_each_part() {
+    let manual = manual(&format!("(a. {}\nb)\n===\nc. d", vec!["w"; 4100].join(" ")));
+    let of = |index: usize, number: usize| &manual.text()[manual.sections[index].sentence(number)];
+    assert_eq!(of(0, 0), format!("(a. {}", vec!["w"; 4095].join(" ")));
+    assert_eq!([0, 1, 2].map(|number| of(1, number)), ["w w w w w\nb)", "c.", "d"]);
+    let ends = "w w w w w b/1.0 c/2.1 d/2.2";
+    assert!(shown(&manual, &manual.sections[1]).ends_with(&format!(": {ends}")));
+    assert_eq!(manual.sections.len(), 2);
 }
 
 #[test]
@@ -537,7 +621,9 @@ fn parts_have_their_sections_heading_and_their_own_line_and_sentences() {
     let of = |section: &Section| format!("{} {}", section.line, section.name());
     let lines: Vec<String> = manual.sections.iter().map(of).collect();
     assert_eq!(lines, ["1 (no heading)", "3 H i", "5 H i", "7 H i", "9 J"]);
-    let last = &manual.sections[3];
+    let (first, last) = (&manual.sections[1], &manual.sections[3]);
+    assert_eq!(shown(&manual, first), "3 H i: H i/1.0");
+    assert_eq!(&manual.text()[first.sentence(0)], "H i");
     assert_eq!(shown(&manual, last), "7 H i: w w/1.1 w w w w/1.2");
     assert_eq!(&manual.text()[last.sentence(1)], "w w.");
     assert_eq!(&manual.text()[last.sentence(2)], "w w w w.");

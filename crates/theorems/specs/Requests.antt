@@ -240,8 +240,8 @@ AllNonzero unit n = (p : ℕ) → 1 ≤ p → p ≤ n → 1 ≤ unit p
 -- for a section
 pub record HeadingsOf (section : List ℕ) : Type 0 where
   -- "For sentences, refusal 2 falls on a nonzero one below the last nonzero one before it." "Paragraphs keep their rule." The place is the first position
-  -- of either sort, from 2 on. (That it falls on no section exactly where "the nonzero ones still never fall", and paragraphs keep their rule, is
-  -- `units-exactly` of demand 2.)
+  -- of either sort, from 2 on. (By `units-exactly` of demand 2 it falls on every section but those in which "the nonzero
+  -- ones still never fall" and paragraphs keep their rule.)
   pub refused-exactly : (p : ℕ)
       → (faultyPosition section ≡ some p) ↔ FirstWith (λ q. SentenceFalls section q ⊎ ParagraphBreaks section q) (fromTo 2 (size section)) p
   -- It falls on no more than before; and where sentences are all zero, or all nonzero, where it did.
