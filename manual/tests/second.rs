@@ -31,6 +31,8 @@ struct Section {
     heading: String,
     line: usize,
     words: Vec<Word>,
+    /// How many sentences have begun. A heading has none.
+    sentences: u32,
     /// Does the next word begin a sentence, a paragraph?
     sentence_ended: bool,
     paragraph_ended: bool,
@@ -53,21 +55,28 @@ fn words(text: &str) -> impl Iterator<Item = &str> {
 
 impl Section {
     /// The words of a line. A sentence ends with what stands before a blank and has its sign last.
-    fn add(&mut self, line: usize, text: &str, numbers: &mut HashMap<String, u32>) {
+    fn add(&mut self, line: usize, text: &str, is_heading: bool, numbers: &mut HashMap<String, u32>) {
         for piece in text.split_whitespace() {
             for word in words(piece) {
-                let (paragraph, sentence) = self.words.last().map_or((0, 0), |last| (last.paragraph, last.sentence));
+                let paragraph = self.words.last().map_or(0, |last| last.paragraph);
+                let sentence = if is_heading { 0 } else { self.sentence() };
                 let next = numbers.len() as u32 + 1;
                 self.words.push(Word {
                     text: word.to_string(),
                     number: *numbers.entry(word.to_lowercase()).or_insert(next),
                     paragraph: paragraph + u32::from(std::mem::take(&mut self.paragraph_ended)),
-                    sentence: sentence + u32::from(std::mem::take(&mut self.sentence_ended)),
+                    sentence,
                     line,
                 });
             }
             self.sentence_ended |= piece.ends_with(['.', '!', '?']);
         }
+    }
+
+    /// The number of the sentence in which the next word stands.
+    fn sentence(&mut self) -> u32 {
+        self.sentences += u32::from(std::mem::take(&mut self.sentence_ended));
+        self.sentences
     }
 
     fn end_paragraph(&mut self) {
@@ -101,7 +110,7 @@ impl Book {
             if is_heading || is_blank {
                 section.end_paragraph();
             }
-            section.add(line, text, &mut book.numbers);
+            section.add(line, text, is_heading, &mut book.numbers);
             if is_heading {
                 section.end_paragraph();
             }
@@ -436,12 +445,16 @@ struct Seen {
     later: usize,
     passed: usize,
     passed_occurs: usize,
+    /// The same of searches with a filter about sentences: those that say yes with what the search excludes in their heading.
+    passed_headings: usize,
+    /// Sections that say yes with a find in their heading.
+    found_headings: usize,
     /// Searches to which some sections say yes and some no.
     mixed: usize,
 }
 
 impl Seen {
-    fn see(&mut self, answer: &Answer) {
+    fn see(&mut self, answer: &Answer, section: &Section, codes: &[Pair]) {
         match answer {
             Answer::No => self.no += 1,
             Answer::Unlisted(_) => self.unlisted += 1,
@@ -454,6 +467,12 @@ impl Seen {
                 self.passed += usize::from(listed.not_excluded.iter().any(has_finds));
                 let has_occurs = |phrase: &Excluded| has_finds(phrase) && phrase.typed.ends_with("times");
                 self.passed_occurs += usize::from(listed.not_excluded.iter().any(has_occurs));
+                let in_heading = |find: &Str| section.words[find.start as usize - 1].sentence == 0;
+                let about_sentences = codes.iter().any(|(kind, _)| [9, 11].contains(kind));
+                let passed = listed.not_excluded.iter().any(|phrase| phrase.finds.iter().any(in_heading));
+                self.passed_headings += usize::from(about_sentences && passed);
+                let found = listed.matches.iter().any(|found| found.includes.iter().any(in_heading));
+                self.found_headings += usize::from(found);
             }
         }
     }
@@ -519,7 +538,7 @@ impl Comparison {
                 assert_eq!(status, expected_status(&answers));
                 for (index, (section, answer)) in self.sections.iter().zip(&answers).enumerate() {
                     assert_eq!(*answer, expected(search, section, &selection, &tree), "section {}", index + 1);
-                    self.seen.see(answer);
+                    self.seen.see(answer, &self.book.sections[index], &codes);
                 }
                 self.seen.kinds.extend(codes.iter().map(|(kind, _)| kind));
                 self.seen.occurs += usize::from(codes.iter().any(|(kind, _)| *kind >= 16));
@@ -600,6 +619,34 @@ const ANSWERED: &[&str] = &[
     r#"("full speed" at end) ftor ("log" at end)"#,
     r#""Service manual for the HV 180 and" ftand "HV 220 flat knitting machines" entire content"#,
     r#"ftnot ("the" entire content)"#,
+    // finds in headings
+    r#""bulletin" same sentence"#,
+    r#""bulletin 7" same sentence"#,
+    r#""bulletin 7" same paragraph"#,
+    r#""loose bolt" ftand "cover" same sentence"#,
+    r#""loose bolt" ftand "cover" same paragraph"#,
+    r#""cams" same sentence at start"#,
+    r#""stitch" ftand "cams" same sentence ordered"#,
+    r#""fault" ftand "carriage" different sentence"#,
+    r#""bulletin" ftand "software" different sentence"#,
+    r#""needles" ftand "latch" different paragraph"#,
+    r#""bulletin" occurs at least 2 times same sentence"#,
+    r#""bulletin" occurs at least 2 times different sentence"#,
+    r#""bulletin" occurs exactly 1 times same sentence"#,
+    r#"("drive belt" ftand "bulletin") same sentence window 12 words"#,
+    // excludes in headings
+    r#"ftnot "appendix" same sentence"#,
+    r#"ftnot "bulletin" same sentence"#,
+    r#"ftnot ("bulletin" ftor "fault") same sentence"#,
+    r#"ftnot ("fault" ftand "carriage" same sentence)"#,
+    r#"ftnot ("cover" ftand ftnot "bulletin" same sentence)"#,
+    r#""bolt" ftand ftnot "loose" same sentence"#,
+    r#""oil" ftand ftnot "stains" same sentence"#,
+    r#""cam" ftand ftnot "bulletin" same sentence"#,
+    r#""cover" ftand ftnot "bulletin" distance at most 30 words same sentence"#,
+    r#"("cam" ftand ftnot "bulletin" same sentence) ftand ftnot ("worn cam" same sentence)"#,
+    r#""carriage" ftand "belt" ftand ftnot "bulletin" different sentence"#,
+    r#""yarn" ftand "stop" ftand ftnot "break" different sentence ordered"#,
     // occurs
     r#""bolt" occurs at least 3 times"#,
     r#""needle" occurs at least 0 times"#,
@@ -646,6 +693,7 @@ fn written_searches_are_answered_as_by_the_second_engine() {
     assert!(seen.kinds.iter().copied().eq(0..18), "{seen:?}");
     assert!(seen.yes > 400 && seen.no > 1_200 && seen.unlisted > 10 && seen.unknown > 60, "{seen:?}");
     assert!(seen.found > 200 && seen.passed > 60 && seen.passed_occurs > 10 && seen.mixed > 35, "{seen:?}");
+    assert!(seen.found_headings > 100 && seen.passed_headings > 40, "{seen:?}");
 }
 
 /// Each search and the number of its refusal.
@@ -770,4 +818,5 @@ fn random_searches_are_answered_as_by_the_second_engine() {
     assert!(seen.yes > 20_000 && seen.no > 45_000 && seen.unlisted > 90 && seen.unknown > 350, "{seen:?}");
     assert!(seen.found > 13_000 && seen.later > 250 && seen.passed > 2_000, "{seen:?}");
     assert!(seen.occurs > 400 && seen.passed_occurs > 150, "{seen:?}");
+    assert!(seen.found_headings > 2_000 && seen.passed_headings > 100, "{seen:?}");
 }

@@ -62,6 +62,11 @@ pub fn hunt_filters(engine: &dyn Engine, seed: u64, count: usize) -> Result<(), 
     hunt_in(engine, gen::filter_cases(seed, count), &format!("seed {seed}, filter case"))
 }
 
+/// And on the first cases of a seed whose sections have headings.
+pub fn hunt_headings(engine: &dyn Engine, seed: u64, count: usize) -> Result<(), String> {
+    hunt_in(engine, gen::heading_cases(seed, count), &format!("seed {seed}, heading case"))
+}
+
 fn hunt_in(engine: &dyn Engine, cases: impl Iterator<Item = Case>, name: &str) -> Result<(), String> {
     for (index, case) in cases.enumerate() {
         if let Err(first) = compare(engine, &case) {

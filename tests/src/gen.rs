@@ -7,11 +7,12 @@
 //!
 //! About a quarter of the cases have an occurs. [`occurs_cases`] are all made with one, in every place where it may stand;
 //! damage may take it away again. [`filter_cases`] are made for the early way out of a filter that the quick answer's walk
-//! reaches, and a few of the cases are such.
+//! reaches, and a few of the cases are such. About a third of the sections whose sentences are reported have headings;
+//! [`heading_cases`] are all made with some, and again damage may take them away.
 
 use crate::engine::RuleBook;
 use crate::rules::{self, AllMatches, Match};
-use crate::section::{Section, MOST_TOKENS};
+use crate::section::{self, Section, MOST_TOKENS};
 use crate::selection::{self, Code, Filter, Occurs, Rule, Unit, MOST_CODES, MOST_WAITING, MOST_WORDS};
 use crate::sizes::{self, Size};
 use crate::{text, BUFFER, WORK};
@@ -46,9 +47,10 @@ pub fn case(seed: u64, index: usize) -> Case {
         60..=71 => near_limits(&mut rng),
         72..=75 => large(&mut rng),
         _ => {
-            let mut made = match rng.below(10) {
-                0 => near_limits(&mut rng),
-                1..=3 => long(&mut rng),
+            let mut made = match rng.below(40) {
+                0 => large_and_faulty(&mut rng),
+                1..=4 => near_limits(&mut rng),
+                5..=16 => long(&mut rng),
                 _ => small(&mut rng),
             };
             damage(&mut rng, &mut made);
@@ -97,6 +99,25 @@ pub fn filter_case(seed: u64, index: usize) -> Case {
     let mut made = early_way_out(&mut rng);
     if rng.chance(1, 12) {
         damage(&mut rng, &mut made);
+    }
+    lend(&mut rng, &mut made);
+    made
+}
+
+/// The first cases of a seed whose sections have headings.
+pub fn heading_cases(seed: u64, count: usize) -> impl Iterator<Item = Case> {
+    (0..count).map(move |index| heading_case(seed, index))
+}
+
+/// One case of a seed whose section has headings, under filters that ask for sentences; or at times a damaged one, mostly in
+/// its sentences or paragraphs.
+pub fn heading_case(seed: u64, index: usize) -> Case {
+    let mut rng = Rng::new(seed.rotate_left(48), index as u64);
+    let mut made = if rng.chance(1, 5) { rows_apart(&mut rng) } else { among_headings(&mut rng) };
+    match rng.below(20) {
+        0..=4 => damage_units(&mut rng, &mut made.section),
+        5 => damage(&mut rng, &mut made),
+        _ => {}
     }
     lend(&mut rng, &mut made);
     made
@@ -185,6 +206,11 @@ fn units(rng: &mut Rng, n: usize) -> Vec<u32> {
         return vec![0; n];
     }
     let rises = rng.pick(&[0, 1, 2, 4, 5, 8]);
+    rising_units(rng, n, rises)
+}
+
+/// n sentence or paragraph numbers, nonzero and never falling; they rise at so many of eight tokens.
+fn rising_units(rng: &mut Rng, n: usize, rises: usize) -> Vec<u32> {
     let mut unit: u32 = if rng.chance(9, 10) { 1 } else { rng.pick(&[2, 255, 256, 32_768, 65_530, 65_535]) };
     let mut list = vec![];
     for _ in 0..n {
@@ -197,9 +223,45 @@ fn units(rng: &mut Rng, n: usize) -> Vec<u32> {
     list
 }
 
+/// Headings: rows of zeros among sentence numbers, one or several of them, short or long, at either end or anywhere between;
+/// or every second token. Behind one the sentence before it goes on, or another begins.
+fn put_headings(rng: &mut Rng, sentences: &mut [u32]) {
+    let n = sentences.len();
+    if n == 0 {
+        return;
+    }
+    if rng.chance(1, 8) {
+        sentences.iter_mut().skip(rng.below(2)).step_by(2).for_each(|sentence| *sentence = 0);
+        return;
+    }
+    for _ in 0..rng.pick(&[1, 1, 1, 2, 3, 6]) {
+        let length = match rng.below(6) {
+            0..=3 => rng.pick(&[1, 1, 2, 3]),
+            4 => rng.pick(&[5, 16, 40, 65, 300]),
+            _ => n,
+        };
+        let length = length.min(rng.from_to(1, n));
+        let start = match rng.below(6) {
+            0 => 0,
+            1 => n - length,
+            _ => rng.below(n - length + 1),
+        };
+        sentences[start..start + length].fill(0);
+    }
+}
+
+/// Does a zero stand among numbered sentences?
+fn has_heading(sentences: &[u32]) -> bool {
+    sentences.contains(&0) && sentences.iter().any(|sentence| *sentence != 0)
+}
+
 fn section_of(rng: &mut Rng, words: Vec<u32>) -> Section {
     let n = words.len();
-    Section { sentences: units(rng, n), paragraphs: units(rng, n), words }
+    let mut section = Section { sentences: units(rng, n), paragraphs: units(rng, n), words };
+    if rng.chance(1, 3) {
+        put_headings(rng, &mut section.sentences);
+    }
+    section
 }
 
 fn small_section(rng: &mut Rng) -> Section {
@@ -560,6 +622,13 @@ fn large(rng: &mut Rng) -> Case {
     let codes = rng.from_to(1, 12);
     builder.grow(rng, &taste, codes);
     case_of(&section, builder.selection())
+}
+
+/// A large section that is refused, mostly far from its start.
+fn large_and_faulty(rng: &mut Rng) -> Case {
+    let mut made = large(rng);
+    damage_units(rng, &mut made.section);
+    made
 }
 
 /// A few numbers whose product is near the target, from below or from above.
@@ -1217,7 +1286,7 @@ fn telling(rng: &mut Rng) -> Case {
         let left_side = builder.left_side(rng);
         builder.some_parts(rng);
         let filter = builder.filter_of_sort(rng, sort);
-        if builder.tells(&filter, place) || tries == 40 {
+        if builder.tells(&filter, place) || tries == 80 {
             builder.force(Rule::Filter(filter));
             builder.lead_to(rng, left_side);
             return case_of(&section, builder.selection());
@@ -1226,7 +1295,7 @@ fn telling(rng: &mut Rng) -> Case {
     unreachable!("the last try is taken")
 }
 
-/// Up to eight tokens, so that one phrase can be all of them; all units are reported.
+/// Up to eight tokens, so that one phrase can be all of them; all units are reported, but for headings.
 fn telling_section(rng: &mut Rng) -> Section {
     let vocabulary = vocabulary(rng);
     let n = rng.from_to(2, 8);
@@ -1240,7 +1309,11 @@ fn telling_section(rng: &mut Rng) -> Section {
         };
         (0..n).map(&mut next).collect()
     };
-    Section { words, sentences: units(rng), paragraphs: units(rng) }
+    let mut section = Section { words, sentences: units(rng), paragraphs: units(rng) };
+    if rng.chance(1, 4) {
+        put_headings(rng, &mut section.sentences);
+    }
+    section
 }
 
 impl Builder<'_> {
@@ -1255,7 +1328,8 @@ impl Builder<'_> {
     }
 
     fn part_of_phrases(&mut self, rng: &mut Rng) {
-        let words = if rng.chance(1, 3) { self.section.words.clone() } else { self.random_words(rng) };
+        let whole = rng.chance(1, 3) && self.section.words.len() <= MOST_WORDS;
+        let words = if whole { self.section.words.clone() } else { self.random_words(rng) };
         self.phrase(&words);
         if rng.chance(1, 2) {
             let words = self.random_words(rng);
@@ -1300,6 +1374,137 @@ impl Builder<'_> {
             (1, [at]) => at + 1 == list.len(),
             (2, [at]) => (1..list.len() - 1).contains(at),
             _ => false,
+        }
+    }
+}
+
+// Headings
+
+/// Two tokens or more, some of them in headings and some in sentences.
+fn section_with_headings(rng: &mut Rng) -> Section {
+    let mut section = match rng.below(12) {
+        0 => large_section(rng),
+        1 => {
+            let counts = [rng.from_to(1, 9), rng.from_to(1, 9), rng.from_to(40, 140)];
+            section_with_counts(rng, &counts)
+        }
+        _ => {
+            let vocabulary = vocabulary(rng);
+            let n = rng.from_to(2, 10);
+            let words = (0..n).map(|_| rng.pick(&vocabulary)).collect();
+            section_of(rng, words)
+        }
+    };
+    while !has_heading(&section.sentences) {
+        // mostly of one token or two
+        let rises = rng.pick(&[1, 4, 5, 8]);
+        section.sentences = rising_units(rng, section.words.len(), rises);
+        put_headings(rng, &mut section.sentences);
+    }
+    section
+}
+
+/// Up to three filters above each other, mostly about sentences, over words and nots of words; at times with a not between
+/// them, or with another word that is to be found or is not.
+fn among_headings(rng: &mut Rng) -> Case {
+    let section = section_with_headings(rng);
+    let mut builder = Builder::new(&section);
+    let left_side = builder.left_side(rng);
+    match rng.below(5) {
+        0 => builder.some_parts(rng),
+        1 => builder.nots_alone(rng),
+        _ => builder.part_of_phrases(rng),
+    }
+    for level in 0..rng.pick(&[1, 1, 1, 2, 2, 3]) {
+        if level > 0 {
+            builder.between_filters(rng);
+        }
+        // ordered, window, distance; same sentence, same paragraph; different sentence, different paragraph; content
+        let sort = rng.pick(&[0, 1, 2, 3, 3, 3, 3, 3, 4, 5, 5, 5, 6, 7, 8, 9]);
+        let filter = builder.filter_of_sort(rng, sort);
+        builder.force(Rule::Filter(filter));
+    }
+    builder.lead_to(rng, left_side);
+    case_of(&section, builder.selection())
+}
+
+/// Two or three rows of tokens, and not one or two others, mostly in different sentences. Headings are between the rows, at
+/// their ends, and inside them.
+fn rows_apart(rng: &mut Rng) -> Case {
+    let mut sentences = vec![];
+    let mut rows = vec![];
+    while !has_heading(&sentences) || rows.len() < 4 {
+        let start = sentences.len();
+        sentences.extend(row_of_tokens(rng, sentences.iter().copied().max().unwrap_or(0)));
+        rows.push(start..sentences.len());
+        if rng.chance(1, 4) {
+            sentences.push(0);
+        }
+    }
+    rng.shuffle(&mut rows);
+    // each word once, so that each row is found once
+    let words: Vec<u32> = (1..=sentences.len() as u32).collect();
+    let section = Section { paragraphs: units(rng, words.len()), sentences, words };
+    let mut builder = Builder::new(&section);
+    let includes = rng.from_to(2, 3);
+    for (index, row) in rows.into_iter().enumerate().take(4) {
+        builder.phrase(&section.words[row]);
+        if index >= includes {
+            builder.force(Rule::Not);
+        }
+        if index > 0 {
+            builder.force(Rule::And);
+        }
+    }
+    let sort = rng.pick(&[3, 5, 5, 5]);
+    let filter = builder.filter_of_sort(rng, sort);
+    builder.force(Rule::Filter(filter));
+    builder.lead_to(rng, None);
+    case_of(&section, builder.selection())
+}
+
+/// One to four tokens in the next sentence, or still in the last one; at times with a token of a heading among them.
+fn row_of_tokens(rng: &mut Rng, last: u32) -> Vec<u32> {
+    let sentence = (last + u32::from(rng.chance(7, 8))).max(1);
+    let mut row = vec![sentence; rng.from_to(1, 4)];
+    if rng.chance(1, 2) {
+        let at = rng.below(row.len());
+        row[at] = 0;
+    }
+    row
+}
+
+impl Builder<'_> {
+    /// The not of one to three phrases joined by or: one match without includes.
+    fn nots_alone(&mut self, rng: &mut Rng) {
+        for phrase in 0..rng.from_to(1, 3) {
+            let words = self.random_words(rng);
+            self.phrase(&words);
+            if phrase > 0 {
+                self.force(Rule::Or);
+            }
+        }
+        self.force(Rule::Not);
+    }
+
+    fn between_filters(&mut self, rng: &mut Rng) {
+        let words = self.random_words(rng);
+        match rng.below(8) {
+            0 | 1 => self.force(Rule::Not),
+            2 => {
+                self.phrase(&words);
+                self.force(Rule::And);
+            }
+            3..=5 => {
+                self.phrase(&words);
+                self.force(Rule::Not);
+                self.force(Rule::And);
+            }
+            6 => {
+                self.phrase(&words);
+                self.force(Rule::Or);
+            }
+            _ => {}
         }
     }
 }
@@ -1367,24 +1572,62 @@ fn damage_selection_size(rng: &mut Rng, selection: &mut Vec<u32>) {
     }
 }
 
-/// Refusal 2: a sentence or a paragraph number that falls, or that is zero where others aren't.
-fn damage_units(rng: &mut Rng, section: &mut [u32]) {
-    let Some(&n) = section.first() else { return };
-    let n = n as usize;
-    if n == 0 || section.len() != 1 + 2 * n {
+/// Refusal 2: a sentence number that falls, also after zeros; a paragraph number that falls, or that is zero where others
+/// aren't; or any other number in place of one, which needn't break anything.
+fn damage_units(rng: &mut Rng, section: &mut Vec<u32>) {
+    let Ok(mut sized) = section::read_sized(section) else { return };
+    if sized.n() == 0 {
         return;
     }
     for _ in 0..rng.pick(&[1, 1, 1, 2, 3]) {
-        let place = &mut section[1 + n + rng.below(n)];
-        let (mut paragraph, mut sentence) = (*place >> 16, *place & 0xFFFF);
-        let unit = if rng.chance(1, 2) { &mut paragraph } else { &mut sentence };
-        *unit = match rng.below(4) {
-            0 | 1 => 0,
-            2 => unit.saturating_sub(1),
-            _ => rng.pick(&[1, 2, 3, *unit + 1, 65_535]).min(65_535),
-        };
-        *place = paragraph << 16 | sentence;
+        let index = any_index(rng, &sized.sentences);
+        match rng.below(5) {
+            0 | 1 => let_a_sentence_fall(rng, &mut sized.sentences, index),
+            2 | 3 => change_unit(rng, &mut sized.paragraphs[index]),
+            _ => change_unit(rng, &mut sized.sentences[index]),
+        }
     }
+    *section = sized.numbers();
+}
+
+/// The index of any token, of one of the last, of one at an edge of a block of 16, or of one in a heading.
+fn any_index(rng: &mut Rng, sentences: &[u32]) -> usize {
+    let n = sentences.len();
+    let any = rng.below(n);
+    match rng.below(6) {
+        0 => n - 1 - rng.below(n.min(4)),
+        1 => (any - any % 16 + rng.below(3)).saturating_sub(1).min(n - 1),
+        2 => (any..n).find(|index| sentences[*index] == 0).unwrap_or(any),
+        _ => any,
+    }
+}
+
+/// A nonzero sentence below the last nonzero one before it: right after that, or after some zeros.
+fn let_a_sentence_fall(rng: &mut Rng, sentences: &mut [u32], index: usize) {
+    let zeros = match rng.below(8) {
+        0..=2 => 0,
+        3 => 1,
+        4 => 2,
+        5 | 6 => rng.pick(&[3, 17, 40, 65, 130]),
+        _ => rng.below(index + 1),
+    };
+    let Some(before) = index.checked_sub(1).map(|before| before.saturating_sub(zeros)) else { return };
+    sentences[before + 1..index].fill(0);
+    let last = sentences[..=before].iter().copied().rfind(|sentence| *sentence != 0).unwrap_or(0);
+    if last > 1 && rng.chance(1, 2) {
+        sentences[index] = rng.pick(&[1, last - 1, last - last / 2]);
+    } else {
+        sentences[index] = sentences[index].clamp(1, 65_534);
+        sentences[before] = sentences[index] + 1;
+    }
+}
+
+fn change_unit(rng: &mut Rng, unit: &mut u32) {
+    *unit = match rng.below(4) {
+        0 | 1 => 0,
+        2 => unit.saturating_sub(1),
+        _ => rng.pick(&[1, 2, 3, *unit + 1, 65_535]).min(65_535),
+    };
 }
 
 /// The codes of a selection whose length is right, else none.
@@ -1490,7 +1733,7 @@ fn damage_shape(rng: &mut Rng, selection: &mut Vec<u32>) {
 
 /// Refusal 7: nots, occurs and mild nots anywhere.
 fn damage_mild_not(rng: &mut Rng, case: &mut Case) {
-    let Ok(section) = crate::section::read(&case.section) else { return };
+    let Ok(section) = section::read(&case.section) else { return };
     let mut builder = Builder::new(&section);
     for _ in 0..rng.from_to(2, 24) {
         let rule = match rng.below(9) {

@@ -1,5 +1,5 @@
 //! A second engine for document 01 ("The manual search engine: sections, selections, AllMatches"), by another hand; with
-//! document 02's requests F-1 (typed searches), F-3 (occurs) and F-4 (the early way out of a filter).
+//! document 02's requests F-1 (typed searches), F-3 (occurs), F-4 (the early way out of a filter) and F-5 (headings).
 //!
 //! Written from the papers and the readings in docs/DECISIONS.md, to be compared with the first engine on random inputs. Its
 //! method is the plainest one: a match is two vectors of strings, a list is a vector of matches, a selection is a tree, and
@@ -21,8 +21,8 @@
 //!
 //! To test an engine: implement [`Engine`] for it (as `tests/proved/mod.rs` does) and call [`agreement::hunt`] with a seed and a count
 //! of cases; the error is a message with a small test to paste back. [`agreement::hunt_occurs`] does the same where every case
-//! has an occurs, [`agreement::hunt_filters`] on cases made for the early way out of a filter, [`agreement::hunt_typed`] for
-//! typed searches.
+//! has an occurs, [`agreement::hunt_filters`] on cases made for the early way out of a filter, [`agreement::hunt_headings`]
+//! where every section is made with a heading, [`agreement::hunt_typed`] for typed searches.
 
 pub mod agreement;
 pub mod engine;
@@ -37,9 +37,11 @@ pub mod text;
 pub mod typed;
 pub mod typed_gen;
 
-pub use agreement::{compare, compare_text, compare_typed, hunt, hunt_filters, hunt_occurs, hunt_typed, Engine, Hunt};
+pub use agreement::{
+    compare, compare_text, compare_typed, hunt, hunt_filters, hunt_headings, hunt_occurs, hunt_typed, Engine, Hunt,
+};
 pub use engine::{listing, quick, snippet, unlimited, Listing, Quick, SecondEngine};
-pub use gen::{cases, filter_cases, occurs_cases, Case};
+pub use gen::{cases, filter_cases, heading_cases, occurs_cases, Case};
 pub use rules::{AllMatches, Match, Str};
 pub use typed_gen::{typed_cases, TypedCase};
 

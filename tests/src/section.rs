@@ -5,7 +5,7 @@ use crate::Refusal;
 /// "n (0 to 4,096)".
 pub const MOST_TOKENS: usize = 4_096;
 
-/// An accepted section. "Token positions, sentence numbers and paragraph numbers are three countings, as in the
+/// A section, accepted if [`read`] gave it. "Token positions, sentence numbers and paragraph numbers are three countings, as in the
 /// standard, and none stands for another." Each vector has one entry for each token; positions run from 1.
 #[derive(Clone, Debug, PartialEq, Eq)]
 pub struct Section {
@@ -39,17 +39,24 @@ impl Section {
 
 /// Reads a lent section, or refuses it: 1, then 2 over the whole of it.
 pub fn read(numbers: &[u32]) -> Result<Section, Refusal> {
+    let section = read_sized(numbers)?;
+    match first_faulty(&section) {
+        Some(place) => Err(Refusal { number: 2, place }),
+        None => Ok(section),
+    }
+}
+
+/// Reads a lent section whose sentences and paragraphs may be any, or refuses it: 1 alone.
+pub fn read_sized(numbers: &[u32]) -> Result<Section, Refusal> {
     check_length(numbers)?;
     let n = numbers[0] as usize;
     let places = &numbers[1 + n..];
     // "A place is paragraph × 65,536 + sentence."
-    let section = Section {
+    Ok(Section {
         words: numbers[1..1 + n].to_vec(),
         sentences: places.iter().map(|place| place % 65_536).collect(),
         paragraphs: places.iter().map(|place| place / 65_536).collect(),
-    };
-    check_units(&section)?;
-    Ok(section)
+    })
 }
 
 /// "1, place 0: section empty, n > 4,096, or length wrong". (Reading: an empty section is a slice of no numbers; n = 0
@@ -64,18 +71,35 @@ fn check_length(numbers: &[u32]) -> Result<(), Refusal> {
     Ok(())
 }
 
-/// "2, first faulty position: sentence or paragraph rule broken", where "a position is faulty if its sentence or its
-/// paragraph number is below that of the position before it, or just one of the two is zero." (Reading: the two are
-/// this position's number and that of the position before, in each counting by itself; position 1 is never faulty.)
-fn check_units(section: &Section) -> Result<(), Refusal> {
-    let faulty = |before: u32, here: u32| here < before || (before == 0) != (here == 0);
-    for position in 2..=section.n() {
-        let before = position - 1;
-        if faulty(section.sentence(before), section.sentence(position))
-            || faulty(section.paragraph(before), section.paragraph(position))
-        {
-            return Err(Refusal { number: 2, place: position });
+/// "2, first faulty position: sentence or paragraph rule broken". (Reading: one scan, both countings at each position;
+/// position 1 is never faulty.)
+fn first_faulty(section: &Section) -> Option<u32> {
+    // no number is below 0, so nothing is faulty before there is a nonzero one
+    let mut last_nonzero = 0;
+    for position in 1..=section.n() {
+        let sentence = section.sentence(position);
+        if sentence_is_faulty(last_nonzero, sentence) || paragraph_is_faulty(section, position) {
+            return Some(position);
+        }
+        if sentence != 0 {
+            last_nonzero = sentence;
         }
     }
-    Ok(())
+    None
+}
+
+/// Request F-5: "Sentence zero may now stand among numbered ones, in any place; the nonzero ones still never fall." "For
+/// sentences, refusal 2 falls on a nonzero one below the last nonzero one before it."
+fn sentence_is_faulty(last_nonzero: u32, here: u32) -> bool {
+    here != 0 && here < last_nonzero
+}
+
+/// "Paragraphs keep their rule": "a position is faulty if .. its paragraph number is below that of the position before it,
+/// or just one of the two is zero."
+fn paragraph_is_faulty(section: &Section, position: u32) -> bool {
+    if position == 1 {
+        return false;
+    }
+    let (before, here) = (section.paragraph(position - 1), section.paragraph(position));
+    here < before || (before == 0) != (here == 0)
 }

@@ -29,12 +29,22 @@ pub fn shrink(case: &Case, fails: &dyn Fn(&Case) -> bool) -> Case {
     }
 }
 
-/// What is to fall: the length of all, then how odd the lent memory is, then the numbers themselves.
-fn measure(case: &Case) -> (usize, usize, usize, u128) {
+/// What is to fall: the length of all, then how odd the lent memory is, then the tokens in headings, then the numbers
+/// themselves.
+fn measure(case: &Case) -> (usize, usize, usize, usize, u128) {
     let numbers = case.section.iter().chain(&case.selection).map(|&number| u128::from(number)).sum();
     let odd_lengths = case.work_len.abs_diff(WORK) + case.buffer.len().abs_diff(BUFFER);
     let noise = case.buffer.iter().filter(|&&number| number != 0).count();
-    (case.section.len() + case.selection.len(), odd_lengths, noise, numbers)
+    (case.section.len() + case.selection.len(), odd_lengths, noise, in_headings(&case.section), numbers)
+}
+
+/// How many tokens have no sentence where others have one.
+fn in_headings(section: &[u32]) -> usize {
+    let sentences = section::read_sized(section).map_or(vec![], |section| section.sentences);
+    match sentences.iter().filter(|&&sentence| sentence == 0).count() {
+        zeros if zeros < sentences.len() => zeros,
+        _ => 0,
+    }
 }
 
 /// All cases that one change leads to, the bold changes first.
@@ -44,7 +54,9 @@ fn changes(case: &Case) -> impl Iterator<Item = Case> + '_ {
     let with_selection = |selection| Case { selection, ..case.clone() };
     let sections: Box<dyn Iterator<Item = Vec<u32>>> = match section::read(&case.section) {
         Ok(section) => Box::new(changed_sections(section)),
-        Err(_) => Box::new(without_pairs(&case.section).chain(changed_numbers(&case.section))),
+        Err(_) => Box::new(
+            without_pairs(&case.section).chain(changed_units(&case.section)).chain(changed_numbers(&case.section)),
+        ),
     };
     let selections: Box<dyn Iterator<Item = Vec<u32>>> = match selection::read_shape(&case.selection) {
         Ok(tree) => Box::new(changed_trees(&tree).into_iter().map(|tree| selection::numbers(&tree.codes()))),
@@ -78,45 +90,68 @@ fn without<T: Clone>(list: &[T], cut: &std::ops::Range<usize>) -> Vec<T> {
 /// Fewer tokens; then simpler sentences and paragraphs.
 fn changed_sections(section: Section) -> impl Iterator<Item = Vec<u32>> {
     let n = section.words.len();
-    let plain = [
-        Section { words: vec![0; n], ..section.clone() },
-        Section { sentences: vec![0; n], ..section.clone() },
-        Section { paragraphs: vec![0; n], ..section.clone() },
-        Section { sentences: from_one(&section.sentences), ..section.clone() },
-        Section { paragraphs: from_one(&section.paragraphs), ..section.clone() },
-    ];
+    let plain = [Section { words: vec![0; n], ..section.clone() }].into_iter().chain(plainer_units(&section));
+    let original = section.clone();
+    let filled = cuts(n).filter_map(move |cut| {
+        filled_headings(&original.sentences, cut).map(|sentences| Section { sentences, ..original.clone() })
+    });
     // one unit fewer, from some position on
     let original = section.clone();
     let joined = (1..n).flat_map(move |at| {
-        let lower = |units: &[u32]| [&units[..at], &units[at..].iter().map(|u| u - 1).collect::<Vec<u32>>()].concat();
-        let mut list = vec![];
-        if original.sentences[at - 1] < original.sentences[at] {
-            list.push(Section { sentences: lower(&original.sentences), ..original.clone() });
-        }
-        if original.paragraphs[at - 1] < original.paragraphs[at] {
-            list.push(Section { paragraphs: lower(&original.paragraphs), ..original.clone() });
-        }
-        list
+        let sentences = one_fewer(&original.sentences, at).map(|sentences| Section { sentences, ..original.clone() });
+        let paragraphs =
+            one_fewer(&original.paragraphs, at).map(|paragraphs| Section { paragraphs, ..original.clone() });
+        sentences.into_iter().chain(paragraphs)
     });
     let fewer = cuts(n).map(move |cut| Section {
         words: without(&section.words, &cut),
         sentences: without(&section.sentences, &cut),
         paragraphs: without(&section.paragraphs, &cut),
     });
-    fewer.chain(plain).chain(joined).map(|section| section.numbers())
+    fewer.chain(plain).chain(filled).chain(joined).map(|section| section.numbers())
 }
 
-/// The same steps, from 1 on and without leaps.
+/// Sentences or paragraphs not reported, or numbered from 1 on.
+fn plainer_units(section: &Section) -> Vec<Section> {
+    let n = section.words.len();
+    vec![
+        Section { sentences: vec![0; n], ..section.clone() },
+        Section { paragraphs: vec![0; n], ..section.clone() },
+        Section { sentences: from_one(&section.sentences), ..section.clone() },
+        Section { paragraphs: from_one(&section.paragraphs), ..section.clone() },
+    ]
+}
+
+/// The plainer units of a section that is refused, where it has a size.
+fn changed_units(section: &[u32]) -> impl Iterator<Item = Vec<u32>> {
+    let sized = section::read_sized(section).ok();
+    sized.into_iter().flat_map(|section| plainer_units(&section)).map(|section| section.numbers())
+}
+
+/// The same order and the same zeros, from 1 on and without leaps.
 fn from_one(units: &[u32]) -> Vec<u32> {
-    let mut list: Vec<u32> = vec![];
-    for (at, unit) in units.iter().enumerate() {
-        let next = match at.checked_sub(1) {
-            None => (*unit).min(1),
-            Some(before) => list[before] + u32::from(units[before] < *unit),
-        };
-        list.push(next);
+    let mut numbers: Vec<u32> = units.iter().copied().filter(|unit| *unit != 0).collect();
+    numbers.sort();
+    numbers.dedup();
+    let rank = |unit: &u32| numbers.binary_search(unit).map_or(0, |index| index as u32 + 1);
+    units.iter().map(rank).collect()
+}
+
+/// The nonzero units from an index on lower by one, where this begins a unit that isn't the first.
+fn one_fewer(units: &[u32], at: usize) -> Option<Vec<u32>> {
+    let last_nonzero = units[..at].iter().rfind(|unit| **unit != 0)?;
+    let after = units[at..].iter().map(|unit| unit.saturating_sub(1));
+    (units[at] > *last_nonzero).then(|| units[..at].iter().copied().chain(after).collect())
+}
+
+/// The sentences without the zeros of some row: each goes to the sentence before it, or else to the one after it.
+fn filled_headings(sentences: &[u32], row: std::ops::Range<usize>) -> Option<Vec<u32>> {
+    let nonzero = |sentence: &&u32| **sentence != 0;
+    let mut changed = sentences.to_vec();
+    for at in row.filter(|&at| sentences[at] == 0) {
+        changed[at] = *changed[..at].iter().rfind(nonzero).or_else(|| sentences[at..].iter().find(nonzero))?;
     }
-    list
+    (changed != sentences).then_some(changed)
 }
 
 /// Every part of a tree but the whole of it.
@@ -175,7 +210,7 @@ fn lower(number: u32) -> Vec<u32> {
 
 /// Every word number by a smaller one, in section and selection alike.
 fn renamed_words(case: &Case) -> Vec<Case> {
-    let (Ok(section), Ok(tree)) = (section::read(&case.section), selection::read(&case.selection)) else {
+    let (Ok(section), Ok(tree)) = (section::read_sized(&case.section), selection::read(&case.selection)) else {
         return vec![];
     };
     let codes = tree.codes();
@@ -279,14 +314,15 @@ pub fn shrink_typed(case: &TypedCase, fails: &dyn Fn(&TypedCase) -> bool) -> Typ
     }
 }
 
-/// What is to fall: the text's length, the section's, how odd the lent memory is, the noise in it, what a byte is.
-fn measure_typed(case: &TypedCase) -> (usize, usize, usize, usize, u128) {
+/// What is to fall: the text's length, the section's, how odd the lent memory is, the noise in it, the tokens in headings,
+/// what a byte is.
+fn measure_typed(case: &TypedCase) -> (usize, usize, usize, usize, usize, u128) {
     let odd_lengths =
         case.work_len.abs_diff(WORK) + case.buffer.len().abs_diff(BUFFER) + case.selection.len().abs_diff(SELECTION);
     let noise = case.buffer.iter().chain(&case.selection).filter(|&&number| number != 0).count();
     let bytes: u128 = case.text.iter().map(|&byte| u128::from(oddness(byte))).sum();
     let numbers: u128 = case.section.iter().map(|&number| u128::from(number)).sum();
-    (case.text.len(), case.section.len(), odd_lengths, noise, bytes + numbers)
+    (case.text.len(), case.section.len(), odd_lengths, noise, in_headings(&case.section), bytes + numbers)
 }
 
 /// Digits are the plainest bytes, 1 of them the plainest; then those that a text may have.
@@ -304,7 +340,9 @@ fn typed_changes(case: &TypedCase) -> impl Iterator<Item = TypedCase> + '_ {
     let with_section = |section| TypedCase { section, ..case.clone() };
     let sections: Box<dyn Iterator<Item = Vec<u32>>> = match section::read(&case.section) {
         Ok(section) => Box::new([vec![0]].into_iter().chain(changed_sections(section))),
-        Err(_) => Box::new([vec![0]].into_iter().chain(without_pairs(&case.section))),
+        Err(_) => {
+            Box::new([vec![0]].into_iter().chain(without_pairs(&case.section)).chain(changed_units(&case.section)))
+        }
     };
     let lent = vec![
         TypedCase { work_len: WORK, buffer: vec![0; BUFFER], selection: vec![0; SELECTION], ..case.clone() },

@@ -8,7 +8,7 @@ mod proved;
 mod words;
 
 use proved::Proved;
-use second_engine::{hunt, hunt_filters, hunt_occurs, Engine, Hunt};
+use second_engine::{hunt, hunt_filters, hunt_headings, hunt_occurs, Engine, Hunt};
 use std::time::Instant;
 
 fn engine() -> impl Engine {
@@ -17,6 +17,7 @@ fn engine() -> impl Engine {
 
 const OCCURS: u64 = 212_000;
 const FILTERS: u64 = 6_000;
+const HEADINGS: u64 = 40_000;
 
 /// One half of a seed's cases, on which the engines have to agree: so many in release, fewer without optimisation; or as the environment says:
 /// `CASES=1000000 SEED=7 cargo test ...`.
@@ -63,4 +64,15 @@ fn random_cases_with_a_filter() {
 #[test]
 fn more_random_cases_with_a_filter() {
     agree(hunt_filters, "cases made for a filter's early way out", FILTERS, 1);
+}
+
+/// Headings, in most of them under filters about sentences. Damage takes them away again in at most a twentieth of the cases.
+#[test]
+fn random_cases_with_headings() {
+    agree(hunt_headings, "cases made with headings", HEADINGS, 0);
+}
+
+#[test]
+fn more_random_cases_with_headings() {
+    agree(hunt_headings, "cases made with headings", HEADINGS, 1);
 }

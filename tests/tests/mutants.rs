@@ -10,8 +10,8 @@ use second_engine::shrink::{as_rust, shrink, shrink_typed, typed_as_rust};
 use second_engine::sizes::{self, Limits, Size};
 use second_engine::typed::{self, Act, Form, Move, Operator, Pair, Reader, Sign, Sort, State, Token};
 use second_engine::{
-    cases, compare, compare_typed, engine, filter_cases, hunt_typed, occurs_cases, typed_cases, AllMatches, Case,
-    Engine, Listing, Match, Quick, Refusal, SecondEngine, TypedCase, BUFFER, WORK,
+    cases, compare, compare_typed, engine, filter_cases, heading_cases, hunt_typed, occurs_cases, typed_cases,
+    AllMatches, Case, Engine, Listing, Match, Quick, Refusal, SecondEngine, TypedCase, BUFFER, WORK,
 };
 use std::slice::from_ref;
 
@@ -23,6 +23,9 @@ const MOST_OCCURS: usize = 10_000;
 
 /// And within how many made for the early way out of a filter each mistake about that.
 const MOST_FILTERS: usize = 1_000;
+
+/// And within how many whose sections have headings each mistake about those.
+const MOST_HEADINGS: usize = 2_000;
 
 #[test]
 fn every_mistake_is_found() {
@@ -40,6 +43,12 @@ fn every_mistake_about_occurs_is_found() {
 fn every_mistake_about_filters_is_found() {
     println!("cases with a filter  mistake");
     all_are_found(all_about_filters(), || filter_cases(1, MOST_FILTERS));
+}
+
+#[test]
+fn every_mistake_about_headings_is_found() {
+    println!("cases with headings  mistake");
+    all_are_found(all_about_headings(), || heading_cases(1, MOST_HEADINGS));
 }
 
 /// Some case finds each of the mistakes.
@@ -137,6 +146,30 @@ fn shrunk_filters_are_small() {
     assert!(tokens * window > 256 && (tokens - 1) * window <= 256 && tokens * (window - 1) <= 256);
 }
 
+/// So are those of headings.
+#[test]
+fn shrunk_headings_are_small() {
+    let shrunk = |wanted: &str| {
+        let (_, mutant) = all_about_headings().into_iter().find(|(name, _)| *name == wanted).unwrap();
+        let fails = |case: &Case| compare(&*mutant, case).is_err();
+        let case = heading_cases(5, MOST_HEADINGS).find(|case| fails(case)).unwrap();
+        shrink(&case, &fails)
+    };
+    let word = [2, 0, 1, 0, 1];
+    // two tokens, the one in a heading and the other in a sentence
+    let accepted = shrunk("headings: document 01's rule for sentences");
+    assert!([[2, 0, 0, 0, 1], [2, 0, 0, 1, 0]].contains(&accepted.section[..].try_into().unwrap()));
+    assert_eq!(accepted.selection, word);
+    // three, in sentence 2, in a heading and in sentence 1
+    let hidden = shrunk("headings: a sentence held to the position before alone");
+    assert_eq!(hidden.section, [3, 0, 0, 0, 2, 0, 1]);
+    assert_eq!(hidden.selection, word);
+    // two, in a heading and in sentence 1, and their word in the same sentence
+    let neighbour = shrunk("headings: same, a heading is in the sentence after it");
+    assert_eq!(neighbour.section, [2, 0, 0, 0, 1]);
+    assert_eq!(neighbour.selection, [3, 0, 1, 9, 0, 1, 0]);
+}
+
 /// Engines with one mistake each, by name.
 struct Mutants(Vec<(&'static str, Box<dyn Engine>)>);
 
@@ -150,6 +183,7 @@ fn all() -> Vec<(&'static str, Box<dyn Engine>)> {
     list.0.extend(all_about_occurs());
     mutants_of_the_way_out(&mut list);
     mutants_of_freed_lists(&mut list);
+    mutants_of_faults(&mut list);
     list.0
 }
 
@@ -167,6 +201,15 @@ fn all_about_filters() -> Vec<(&'static str, Box<dyn Engine>)> {
     mutants_of_the_way_out(&mut list);
     mutants_of_free_windows(&mut list);
     mutants_of_freed_lists(&mut list);
+    list.0
+}
+
+fn all_about_headings() -> Vec<(&'static str, Box<dyn Engine>)> {
+    let mut list = Mutants(vec![]);
+    mutants_of_faults(&mut list);
+    mutants_of_same_with_headings(&mut list);
+    mutants_of_different_with_headings(&mut list);
+    mutants_of_heading_words(&mut list);
     list.0
 }
 
@@ -194,6 +237,19 @@ impl Mutants {
 
     fn at_windows(&mut self, name: &'static str, is_free: IsFree) {
         self.engine(name, AtWindows(is_free));
+    }
+
+    /// The second engine with another first faulty position.
+    fn faulty(&mut self, name: &'static str, faulty: impl Fn(&Section) -> Option<usize> + 'static) {
+        self.engine(name, Units(Box::new(faulty)));
+    }
+
+    fn sentences(&mut self, name: &'static str, rule: UnitRule) {
+        self.faulty(name, move |section| first_faulty(section, rule, steps_wrongly));
+    }
+
+    fn paragraphs(&mut self, name: &'static str, rule: UnitRule) {
+        self.faulty(name, move |section| first_faulty(section, falls, rule));
     }
 
     fn snippet(&mut self, name: &'static str, snippet: SnippetCall) {
@@ -438,7 +494,7 @@ fn different_by(
     overlap: fn((u32, u32), (u32, u32)) -> bool,
 ) -> AllMatches {
     let range = |s: &Str| units(section, unit, s);
-    let nonzero = |s: &Str| range(s).0 != 0;
+    let nonzero = |s: &Str| range(s).0 != 0 && range(s).1 != 0;
     let mut result = vec![];
     for m in list {
         let includes = &m.includes;
@@ -1540,6 +1596,545 @@ fn mutants_of_freed_lists(list: &mut Mutants) {
     });
 }
 
+// Headings
+
+/// Finds the first faulty position of a section.
+type Faulty = dyn Fn(&Section) -> Option<usize>;
+
+/// An engine with another first faulty position. It goes on with every section that has none.
+struct Units(Box<Faulty>);
+
+impl Units {
+    fn read(&self, section: &[u32]) -> Result<Section, Refusal> {
+        let section = section::read_sized(section)?;
+        match (self.0)(&section) {
+            Some(place) => Err(Refusal::new(2, place)),
+            None => Ok(section),
+        }
+    }
+
+    fn check(
+        &self,
+        section: &[u32],
+        selection: &[u32],
+        work: usize,
+        buffer: Option<usize>,
+    ) -> Result<(Section, Tree), Refusal> {
+        let section = self.read(section)?;
+        // a section of no tokens is never refused, so this is what is tried after the section
+        let (_, tree) = check(&[0], selection, work, buffer)?;
+        Ok((section, tree))
+    }
+}
+
+impl Engine for Units {
+    fn listing(&self, section: &[u32], selection: &[u32], work: &mut [u32], buffer: &mut [u32]) -> Listing {
+        let checked = self.check(section, selection, work.len(), Some(buffer.len()));
+        match checked.and_then(|(section, tree)| RuleBook::paper().build(&section, &tree)) {
+            Err(Refusal { number, place }) => Listing::Refused { number, place },
+            Ok(list) => {
+                let numbers = engine::encode(&list);
+                buffer[..numbers.len()].copy_from_slice(&numbers);
+                Listing::Listed { matches: numbers[0], strings: numbers[1], yes: rules::is_yes(&list) }
+            }
+        }
+    }
+
+    fn quick(&self, section: &[u32], selection: &[u32], work: &mut [u32]) -> Quick {
+        let checked = self.check(section, selection, work.len(), None);
+        match checked.and_then(|(section, tree)| RuleBook::paper().walk(&section, &tree)) {
+            Err(Refusal { number, place }) => Quick::Refused { number, place },
+            Ok((yes, codes)) => Quick::Answered { yes, codes: codes as u32 },
+        }
+    }
+
+    fn snippet<'a>(&self, section: &'a [u32], from: u32, to: u32) -> &'a [u32] {
+        match self.read(section) {
+            Ok(accepted) if 1 <= from && from <= to && to <= accepted.n() => &section[from as usize..=to as usize],
+            _ => &section[..0],
+        }
+    }
+}
+
+/// Is the last of these sentence or paragraph numbers faulty? They are those of a section up to a position.
+type UnitRule = fn(&[u32]) -> bool;
+
+/// One scan, both countings at each position.
+fn first_faulty(section: &Section, sentence: UnitRule, paragraph: UnitRule) -> Option<usize> {
+    let faulty = |at: &usize| sentence(&section.sentences[..*at]) || paragraph(&section.paragraphs[..*at]);
+    (1..=section.words.len()).find(faulty)
+}
+
+/// The rule of request F-5 for sentences.
+fn falls(numbers: &[u32]) -> bool {
+    falls_within(numbers, usize::MAX)
+}
+
+/// The same, but only so many positions before are looked at.
+fn falls_within(numbers: &[u32], positions: usize) -> bool {
+    let [before @ .., here] = numbers else { return false };
+    let last_nonzero = before.iter().rev().take(positions).find(|number| **number != 0);
+    *here != 0 && last_nonzero.is_some_and(|last| here < last)
+}
+
+/// The same, but only those positions are looked at that are in one block of so many with the last.
+fn falls_in_block(numbers: &[u32], block: usize) -> bool {
+    falls_within(numbers, numbers.len().saturating_sub(1) % block)
+}
+
+/// The rule of document 01, which paragraphs keep.
+fn steps_wrongly(numbers: &[u32]) -> bool {
+    match numbers {
+        [.., before, here] => here < before || (*before == 0) != (*here == 0),
+        _ => false,
+    }
+}
+
+/// Is the last number 0, and does the test hold of those before it?
+fn is_zero_after(numbers: &[u32], test: impl Fn(&[u32]) -> bool) -> bool {
+    matches!(numbers, [before @ .., 0] if test(before))
+}
+
+fn any_nonzero(numbers: &[u32]) -> bool {
+    numbers.iter().any(|number| *number != 0)
+}
+
+/// All about refusal 2.
+fn mutants_of_faults(list: &mut Mutants) {
+    mutants_of_sentence_numbers(list);
+    mutants_of_paragraph_numbers(list);
+    mutants_of_fault_places(list);
+    mutants_of_one_call(list);
+}
+
+fn mutants_of_sentence_numbers(list: &mut Mutants) {
+    list.sentences("headings: document 01's rule for sentences", steps_wrongly);
+    list.sentences("headings: a zero is a fall", |numbers| falls(numbers) || is_zero_after(numbers, any_nonzero));
+    list.sentences("headings: a sentence held to the position before alone", |numbers| falls_within(numbers, 1));
+    list.sentences("headings: the last sentence forgotten after two zeros", |numbers| falls_within(numbers, 2));
+    list.sentences("headings: the last sentence forgotten after three zeros", |numbers| falls_within(numbers, 3));
+    list.sentences("headings: the last sentence forgotten after 15 zeros", |numbers| falls_within(numbers, 15));
+    list.sentences("headings: the last sentence forgotten after 64 zeros", |numbers| falls_within(numbers, 64));
+    list.sentences("headings: the last sentence forgotten after each 16 positions", |numbers| {
+        falls_in_block(numbers, 16)
+    });
+    list.sentences("headings: the last sentence forgotten after each 64 positions", |numbers| {
+        falls_in_block(numbers, 64)
+    });
+    list.sentences("headings: after each 32 positions held to the position before alone", |numbers| {
+        falls_in_block(numbers, 32) || falls_within(numbers, 1)
+    });
+    list.sentences("headings: sentences aren't looked at", |_| false);
+    list.sentences("headings: a sentence held to the first one", |numbers| {
+        let [before @ .., here] = numbers else { return false };
+        *here != 0 && before.iter().find(|number| **number != 0).is_some_and(|first| here < first)
+    });
+    list.sentences("headings: a sentence may begin again at 1", |numbers| {
+        falls(numbers) && !matches!(numbers, [.., 0, 1])
+    });
+    list.sentences("headings: a sentence can't go on after a heading", |numbers| match numbers {
+        [before @ .., 0, here] => *here != 0 && before.iter().rfind(|n| **n != 0).is_some_and(|last| here <= last),
+        _ => falls(numbers),
+    });
+    list.sentences("headings: no leap after a heading", |numbers| match numbers {
+        [before @ .., 0, here] if *here != 0 => {
+            falls(numbers) || before.iter().rfind(|n| **n != 0).is_some_and(|last| *here > last + 1)
+        }
+        _ => falls(numbers),
+    });
+    list.sentences("headings: none at the start", |numbers| match numbers {
+        [before @ .., here] => falls(numbers) || *here != 0 && !before.is_empty() && !any_nonzero(before),
+        _ => false,
+    });
+    list.sentences("headings: of one token alone", |numbers| {
+        let second = |before: &[u32]| before.last() == Some(&0) && any_nonzero(before);
+        falls(numbers) || is_zero_after(numbers, second)
+    });
+    list.sentences("headings: one alone", |numbers| {
+        let begins = |pair: &[u32]| pair[0] != 0 && pair[1] == 0;
+        let headings = numbers.windows(2).filter(|pair| begins(pair)).count() + usize::from(numbers[0] == 0);
+        falls(numbers) || headings > 1 && any_nonzero(numbers)
+    });
+    list.faulty("headings: none at the end", |section| {
+        let last = is_zero_after(&section.sentences, any_nonzero);
+        first_faulty(section, falls, steps_wrongly).or(last.then_some(section.words.len()))
+    });
+    list.faulty("headings: all sentences zero refused", |section| {
+        let none = !section.words.is_empty() && !any_nonzero(&section.sentences);
+        first_faulty(section, falls, steps_wrongly).or(none.then_some(1))
+    });
+    list.faulty("headings: position 1 faulty where it is in one", |section| {
+        let first = section.sentences.first() == Some(&0) && any_nonzero(&section.sentences);
+        if first {
+            Some(1)
+        } else {
+            first_faulty(section, falls, steps_wrongly)
+        }
+    });
+    list.sentences("headings: numbers of 8 bits", |numbers| {
+        falls(&numbers.iter().map(|number| number & 0xFF).collect::<Vec<u32>>())
+    });
+    list.faulty("headings: sentences counted anew in each paragraph", |section| {
+        let rises = |at: usize| at > 1 && section.paragraphs[at - 2] < section.paragraphs[at - 1];
+        let faulty = |at: &usize| {
+            let (sentences, paragraphs) = (&section.sentences[..*at], &section.paragraphs[..*at]);
+            falls(sentences) && !rises(*at) || steps_wrongly(paragraphs)
+        };
+        (1..=section.words.len()).find(faulty)
+    });
+}
+
+fn mutants_of_paragraph_numbers(list: &mut Mutants) {
+    list.paragraphs("headings: the sentence rule for paragraphs", falls);
+    list.paragraphs("headings: a zero paragraph after nonzero ones accepted", |numbers| {
+        steps_wrongly(numbers) && numbers.last() != Some(&0)
+    });
+    list.paragraphs("headings: a paragraph after zero ones accepted", |numbers| {
+        steps_wrongly(numbers) && !matches!(numbers, [.., 0, _])
+    });
+    list.paragraphs("headings: paragraphs aren't looked at", |_| false);
+    list.faulty("headings: a heading's zero paragraph accepted", |section| {
+        let zeros = |at: usize| (section.sentences[at - 1], section.paragraphs[at - 1]) == (0, 0);
+        let faulty = |at: &usize| {
+            let fault = steps_wrongly(&section.paragraphs[..*at]) && !zeros(*at);
+            falls(&section.sentences[..*at]) || fault
+        };
+        (1..=section.words.len()).find(faulty)
+    });
+    list.faulty("headings: a heading's paragraph isn't looked at", |section| {
+        let faulty = |at: &usize| {
+            let fault = steps_wrongly(&section.paragraphs[..*at]) && section.sentences[at - 1] != 0;
+            falls(&section.sentences[..*at]) || fault
+        };
+        (1..=section.words.len()).find(faulty)
+    });
+    list.faulty("headings: a zero in both countings alone", |section| {
+        let faulty = |at: &usize| {
+            let alone = section.sentences[at - 1] == 0 && section.paragraphs[at - 1] != 0;
+            falls(&section.sentences[..*at]) || steps_wrongly(&section.paragraphs[..*at]) || alone
+        };
+        (1..=section.words.len()).find(faulty)
+    });
+}
+
+/// How many zeros stand right before the last number.
+fn zeros_before(numbers: &[u32]) -> usize {
+    numbers.iter().rev().skip(1).take_while(|number| **number == 0).count()
+}
+
+/// The right first fault, if it is a sentence's, at another place.
+fn moved(section: &Section, place: impl Fn(&[u32]) -> usize) -> Option<usize> {
+    let at = first_faulty(section, falls, steps_wrongly)?;
+    let sentences = &section.sentences[..at];
+    Some(if falls(sentences) { place(sentences) } else { at })
+}
+
+fn mutants_of_fault_places(list: &mut Mutants) {
+    list.faulty("headings: the fault at the zero before it", |section| {
+        moved(section, |sentences| sentences.len() - zeros_before(sentences).min(1))
+    });
+    list.faulty("headings: the fault at the first zero before it", |section| {
+        moved(section, |sentences| sentences.len() - zeros_before(sentences))
+    });
+    list.faulty("headings: the fault at the sentence that it is below", |section| {
+        moved(section, |sentences| sentences.len() - zeros_before(sentences) - 1)
+    });
+    list.faulty("headings: the fault's place without zeros", |section| {
+        moved(section, |sentences| sentences.iter().filter(|sentence| **sentence != 0).count())
+    });
+    list.faulty("headings: the last fault", |section| {
+        let faulty = |at: &usize| falls(&section.sentences[..*at]) || steps_wrongly(&section.paragraphs[..*at]);
+        (1..=section.words.len()).rfind(faulty)
+    });
+    list.faulty("headings: sentences all before paragraphs", |section| {
+        first_faulty(section, falls, |_| false).or_else(|| first_faulty(section, |_| false, steps_wrongly))
+    });
+    list.faulty("headings: paragraphs all before sentences", |section| {
+        first_faulty(section, |_| false, steps_wrongly).or_else(|| first_faulty(section, falls, |_| false))
+    });
+}
+
+/// The engine that has another rule for sentences.
+fn with_sentences(rule: UnitRule) -> Units {
+    Units(Box::new(move |section| first_faulty(section, rule, steps_wrongly)))
+}
+
+/// One call alone has another rule.
+fn mutants_of_one_call(list: &mut Mutants) {
+    list.listing("headings: document 01's rule in the listing alone", |section, selection, work, buffer| {
+        with_sentences(steps_wrongly).listing(section, selection, &mut vec![0; work], buffer)
+    });
+    list.quick("headings: document 01's rule in the quick answer alone", |section, selection, work| {
+        with_sentences(steps_wrongly).quick(section, selection, &mut vec![0; work])
+    });
+    list.snippet("headings: document 01's rule in the snippet alone", |section, from, to| {
+        with_sentences(steps_wrongly).snippet(section, from, to)
+    });
+    list.listing("headings: a fall after zeros accepted in the listing alone", |section, selection, work, buffer| {
+        with_sentences(|numbers| falls_within(numbers, 1)).listing(section, selection, &mut vec![0; work], buffer)
+    });
+    list.quick("headings: a fall after zeros accepted in the quick answer alone", |section, selection, work| {
+        with_sentences(|numbers| falls_within(numbers, 1)).quick(section, selection, &mut vec![0; work])
+    });
+    list.snippet("headings: a fall after zeros accepted in the snippet alone", |section, from, to| {
+        with_sentences(|numbers| falls_within(numbers, 1)).snippet(section, from, to)
+    });
+}
+
+/// The section with another sentence for each token of a heading: the last one before it, if there is one.
+fn with_the_sentence_before(section: &Section) -> Section {
+    let mut filled = section.clone();
+    for at in 1..filled.sentences.len() {
+        if filled.sentences[at] == 0 {
+            filled.sentences[at] = filled.sentences[at - 1];
+        }
+    }
+    filled
+}
+
+/// The next one after it, if there is one.
+fn with_the_sentence_after(section: &Section) -> Section {
+    let mut filled = section.clone();
+    for at in (1..filled.sentences.len()).rev() {
+        if filled.sentences[at - 1] == 0 {
+            filled.sentences[at - 1] = filled.sentences[at];
+        }
+    }
+    filled
+}
+
+/// Another number for each token of a heading, by its index.
+fn with_heading_sentences(section: &Section, number: fn(usize) -> u32) -> Section {
+    let mut filled = section.clone();
+    if any_nonzero(&section.sentences) {
+        let tokens = filled.sentences.iter_mut().enumerate();
+        tokens.filter(|(_, sentence)| **sentence == 0).for_each(|(at, sentence)| *sentence = number(at));
+    }
+    filled
+}
+
+/// Numbers that no sentence has: for each token of a heading its own, or for all of them one.
+fn with_own_sentences(section: &Section) -> Section {
+    with_heading_sentences(section, |at| 65_536 + at as u32)
+}
+
+fn with_one_sentence(section: &Section) -> Section {
+    with_heading_sentences(section, |_| 65_536)
+}
+
+/// Is the sentence of the string's start or of its end a heading's?
+fn has_zero(section: &Section, unit: Unit, s: &Str) -> bool {
+    let (start, end) = units(section, unit, s);
+    unit == Unit::Sentence && any_nonzero(&section.sentences) && (start == 0 || end == 0)
+}
+
+/// The rule with the excludes for which the test holds kept in their places, and the others as they are by it.
+fn with_excludes(
+    list: &[Match],
+    rule: impl Fn(&[Match]) -> AllMatches,
+    stays: impl Fn(&Match, &Str) -> bool,
+) -> AllMatches {
+    let mut result = vec![];
+    for m in list {
+        for by_rule in rule(from_ref(m)) {
+            let kept = |e: &&Str| by_rule.excludes.contains(e) || stays(m, e);
+            let excludes = m.excludes.iter().filter(kept).copied().collect();
+            result.push(Match { includes: m.includes.clone(), excludes });
+        }
+    }
+    result
+}
+
+/// The rule with the includes for which the test holds left aside while it decides.
+fn with_includes_aside(
+    list: &[Match],
+    rule: impl Fn(&[Match]) -> AllMatches,
+    aside: impl Fn(&Str) -> bool,
+) -> AllMatches {
+    let mut result = vec![];
+    for m in list {
+        let rest = Match { includes: m.includes.iter().filter(|s| !aside(s)).copied().collect(), ..m.clone() };
+        let decided = if rest.includes.is_empty() { rule(from_ref(m)) } else { rule(from_ref(&rest)) };
+        result.extend(decided.into_iter().map(|by_rule| Match { includes: m.includes.clone(), ..by_rule }));
+    }
+    result
+}
+
+/// Are all tokens of a string in the sentence in which it starts?
+fn is_in_one(section: &Section, s: &Str) -> bool {
+    (s.start..=s.end).all(|position| section.sentence(position) == section.sentence(s.start))
+}
+
+fn mutants_of_same_with_headings(list: &mut Mutants) {
+    list.at_filters("headings: at the way out, a heading is in the sentence before it", |section, filter| {
+        RuleBook::paper().walk(&with_the_sentence_before(section), filter)
+    });
+    list.book("headings: same, a heading is in the sentence before it", |book| {
+        book.same = |section, unit, list| rules::same(&with_the_sentence_before(section), unit, list)
+    });
+    list.book("headings: same, a heading is in the sentence after it", |book| {
+        book.same = |section, unit, list| rules::same(&with_the_sentence_after(section), unit, list)
+    });
+    list.book("headings: same, a heading's word is a sentence of its own", |book| {
+        book.same = |section, unit, list| rules::same(&with_own_sentences(section), unit, list)
+    });
+    list.book("headings: same, all headings are one sentence", |book| {
+        book.same = |section, unit, list| rules::same(&with_one_sentence(section), unit, list)
+    });
+    list.book("headings: same, includes in a heading are left aside", |book| {
+        book.same = |section, unit, list| {
+            let rule = |list: &[Match]| rules::same(section, unit, list);
+            with_includes_aside(list, rule, |s| has_zero(section, unit, s))
+        }
+    });
+    list.book("headings: same, excludes in a heading stay", |book| {
+        book.same = |section, unit, list| {
+            let rule = |list: &[Match]| rules::same(section, unit, list);
+            with_excludes(list, rule, |m, e| !m.includes.is_empty() && has_zero(section, unit, e))
+        }
+    });
+    list.book("headings: same, without includes excludes in a heading stay", |book| {
+        book.same = |section, unit, list| {
+            let rule = |list: &[Match]| rules::same(section, unit, list);
+            with_excludes(list, rule, |m, e| m.includes.is_empty() && has_zero(section, unit, e))
+        }
+    });
+    list.book("headings: same, every token of an include looked at", |book| {
+        book.same = |section, unit, list| {
+            let whole = |m: &Match| unit == Unit::Paragraph || m.includes.iter().all(|s| is_in_one(section, s));
+            kept(&rules::same(section, unit, list), whole)
+        }
+    });
+    list.book("headings: same, every token of an exclude looked at", |book| {
+        book.same = |section, unit, list| {
+            excludes(rules::same(section, unit, list), |excludes| {
+                excludes.retain(|e| unit == Unit::Paragraph || is_in_one(section, e))
+            })
+        }
+    });
+    list.book("headings: same, nothing where the section has a heading", |book| {
+        book.same = |section, unit, list| match unit == Unit::Sentence && section.sentences.contains(&0) {
+            true => rules::same(&Section { sentences: vec![0; section.words.len()], ..section.clone() }, unit, list),
+            false => rules::same(section, unit, list),
+        }
+    });
+    list.book("headings: same, of a paragraph's headings too", |book| {
+        book.same = |section, unit, list| match unit {
+            Unit::Sentence => rules::same(section, unit, list),
+            Unit::Paragraph => {
+                let of = |(sentence, paragraph): (&u32, &u32)| if *sentence == 0 { 0 } else { *paragraph };
+                let paragraphs = section.sentences.iter().zip(&section.paragraphs).map(of).collect();
+                rules::same(&Section { paragraphs, ..section.clone() }, unit, list)
+            }
+        }
+    });
+}
+
+fn mutants_of_different_with_headings(list: &mut Mutants) {
+    list.book("headings: different, a heading is in the sentence before it", |book| {
+        book.different = |section, unit, list| rules::different(&with_the_sentence_before(section), unit, list)
+    });
+    list.book("headings: different, a heading is in the sentence after it", |book| {
+        book.different = |section, unit, list| rules::different(&with_the_sentence_after(section), unit, list)
+    });
+    list.book("headings: different, a heading's word is a sentence of its own", |book| {
+        book.different = |section, unit, list| rules::different(&with_own_sentences(section), unit, list)
+    });
+    list.book("headings: different, all headings are one sentence", |book| {
+        book.different = |section, unit, list| rules::different(&with_one_sentence(section), unit, list)
+    });
+    list.book("headings: different, includes in a heading are left aside", |book| {
+        book.different = |section, unit, list| {
+            let rule = |list: &[Match]| rules::different(section, unit, list);
+            with_includes_aside(list, rule, |s| has_zero(section, unit, s))
+        }
+    });
+    list.book("headings: different, excludes in a heading stay", |book| {
+        book.different = |section, unit, list| {
+            let rule = |list: &[Match]| rules::different(section, unit, list);
+            with_excludes(list, rule, |_, e| has_zero(section, unit, e))
+        }
+    });
+    list.book("headings: different, only starts must be nonzero", |book| {
+        book.different = |section, unit, list| different_nonzero(section, unit, list, |(start, _)| start != 0)
+    });
+    list.book("headings: different, only ends must be nonzero", |book| {
+        book.different = |section, unit, list| different_nonzero(section, unit, list, |(_, end)| end != 0)
+    });
+    list.book("headings: different, every token of an include looked at", |book| {
+        book.different = |section, unit, list| {
+            let zero = |s: &Str| (s.start..=s.end).any(|position| section.sentence(position) == 0);
+            let whole = |m: &Match| unit == Unit::Paragraph || !m.includes.iter().any(zero);
+            kept(&rules::different(section, unit, list), whole)
+        }
+    });
+}
+
+/// The different rule with another test of nonzero units. Two ranges overlap if an end of one is in the other.
+fn different_nonzero(section: &Section, unit: Unit, list: &[Match], nonzero: fn((u32, u32)) -> bool) -> AllMatches {
+    let range = |s: &Str| {
+        let (start, end) = units(section, unit, s);
+        (start.min(end), start.max(end))
+    };
+    let overlap = |one: &Str, other: &Str| range(one).0 <= range(other).1 && range(other).0 <= range(one).1;
+    let is_nonzero = |s: &Str| nonzero(units(section, unit, s));
+    let mut result = vec![];
+    for m in list {
+        let includes = &m.includes;
+        let apart = (0..includes.len()).all(|i| (0..i).all(|j| !overlap(&includes[i], &includes[j])));
+        if includes.len() >= 2 && includes.iter().all(is_nonzero) && apart {
+            let stays = |e: &&Str| is_nonzero(e) && !includes.iter().any(|i| overlap(e, i));
+            let excludes = m.excludes.iter().filter(stays).copied().collect();
+            result.push(Match { includes: includes.clone(), excludes });
+        }
+    }
+    result
+}
+
+/// As if the words of a heading were no words of the text.
+fn mutants_of_heading_words(list: &mut Mutants) {
+    fn in_heading(section: &Section, position: u32) -> bool {
+        any_nonzero(&section.sentences) && section.sentence(position) == 0
+    }
+    list.book("headings: their words aren't found", |book| {
+        book.phrase = |section, words, query| {
+            kept(&rules::phrase(section, words, query), |m| !in_heading(section, m.includes[0].start))
+        }
+    });
+    list.book("headings: no phrase begins in one and ends after it", |book| {
+        book.phrase = |section, words, query| {
+            let parted = |s: &Str| in_heading(section, s.start) != in_heading(section, s.end);
+            kept(&rules::phrase(section, words, query), |m| !parted(&m.includes[0]))
+        }
+    });
+    list.book("headings: phrases over them", |book| {
+        book.phrase = |section, words, query| {
+            let over = |s: &Str| (s.start..=s.end).any(|position| in_heading(section, position));
+            let parted = |s: &Str| over(s) && !in_heading(section, s.start) && !in_heading(section, s.end);
+            kept(&rules::phrase(section, words, query), |m| !parted(&m.includes[0]))
+        }
+    });
+    list.book("headings: at start, after one", |book| {
+        book.at_start = |section, list| {
+            let start = (1..=section.n()).find(|position| !in_heading(section, *position));
+            kept(list, |m| start.is_some_and(|start| m.covers(start)))
+        }
+    });
+    list.book("headings: at end, before one", |book| {
+        book.at_end = |section, list| {
+            let end = (1..=section.n()).rfind(|position| !in_heading(section, *position));
+            kept(list, |m| end.is_some_and(|end| m.covers(end)))
+        }
+    });
+    list.book("headings: entire content, but them", |book| {
+        book.entire_content = |section, list| {
+            let covered = |m: &Match, position| m.includes.iter().any(|s| s.contiguous && s.covers(position));
+            let content = |position: &u32| !in_heading(section, *position);
+            kept(list, |m| (1..=section.n()).filter(content).all(|position| covered(m, position)))
+        }
+    });
+}
+
 // The calls
 
 type ListingCall = fn(&[u32], &[u32], usize, &mut [u32]) -> Listing;
@@ -1807,27 +2402,6 @@ fn mutants_of_checks(list: &mut Mutants) {
     list.repairing_section("checks: n = 4,097 accepted", |section| match section::read(section) {
         Err(Refusal { number: 1, .. }) if section.len() == 1 + 2 * 4_097 && section[0] == 4_097 => vec![0],
         _ => section.to_vec(),
-    });
-    list.refusing("checks: sentences all before paragraphs", |section, _, _, _| {
-        let Err(Refusal { number: 2, .. }) = section::read(section) else { return None };
-        let n = section[0] as usize;
-        let only = |change: fn(u32) -> u32| {
-            let places = section[1 + n..].iter().map(|&place| change(place));
-            let changed: Vec<u32> = section[..1 + n].iter().copied().chain(places).collect();
-            section::read(&changed).err().map(|refused| (2, refused.place as usize))
-        };
-        only(|place| place & 0xFFFF).or_else(|| only(|place| place & 0xFFFF_0000))
-    });
-    list.repairing_section("checks: a zero after nonzero ones alone is faulty", |section| {
-        let Err(Refusal { number: 2, place }) = section::read(section) else { return section.to_vec() };
-        let n = section[0] as usize;
-        let (before, here) = (section[n + place as usize - 1], section[n + place as usize]);
-        let falls = here >> 16 < before >> 16 || here & 0xFFFF < before & 0xFFFF;
-        if falls {
-            section.to_vec()
-        } else {
-            vec![0]
-        }
     });
     list.refusing("checks: position 1 can be faulty", |section, _, _, _| {
         let n = *section.first()? as usize;

@@ -3,11 +3,11 @@
 use second_engine::engine::RuleBook;
 use second_engine::gen::{self, Case};
 use second_engine::section::Section;
-use second_engine::selection::{self, Filter, Occurs, Rule, Tree};
+use second_engine::selection::{self, Filter, Occurs, Rule, Tree, Unit};
 use second_engine::sizes::{self, Size};
 use second_engine::{
-    cases, engine, filter_cases, hunt, hunt_filters, hunt_occurs, occurs_cases, rules, section, text, Hunt, Listing,
-    Match, Quick, Refusal, SecondEngine, BUFFER, WORK,
+    cases, engine, filter_cases, heading_cases, hunt, hunt_filters, hunt_headings, hunt_occurs, occurs_cases, rules,
+    section, text, Hunt, Listing, Match, Quick, Refusal, SecondEngine, Str, BUFFER, WORK,
 };
 use std::collections::BTreeMap;
 use std::slice::from_ref;
@@ -45,6 +45,12 @@ fn the_second_engine_agrees_with_itself_on_occurs() {
 #[test]
 fn the_second_engine_agrees_with_itself_on_filters() {
     agrees_with_itself(hunt_filters, "cases with a filter", how_many() / 100);
+}
+
+/// And on sections with headings.
+#[test]
+fn the_second_engine_agrees_with_itself_on_headings() {
+    agrees_with_itself(hunt_headings, "cases with headings", how_many() / 20);
 }
 
 /// The walk as it was before request F-4: filters built whole, and measured.
@@ -101,6 +107,10 @@ fn cases_can_be_made_again() {
     assert!(filters == filter_cases(7, 300).collect::<Vec<_>>());
     assert!(filters[299] == gen::filter_case(7, 299));
     assert!(filters != filter_cases(8, 300).collect::<Vec<_>>());
+    let headings: Vec<Case> = heading_cases(7, 300).collect();
+    assert!(headings == heading_cases(7, 300).collect::<Vec<_>>());
+    assert!(headings[299] == gen::heading_case(7, 299));
+    assert!(headings != heading_cases(8, 300).collect::<Vec<_>>());
 }
 
 /// How often what was met.
@@ -168,8 +178,13 @@ fn cases_meet_everything() {
                 ));
             }
         }
-        if let Ok(section) = section::read(&case.section) {
-            meet(format!("n {}", bucket(section.n(), 4_096)));
+        match (section::read_sized(&case.section), section::read(&case.section)) {
+            (_, Ok(section)) => {
+                meet(format!("n {}", bucket(section.n(), 4_096)));
+                about_headings(&section, &mut meet);
+            }
+            (Ok(sized), Err(refusal)) => about_fault(&sized, refusal.place as usize, &mut meet),
+            _ => {}
         }
         if let Ok(tree) = selection::read(&case.selection) {
             meet(format!("waiting {}", waiting(&tree)));
@@ -222,6 +237,14 @@ fn cases_meet_everything() {
         "work one more",
         "buffer one too short",
         "buffer one more",
+        "a heading at the start",
+        "a heading in the middle",
+        "a heading at the end",
+        "headings, n over 1,000",
+        "refused 2: a sentence falls right after another",
+        "refused 2: a sentence falls after 1 zero",
+        "refused 2: a sentence falls after 2 to 15 zeros",
+        "refused 2: a fault beyond 1,000",
     ];
     needed.extend(others.map(String::from));
     often_enough(&met, needed, count);
@@ -475,6 +498,283 @@ fn about_windows(m: &Match, size: u32, meet: &mut impl FnMut(String)) {
         _ => "of both sorts",
     };
     meet(format!("excludes {sort}: {yes}"));
+}
+
+/// Counts what the cases with headings are about: where the headings stand, where and after how many zeros a sentence falls,
+/// and which strings of a heading, or over one, the filters about sentences drop or keep.
+#[test]
+#[cfg_attr(debug_assertions, ignore = "needs optimisation")]
+fn heading_cases_meet_everything() {
+    let mut met = Met::new();
+    let mut meet = |what: String| *met.entry(what).or_insert(0) += 1;
+    let count = how_many() / 10;
+    for case in heading_cases(2, count) {
+        let Ok(sized) = section::read_sized(&case.section) else { continue };
+        if !headings(&sized.sentences).is_empty() {
+            meet("a heading".into());
+        }
+        let tree = match engine::check(&case.section, &case.selection, WORK, None) {
+            Err(Refusal { number: 2, place }) => {
+                about_fault(&sized, place as usize, &mut meet);
+                continue;
+            }
+            Err(_) => continue,
+            Ok((_, tree)) => tree,
+        };
+        about_headings(&sized, &mut meet);
+        if headings(&sized.sentences).is_empty() {
+            continue;
+        }
+        let listing = second_engine::listing(&case.section, &case.selection, case.work_len, &mut case.buffer.clone());
+        if let Listing::Listed { yes, .. } = listing {
+            meet(format!("listed {yes}"));
+        }
+        if let Quick::Answered { yes, .. } = second_engine::quick(&case.section, &case.selection, case.work_len) {
+            meet(format!("quick {yes}"));
+            if sentence_filters_in_a_row(&tree) > 1 {
+                meet(format!("two filters about sentences, a not between them: {yes}"));
+            }
+        }
+        about_sentence_filters(&sized, &tree, &mut meet);
+    }
+
+    let mut needed = vec![];
+    for yes in [true, false] {
+        needed.extend(["listed", "quick"].map(|call| format!("{call} {yes}")));
+        needed.push(format!("two filters about sentences, a not between them: {yes}"));
+    }
+    needed.extend(["at the start", "at the end", "in the middle"].map(|place| format!("a heading {place}")));
+    needed.extend(
+        ["1 token", "2 to 15 tokens", "16 to 64 tokens", "over 64 tokens"].map(|n| format!("a heading of {n}")),
+    );
+    needed.extend(["the same sentence", "the next", "a later one"].map(|next| format!("after a heading {next}")));
+    needed.extend(["several headings", "every second token in a heading"].map(String::from));
+    needed.extend(["n over 64", "n over 1,000"].map(|n| format!("headings, {n}")));
+    needed.extend(
+        ["right after another", "after 1 zero", "after 2 to 15 zeros", "after 16 to 64 zeros", "after over 64 zeros"]
+            .map(|zeros| format!("refused 2: a sentence falls {zeros}")),
+    );
+    for place in ["in a heading", "in a sentence"] {
+        needed.extend(
+            ["falls", "is zero after others", "isn't zero after zeros"]
+                .map(|fault| format!("refused 2: a paragraph {fault}, {place}")),
+        );
+    }
+    needed.extend(
+        ["in both countings", "at n", "beyond 64", "beyond 1,000", "before a paragraph's", "before a sentence's"]
+            .map(|fault| format!("refused 2: a fault {fault}")),
+    );
+    for filter in ["same", "different"] {
+        needed.extend(
+            [
+                "an include in a heading drops a match",
+                "an include from or into a heading drops a match",
+                "an include over a heading stays",
+                "an exclude in a heading goes",
+                "an exclude from or into a heading goes",
+                "an exclude over a heading stays",
+                "an exclude in a heading goes, and no becomes yes",
+            ]
+            .map(|what| format!("{filter}: {what}")),
+        );
+    }
+    needed.extend(
+        ["without includes, an exclude in a heading goes", "includes on both sides of a heading stay"]
+            .map(|what| format!("same: {what}")),
+    );
+    met_once_in(1_000, &met, needed, count);
+    assert!(met["a heading"] * 100 >= count * 95, "a heading in {} of {count} cases", met["a heading"]);
+}
+
+/// The rows of zeros among numbered sentences, by their first and last positions.
+fn headings(sentences: &[u32]) -> Vec<(usize, usize)> {
+    if sentences.iter().all(|sentence| *sentence == 0) {
+        return vec![];
+    }
+    let mut list = vec![];
+    let mut first = 1;
+    for row in sentences.chunk_by(|one, other| (*one == 0) == (*other == 0)) {
+        if row[0] == 0 {
+            list.push((first, first + row.len() - 1));
+        }
+        first += row.len();
+    }
+    list
+}
+
+fn few_or_many(count: usize, what: &str) -> String {
+    match count {
+        1 => format!("1 {what}"),
+        0..=15 => format!("2 to 15 {what}s"),
+        16..=64 => format!("16 to 64 {what}s"),
+        _ => format!("over 64 {what}s"),
+    }
+}
+
+/// The headings of an accepted section.
+fn about_headings(section: &Section, meet: &mut impl FnMut(String)) {
+    let sentences = &section.sentences;
+    let headings = headings(sentences);
+    if headings.len() > 1 {
+        meet("several headings".into());
+    }
+    if sentences.len() > 3 && sentences.windows(2).all(|pair| (pair[0] == 0) != (pair[1] == 0)) {
+        meet("every second token in a heading".into());
+    }
+    for limit in [64, 1_000].into_iter().filter(|limit| !headings.is_empty() && sentences.len() > *limit) {
+        meet(format!("headings, n over {}", if limit == 64 { "64" } else { "1,000" }));
+    }
+    for (first, last) in headings {
+        meet(format!("a heading of {}", few_or_many(last - first + 1, "token")));
+        match (first, last) {
+            (1, _) => meet("a heading at the start".into()),
+            _ if last == sentences.len() => meet("a heading at the end".into()),
+            _ => {
+                meet("a heading in the middle".into());
+                let (before, after) = (sentences[first - 2], sentences[last]);
+                let next = ["the same sentence", "the next"].get((after - before) as usize);
+                meet(format!("after a heading {}", next.unwrap_or(&"a later one")));
+            }
+        }
+    }
+}
+
+/// The first fault of a refused section.
+fn about_fault(section: &Section, place: usize, meet: &mut impl FnMut(String)) {
+    let accepts = |sentences: &[u32], paragraphs: &[u32]| {
+        let (words, sentences, paragraphs) = (vec![0; sentences.len()], sentences.to_vec(), paragraphs.to_vec());
+        section::read(&Section { words, sentences, paragraphs }.numbers()).is_ok()
+    };
+    let (sentences, paragraphs) = (&section.sentences, &section.paragraphs);
+    let sentence = !accepts(&sentences[..place], &vec![0; place]);
+    let paragraph = !accepts(&vec![0; place], &paragraphs[..place]);
+    if sentence && paragraph {
+        meet("refused 2: a fault in both countings".into());
+    }
+    if sentence {
+        let zeros = sentences[..place - 1].iter().rev().take_while(|sentence| **sentence == 0).count();
+        let after =
+            if zeros == 0 { "right after another".into() } else { format!("after {}", few_or_many(zeros, "zero")) };
+        meet(format!("refused 2: a sentence falls {after}"));
+        if !paragraph && !accepts(&vec![0; sentences.len()], paragraphs) {
+            meet("refused 2: a fault before a paragraph's".into());
+        }
+    }
+    if paragraph {
+        let fault = match (paragraphs[place - 2], paragraphs[place - 1]) {
+            (_, 0) => "is zero after others",
+            (0, _) => "isn't zero after zeros",
+            _ => "falls",
+        };
+        let of = if sentences[place - 1] == 0 { "in a heading" } else { "in a sentence" };
+        meet(format!("refused 2: a paragraph {fault}, {of}"));
+        if !sentence && !accepts(sentences, &vec![0; sentences.len()]) {
+            meet("refused 2: a fault before a sentence's".into());
+        }
+    }
+    if place == sentences.len() {
+        meet("refused 2: a fault at n".into());
+    }
+    for limit in [64, 1_000].into_iter().filter(|limit| place > *limit) {
+        meet(format!("refused 2: a fault beyond {}", if limit == 64 { "64" } else { "1,000" }));
+    }
+}
+
+/// How many filters about sentences stand above each other at most, a not between each two of them.
+fn sentence_filters_in_a_row(tree: &Tree) -> usize {
+    fn in_a_row(tree: &Tree, after_not: bool) -> usize {
+        let filter =
+            matches!(tree.rule, Rule::Filter(Filter::Same(Unit::Sentence) | Filter::Different(Unit::Sentence)));
+        let counts = filter && after_not;
+        let after_not = if counts { false } else { after_not || tree.rule == Rule::Not };
+        let below = tree.below.iter().map(|side| in_a_row(side, after_not)).max().unwrap_or(0);
+        below + usize::from(counts)
+    }
+    in_a_row(tree, true)
+}
+
+/// What a filter about sentences does to the strings in headings.
+fn about_sentence_filters(section: &Section, tree: &Tree, meet: &mut impl FnMut(String)) {
+    tree.below.iter().for_each(|side| about_sentence_filters(section, side, meet));
+    let filter = match tree.rule {
+        Rule::Filter(Filter::Same(Unit::Sentence)) => "same",
+        Rule::Filter(Filter::Different(Unit::Sentence)) => "different",
+        _ => return,
+    };
+    let book = RuleBook::paper();
+    let Ok(operand) = book.build(section, &tree.below[0]) else { return };
+    let given = |m: &Match| book.list_within(sizes::GUARD, section, &tree.rule, &[from_ref(m)]).unwrap().pop();
+    let mut by_headings = false;
+    for m in &operand {
+        match given(m) {
+            None => about_dropped(section, m, &format!("{filter}: an include"), meet),
+            Some(kept) => {
+                about_kept(section, &kept.includes, &format!("{filter}: an include"), meet);
+                about_kept(section, &kept.excludes, &format!("{filter}: an exclude"), meet);
+                by_headings |= about_excludes(section, m, &kept, filter, meet);
+            }
+        }
+    }
+    if by_headings && !rules::is_yes(&operand) {
+        meet(format!("{filter}: an exclude in a heading goes, and no becomes yes"));
+    }
+}
+
+/// The sentences of a string's start and end: both zero, one of them, or none.
+fn zeros(section: &Section, s: &Str) -> usize {
+    let (start, end) = rules::units(section, Unit::Sentence, s);
+    usize::from(start == 0) + usize::from(end == 0)
+}
+
+fn about_dropped(section: &Section, m: &Match, an_include: &str, meet: &mut impl FnMut(String)) {
+    // whatever else would drop it, the includes that are not in headings pass
+    let rest: Vec<Str> = m.includes.iter().filter(|s| zeros(section, s) == 0).copied().collect();
+    let rest = Match { includes: rest, excludes: vec![] };
+    let passes = match an_include.starts_with("same") {
+        true => !rules::same(section, Unit::Sentence, from_ref(&rest)).is_empty(),
+        false => rest.includes.len() == 1 || !rules::different(section, Unit::Sentence, from_ref(&rest)).is_empty(),
+    };
+    let most = m.includes.iter().map(|s| zeros(section, s)).max().unwrap_or(0);
+    match most {
+        1 if passes => meet(format!("{an_include} from or into a heading drops a match")),
+        2 if passes => meet(format!("{an_include} in a heading drops a match")),
+        _ => {}
+    }
+}
+
+fn about_kept(section: &Section, strings: &[Str], a_string: &str, meet: &mut impl FnMut(String)) {
+    let in_heading = |position: u32| section.sentence(position) == 0;
+    if strings.iter().any(|s| (s.start..=s.end).any(in_heading)) {
+        meet(format!("{a_string} over a heading stays"));
+    }
+    let (first, last) = (strings.iter().map(|s| s.end).min(), strings.iter().map(|s| s.start).max());
+    if let (Some(first), Some(last), "same: an include") = (first, last, a_string) {
+        if (first..last).any(in_heading) {
+            meet("same: includes on both sides of a heading stay".into());
+        }
+    }
+}
+
+/// The excludes of a match that is kept. Is it free of them only because some were in headings?
+fn about_excludes(
+    section: &Section,
+    before: &Match,
+    kept: &Match,
+    filter: &str,
+    meet: &mut impl FnMut(String),
+) -> bool {
+    let zeros: Vec<usize> = before.excludes.iter().map(|exclude| zeros(section, exclude)).collect();
+    if zeros.contains(&1) {
+        meet(format!("{filter}: an exclude from or into a heading goes"));
+    }
+    if !zeros.contains(&2) {
+        return false;
+    }
+    meet(format!("{filter}: an exclude in a heading goes"));
+    if before.includes.is_empty() {
+        meet(format!("{filter}: without includes, an exclude in a heading goes"));
+    }
+    kept.excludes.is_empty()
 }
 
 fn bucket(number: u32, limit: u32) -> String {

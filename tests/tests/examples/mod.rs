@@ -1,5 +1,6 @@
 //! Examples for any engine: the test program that has this module says by `crate::engine()` which one is asked.
 
+mod headings;
 mod mistakes;
 mod occurs;
 mod paper;

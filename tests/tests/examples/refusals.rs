@@ -53,34 +53,100 @@ fn one_section_size() {
     assert_eq!(refused(&[u32::MAX], &ok()), Some((1, 0)));
 }
 
+/// Sentences so numbered, of tokens whose paragraphs aren't reported.
+fn sentences(sentences: &[u32]) -> Vec<u32> {
+    section(&vec![1; sentences.len()], sentences, &vec![0; sentences.len()])
+}
+
+/// Paragraphs so numbered, of tokens in one sentence.
+fn paragraphs(paragraphs: &[u32]) -> Vec<u32> {
+    section(&vec![1; paragraphs.len()], &vec![3; paragraphs.len()], paragraphs)
+}
+
+/// What both countings have in common.
 #[test]
 fn two_units() {
-    let sentences = |sentences: &[u32]| section(&vec![1; sentences.len()], sentences, &vec![0; sentences.len()]);
-    let paragraphs = |paragraphs: &[u32]| section(&vec![1; paragraphs.len()], &vec![3; paragraphs.len()], paragraphs);
     for units in [sentences, paragraphs] {
         for accepted in [&[][..], &[0], &[65_535], &[0, 0, 0], &[1, 1, 2], &[5, 5, 65_535], &[7, 8, 9]] {
             assert_eq!(refused(&units(accepted), &ok()), None, "{accepted:?}");
         }
-        let faulty = [
-            (&[2, 1][..], 2),
-            (&[1, 2, 1], 3),
-            (&[0, 1], 2),
-            (&[1, 0], 2),
-            (&[0, 0, 1, 0], 3),
-            (&[1, 1, 0, 0], 3),
-            (&[3, 2, 1], 2),
-            (&[65_535, 65_534], 2),
-        ];
-        for (units_refused, place) in faulty {
-            assert_eq!(refused(&units(units_refused), &ok()), Some((2, place)), "{units_refused:?}");
+        for (faulty, place) in [(&[2, 1][..], 2), (&[1, 2, 1], 3), (&[3, 2, 1], 2), (&[65_535, 65_534], 2)] {
+            assert_eq!(refused(&units(faulty), &ok()), Some((2, place)), "{faulty:?}");
         }
     }
     // one scan, both countings at each position
-    assert_eq!(refused(&section(&[1; 3], &[1, 1, 0], &[1, 0, 0]), &ok()), Some((2, 2)));
-    assert_eq!(refused(&section(&[1; 3], &[1, 0, 0], &[1, 1, 0]), &ok()), Some((2, 2)));
+    assert_eq!(refused(&section(&[1; 3], &[2, 2, 1], &[1, 0, 0]), &ok()), Some((2, 2)));
+    assert_eq!(refused(&section(&[1; 3], &[2, 1, 1], &[1, 1, 0]), &ok()), Some((2, 2)));
+    assert_eq!(refused(&section(&[1; 3], &[2, 1, 1], &[1, 0, 0]), &ok()), Some((2, 2)));
+    assert_eq!(refused(&section(&[1; 4], &[2, 0, 1, 1], &[1, 1, 1, 0]), &ok()), Some((2, 3)));
+    assert_eq!(refused(&section(&[1; 4], &[2, 0, 0, 1], &[1, 1, 0, 0]), &ok()), Some((2, 3)));
     // each counting by itself: the one may be zero where the other isn't, and rise where the other doesn't
     assert_eq!(refused(&section(&[1; 3], &[0, 0, 0], &[1, 2, 3]), &ok()), None);
     assert_eq!(refused(&section(&[1; 3], &[1, 2, 3], &[9, 9, 9]), &ok()), None);
+    assert_eq!(refused(&section(&[1; 3], &[9, 9, 8], &[1, 2, 3]), &ok()), Some((2, 3)));
+    assert_eq!(refused(&section(&[1; 3], &[1, 2, 3], &[9, 9, 8]), &ok()), Some((2, 3)));
+}
+
+/// Request F-5: "Sentence zero may now stand among numbered ones, in any place; the nonzero ones still never fall."
+#[test]
+fn two_sentences() {
+    let accepted = [
+        &[0, 1][..],
+        &[1, 0],
+        &[0, 0, 1, 0],
+        &[1, 1, 0, 0],
+        // after a heading the same sentence, the next, or a later one
+        &[1, 0, 1],
+        &[1, 0, 2],
+        &[1, 0, 0, 0, 9],
+        &[0, 65_535, 0, 65_535],
+        &[0, 1, 0, 1, 0, 2, 0],
+    ];
+    for accepted in accepted {
+        assert_eq!(refused(&sentences(accepted), &ok()), None, "{accepted:?}");
+    }
+    // "Refusal 2 falls on a nonzero one below the last nonzero one before it."
+    let faulty = [
+        (&[2, 0, 1][..], 3),
+        (&[2, 0, 0, 0, 1], 5),
+        (&[5, 0, 0, 3], 4),
+        (&[0, 2, 0, 1], 4),
+        (&[2, 1, 0], 2),
+        (&[0, 2, 1, 0], 3),
+        // held to the last one, not to the first
+        (&[1, 0, 3, 0, 2], 5),
+        // the first such position
+        (&[3, 0, 2, 0, 1], 3),
+        (&[65_535, 0, 65_534], 3),
+        (&[256, 0, 255], 3),
+        (&[32_768, 0, 32_767], 3),
+    ];
+    for (faulty, place) in faulty {
+        assert_eq!(refused(&sentences(faulty), &ok()), Some((2, place)), "{faulty:?}");
+    }
+}
+
+/// "Paragraphs keep their rule."
+#[test]
+fn two_paragraphs() {
+    let faulty = [
+        (&[0, 1][..], 2),
+        (&[1, 0], 2),
+        (&[0, 0, 1, 0], 3),
+        (&[1, 1, 0, 0], 3),
+        (&[1, 0, 1], 2),
+        (&[2, 0, 1], 2),
+        (&[65_535, 0], 2),
+    ];
+    for (faulty, place) in faulty {
+        assert_eq!(refused(&paragraphs(faulty), &ok()), Some((2, place)), "{faulty:?}");
+        // also where the zero one is in a heading
+        assert_eq!(refused(&section(&vec![1; faulty.len()], faulty, faulty), &ok()), Some((2, place)), "{faulty:?}");
+    }
+    // a heading has a paragraph of its own
+    assert_eq!(refused(&section(&[1; 4], &[0, 0, 1, 1], &[1, 1, 2, 2]), &ok()), None);
+    assert_eq!(refused(&section(&[1; 4], &[1, 0, 0, 1], &[1, 2, 2, 3]), &ok()), None);
+    assert_eq!(refused(&section(&[1; 4], &[1, 0, 0, 1], &[2, 1, 1, 3]), &ok()), Some((2, 2)));
 }
 
 #[test]
@@ -326,6 +392,8 @@ fn order() {
     let refused_9 = plain(&[7; 300]);
     assert_eq!(refused_with(&[], &[], 0, 0), Some((1, 0)));
     assert_eq!(refused_with(&faulty_section, &[], 0, 0), Some((2, 2)));
+    assert_eq!(refused_with(&section(&[1; 3], &[2, 0, 1], &[0; 3]), &[], 0, 0), Some((2, 3)));
+    assert_eq!(refused_with(&section(&[1; 3], &[2, 0, 2], &[0; 3]), &[], 0, 0), Some((3, 0)));
     assert_eq!(refused_with(&six, &[], 0, 0), Some((3, 0)));
     // kind 2 with operand 1 at code 1 and kind 22 at code 2 is 4 at 2
     assert_eq!(refused_with(&six, &[2, 2, 22, 1, 0], 0, 0), Some((4, 2)));
