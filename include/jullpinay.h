@@ -38,6 +38,7 @@ extern "C" {
 /* The full listing. Returns 0 and answers {0, matches, strings, yes}, with the listing in the buffer; or returns a refusal's number and answers
  * {number, place}, with the buffer and the rest of the answer unchanged. */
 uint32_t jullpinay_listing(const uint32_t *section, size_t section_count,
+                           const uint32_t *families, size_t families_count,
                            const uint32_t *selection, size_t selection_count,
                            uint32_t *work, size_t work_count,
                            uint32_t *buffer, size_t buffer_count,
@@ -46,6 +47,7 @@ uint32_t jullpinay_listing(const uint32_t *section, size_t section_count,
 /* The quick answer. Returns 0 and answers {0, yes, codes walked or built}; or returns a refusal's number and answers {number, place},
  * with the rest of the answer unchanged. */
 uint32_t jullpinay_quick(const uint32_t *section, size_t section_count,
+                         const uint32_t *families, size_t families_count,
                          const uint32_t *selection, size_t selection_count,
                          uint32_t *work, size_t work_count,
                          uint32_t answer[3]);
@@ -59,6 +61,7 @@ size_t jullpinay_snippet(const uint32_t *section, size_t section_count, uint32_t
 
 /* The full listing of a typed search: as jullpinay_listing answers for its codes. */
 uint32_t jullpinay_typed_listing(const uint32_t *section, size_t section_count,
+                                 const uint32_t *families, size_t families_count,
                                  const uint8_t *text, size_t text_count,
                                  uint32_t *work, size_t work_count,
                                  uint32_t *buffer, size_t buffer_count,
@@ -66,6 +69,7 @@ uint32_t jullpinay_typed_listing(const uint32_t *section, size_t section_count,
 
 /* The quick answer of a typed search: as jullpinay_quick answers for its codes. */
 uint32_t jullpinay_typed_quick(const uint32_t *section, size_t section_count,
+                               const uint32_t *families, size_t families_count,
                                const uint8_t *text, size_t text_count,
                                uint32_t *work, size_t work_count,
                                uint32_t answer[3]);

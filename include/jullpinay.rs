@@ -6,6 +6,8 @@ extern "C" {
     pub fn jullpinay_listing(
         section: *const u32,
         section_count: usize,
+        families: *const u32,
+        families_count: usize,
         selection: *const u32,
         selection_count: usize,
         work: *mut u32,
@@ -18,6 +20,8 @@ extern "C" {
     pub fn jullpinay_quick(
         section: *const u32,
         section_count: usize,
+        families: *const u32,
+        families_count: usize,
         selection: *const u32,
         selection_count: usize,
         work: *mut u32,
@@ -30,6 +34,8 @@ extern "C" {
     pub fn jullpinay_typed_listing(
         section: *const u32,
         section_count: usize,
+        families: *const u32,
+        families_count: usize,
         text: *const u8,
         text_count: usize,
         work: *mut u32,
@@ -42,6 +48,8 @@ extern "C" {
     pub fn jullpinay_typed_quick(
         section: *const u32,
         section_count: usize,
+        families: *const u32,
+        families_count: usize,
         text: *const u8,
         text_count: usize,
         work: *mut u32,
