@@ -6,7 +6,7 @@ use mathlib.Core.Path.{_≡_}
 use mathlib.Core.Bool.{Bool, true, false, _&&_, cond}
 use mathlib.Core.List.{List, [], _∷_}
 use borrow.Author.Tests.{leb-true}
-use lib.Dec.{leb, eqb}
+use lib.Dec.{leb}
 use lib.ListN.{length}
 use Rattle.model.specs.declared.Filter.{Filter}
 use Rattle.model.specs.declared.Filter.the-variants.{Ordered, Window, Distance, SameSentence, SameParagraph, DifferentSentence, DifferentParagraph, AtStart, AtEnd, EntireContent}
@@ -22,6 +22,7 @@ use Rattle.model.specs.Choices.{turnedStrings}
 use Rattle.model.specs.AllStrings.{AllStrs, AllMatch, AllList, Within, Ranked, EveryPhrase, RankUpTo, RanksUpTo}
 use Rattle.model.specs.AllMatches.{pairList, changeList, filterMatch, filterList, occursList, allMatches}
 use Rattle.model.specs.Section.{Section}
+use Rattle.model.specs.Families.{Searched}
 use Rattle.model.specs.Trees.{Tree, phrase, pair, change}
 use Rattle.model.proofs.EveryLaws.{every-weaker, every-append, every-value, every-map, every-flatMap, every-kept, every-keep, every-choose, every-range}
 use Rattle.model.proofs.TestsLaws.{both-true}
@@ -30,17 +31,17 @@ use Rattle.model.proofs.RulesLaws.{not-and, leastStart-bound, greatestE
 -- ---- phrase
 
 -- words that stand in a row end within the section
-pub stand-within : (s : Section) (ws : List ℕ) (p : ℕ) → p ≤ s .tokens + 1 → standFrom s ws p ≡ true → p + length ws ≤ s .tokens + 1
+pub stand-within : (s : Searched) (ws : List ℕ) (p : ℕ) → p ≤ s .section .tokens + 1 → standFrom s ws p ≡ true → p + length ws ≤ s .section .tokens + 1
 unfolding standFrom
 stand-within s [] p h e = omega arith
 stand-within s (w ∷ ws) p h e =
-    let here = both-true (leb p (s .tokens) && eqb (s .word p) w) (standFrom s ws (p + 1)) e in
-    let low = leb-true p (s .tokens) (both-true (leb p (s .tokens)) (eqb (s .word p) w) (here .0) .0) in
+    let here = both-true (leb p (s .section .tokens) && s .fits (s .section .word p) w) (standFrom s ws (p + 1)) e in
+    let low = leb-true p (s .section .tokens) (both-true (leb p (s .section .tokens)) (s .fits (s .section .word p) w) (here .0) .0) in
     omega (arith, stand-within s ws (p + 1) (omega arith) (here .1))
 
 -- P holds of every find that the section has room for
-abbrev pub Finds : (Str → Type 0) → Section → ℕ → List ℕ → Type 0
-Finds P s rank ws = (p : ℕ) → 1 ≤ p → p + length ws ≤ s .tokens + 1 → P (record { start = p; end = p + length ws - 1; query = rank; contiguous = true })
+abbrev pub Finds : (Str → Type 0) → Searched → ℕ → List ℕ → Type 0
+Finds P s rank ws = (p : ℕ) → 1 ≤ p → p + length ws ≤ s .section .tokens + 1 → P (record { start = p; end = p + length ws - 1; query = rank; contiguous = true })
 
 -- P holds of the join where it holds of what is joined
 abbrev pub Closed : (Str → Type 0) → Type 0
@@ -51,13 +52,13 @@ module _ (P : Str → Type 0) where
   unfolding Every
   all-include s p = record { includes = (p, tt); excludes = tt }
 
-  pub all-phrase : (s : Section) (rank : ℕ) (ws : List ℕ) → Finds P s rank ws → AllList P (phraseList s rank ws)
+  pub all-phrase : (s : Searched) (rank : ℕ) (ws : List ℕ) → Finds P s rank ws → AllList P (phraseList s rank ws)
   unfolding phraseList
   all-phrase s rank ws h =
       every-map (AllMatch P) _ (found rank (length ws))
       (λ p k. all-include _ (h p (k .0 .0) (stand-within s ws p (omega arith) (k .1))))
-      (keep (standFrom s ws) (fromTo 1 (s .tokens)))
-      (every-kept _ (standFrom s ws) (fromTo 1 (s .tokens)) (every-range 1 (s .tokens)))
+      (keep (standFrom s ws) (fromTo 1 (s .section .tokens)))
+      (every-kept _ (standFrom s ws) (fromTo 1 (s .section .tokens)) (every-range 1 (s .section .tokens)))
 
   -- ---- or
 
@@ -166,11 +167,11 @@ module _ (P : Str → Type 0) where
     all-change s (filtered f) ms a = every-flatMap _ _ (filterMatch s f) (all-filter s f) ms a
     all-change s (occurring k) ms a = all-occurs k ms a
 
-    pub all-matches : (s : Section) (t : Tree) → EveryPhrase (Finds P s) t → AllList P (allMatches s t)
+    pub all-matches : (s : Searched) (t : Tree) → EveryPhrase (Finds P s) t → AllList P (allMatches s t)
     unfolding allMatches filterList EveryPhrase
     all-matches s (phrase c rank ws) h = all-phrase s rank ws h
     all-matches s (pair k c t u) h = all-pair k (allMatches s t) (allMatches s u) (all-matches s t (h .0)) (all-matches s u (h .1))
-    all-matches s (change k c t) h = all-change s k (allMatches s t) (all-matches s t h)
+    all-matches s (change k c t) h = all-change (s .section) k (allMatches s t) (all-matches s t h)
 
 -- ---- spans within the section, query positions among the ranks
 
@@ -199,10 +200,10 @@ unfolding join Every
 ranked-join r [] a = tt
 ranked-join r (s ∷ ss) a = (record { from-one = a .0 .from-one; up-to = a .0 .up-to }, tt)
 
-pub within-matches : (s : Section) (r : ℕ) (t : Tree) → RanksUpTo r t → AllList (Within (s .tokens)) (allMatches s t)
+pub within-matches : (s : Searched) (r : ℕ) (t : Tree) → RanksUpTo r t → AllList (Within (s .section .tokens)) (allMatches s t)
 within-matches s r t h =
-    all-matches (Within (s .tokens)) (within-join (s .tokens)) s t (everyPhrase-weaker (RankUpTo r) _ (λ rank ws u p low room. omega arith) t h)
+    all-matches (Within (s .section .tokens)) (within-join (s .section .tokens)) s t (everyPhrase-weaker (RankUpTo r) _ (λ rank ws u p low room. omega arith) t h)
 
-pub ranked-matches : (s : Section) (r : ℕ) (t : Tree) → RanksUpTo r t → AllList (Ranked r) (allMatches s t)
+pub ranked-matches : (s : Searched) (r : ℕ) (t : Tree) → RanksUpTo r t → AllList (Ranked r) (allMatches s t)
 ranked-matches s r t h =
     all-matches (Ranked r) (ranked-join r) s t (everyPhrase-weaker (RankUpTo r) _ (λ rank ws u p low room. omega arith) t h)

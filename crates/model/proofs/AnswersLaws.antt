@@ -19,7 +19,7 @@ use Rattle.model.specs.Checks.{refusal, roomRefusal, inputRefusal, listi
 use Rattle.model.specs.Accepted.{Passes}
 use Rattle.model.specs.Limits.{maxMatches, maxStrings, workLength, bufferLength}
 use Rattle.model.specs.Matches.{Str, Match, isYes, stringsIn, strings, tooLong}
-use Rattle.model.specs.Section.{sectionOf}
+use Rattle.model.specs.Families.{searchedOf}
 use Rattle.model.specs.Trees.{treeOf, parts}
 use Rattle.model.specs.Walk.{firstTooLong, unlessTooLong, walk}
 use Rattle.model.specs.Walked.{walkBuilds, walkReaches}
@@ -55,10 +55,10 @@ fits-limits ms e =
 -- ---- listingRefusal, listingAnswer
 
 -- what holds where the listing does not refuse
-pub record ListingPasses (section selection : List ℕ) (work buffer : ℕ) : Type 0 where
-  pub passes : Passes section selection work
+pub record ListingPasses (section families selection : List ℕ) (work buffer : ℕ) : Type 0 where
+  pub passes : Passes section families selection work
   pub room : bufferLength ≤ buffer
-  pub fits : firstTooLong (sectionOf section) (parts (treeOf selection)) ≡ none
+  pub fits : firstTooLong (searchedOf section families) (parts (treeOf selection)) ≡ none
 
 answerUnless-listed : (r : Option Refusal) (ms : List Match) (m k : ℕ) (y : Bool) → answerUnless r ms ≡ Listed m k y
     → (r ≡ none) × (m ≡ length ms) × (k ≡ strings ms) × (y ≡ isYes ms)
@@ -69,18 +69,18 @@ answerUnless-refused : (o : Option Refusal) (ms : List Match) (r : Refusal) → 
 answerUnless-refused none ms r e = let z : _≡_ {A = ℕ} 0 1 = cc in absurd (omega arith)
 answerUnless-refused (some q) ms r e = cc
 
-module _ (section selection : List ℕ) (work buffer : ℕ) where
-  pub listingRefusal-passes : Passes section selection work → bufferLength ≤ buffer
-      → listingRefusal section selection work buffer ≡ Option·map (refusal 9) (firstTooLong (sectionOf section) (parts (treeOf selection)))
+module _ (section families selection : List ℕ) (work buffer : ℕ) where
+  pub listingRefusal-passes : Passes section families selection work → bufferLength ≤ buffer
+      → listingRefusal section families selection work buffer ≡ Option·map (refusal 9) (firstTooLong (searchedOf section families) (parts (treeOf selection)))
   unfolding listingRefusal listingChecks
   listingRefusal-passes p room = rw (p .checks, le-leb workLength work (p .enough), le-leb bufferLength buffer room)
 
-  pub listingRefusal-none : listingRefusal section selection work buffer ≡ none → ListingPasses section selection work buffer
+  pub listingRefusal-none : listingRefusal section families selection work buffer ≡ none → ListingPasses section families selection work buffer
   unfolding listingRefusal listingChecks
   listingRefusal-none e =
-      let long = firstTooLong (sectionOf section) (parts (treeOf selection)) in
-      let first = otherwise-none (listingChecks section selection work buffer) (Option·map (refusal 9) long) e in
-      let checks = otherwise-none (inputRefusal section selection) (roomRefusal (leb workLength work && leb bufferLength buffer)) (first .0) in
+      let long = firstTooLong (searchedOf section families) (parts (treeOf selection)) in
+      let first = otherwise-none (listingChecks section families selection work buffer) (Option·map (refusal 9) long) e in
+      let checks = otherwise-none (inputRefusal section families selection) (roomRefusal (leb workLength work && leb bufferLength buffer)) (first .0) in
       let rooms = both-true (leb workLength work) (leb bufferLength buffer) (cond-none (leb workLength work && leb bufferLength buffer) (refusal 8 0) (checks .1)) in
       record {
         passes = record { checks = checks .0; enough = leb-true workLength work (rooms .0) };
@@ -89,20 +89,20 @@ module _ (section selection : List ℕ) (work buffer : ℕ) where
       }
 
   -- Where nothing refuses, the complete list is within the limits.
-  pub complete-fits : listingRefusal section selection work buffer ≡ none
-      → (length (completeList section selection) ≤ maxMatches) × (strings (completeList section selection) ≤ maxStrings)
+  pub complete-fits : listingRefusal section families selection work buffer ≡ none
+      → (length (completeList section families selection) ≤ maxMatches) × (strings (completeList section families selection) ≤ maxStrings)
   complete-fits e =
       let passed = listingRefusal-none e in
-      fits-limits (completeList section selection) (firstTooLong-whole (sectionOf section) (treeOf selection) (passed .fits))
+      fits-limits (completeList section families selection) (firstTooLong-whole (searchedOf section families) (treeOf selection) (passed .fits))
 
   -- A given listing tells that nothing refuses, and its three numbers are the complete list's.
-  pub listingAnswer-listed : (m k : ℕ) (y : Bool) → listingAnswer section selection work buffer ≡ Listed m k y
-      → (listingRefusal section selection work buffer ≡ none)
-      × (m ≡ length (completeList section selection))
-      × (k ≡ strings (completeList section selection))
-      × (y ≡ isYes (completeList section selection))
+  pub listingAnswer-listed : (m k : ℕ) (y : Bool) → listingAnswer section families selection work buffer ≡ Listed m k y
+      → (listingRefusal section families selection work buffer ≡ none)
+      × (m ≡ length (completeList section families selection))
+      × (k ≡ strings (completeList section families selection))
+      × (y ≡ isYes (completeList section families selection))
   unfolding listingAnswer
-  listingAnswer-listed m k y e = answerUnless-listed (listingRefusal section selection work buffer) (completeList section selection) m k y e
+  listingAnswer-listed m k y e = answerUnless-listed (listingRefusal section families selection work buffer) (completeList section families selection) m k y e
 
 -- ---- listingNumbers
 
@@ -127,16 +127,16 @@ length-listingNumbers ms = simp (length-append, length-map, length-spans, length
 
 -- ---- listingBuffer
 
-module _ (section selection : List ℕ) (work : ℕ) (buffer : List ℕ) where
+module _ (section families selection : List ℕ) (work : ℕ) (buffer : List ℕ) where
   -- A call that refuses leaves the buffer unchanged; one that lists puts the complete list's numbers at its front.
-  pub listingBuffer-refused : (r : Refusal) → listingAnswer section selection work (length buffer) ≡ Refused r
-      → listingBuffer section selection work buffer ≡ buffer
+  pub listingBuffer-refused : (r : Refusal) → listingAnswer section families selection work (length buffer) ≡ Refused r
+      → listingBuffer section families selection work buffer ≡ buffer
   unfolding listingAnswer listingBuffer
-  listingBuffer-refused r e = rw (answerUnless-refused (listingRefusal section selection work (length buffer)) (completeList section selection) r e)
+  listingBuffer-refused r e = rw (answerUnless-refused (listingRefusal section families selection work (length buffer)) (completeList section families selection) r e)
 
-  pub listingBuffer-listed : listingRefusal section selection work (length buffer) ≡ none
-      → listingBuffer section selection work buffer
-      ≡ listingNumbers (completeList section selection) ++ drop (length (listingNumbers (completeList section selection))) buffer
+  pub listingBuffer-listed : listingRefusal section families selection work (length buffer) ≡ none
+      → listingBuffer section families selection work buffer
+      ≡ listingNumbers (completeList section families selection) ++ drop (length (listingNumbers (completeList section families selection))) buffer
   unfolding listingBuffer
   listingBuffer-listed e = rw e
 
@@ -146,30 +146,30 @@ walkUnless-answered : (r : Option Refusal) (walked : Quick) (y : Bool) (n : ℕ)
 walkUnless-answered none walked y n e = (refl, e)
 walkUnless-answered (some r) walked y n e = let z : _≡_ {A = ℕ} 0 1 = cc in absurd (omega arith)
 
-module _ (section selection : List ℕ) (work : ℕ) where
-  pub quickChecks-passes : Passes section selection work → quickChecks section selection work ≡ none
+module _ (section families selection : List ℕ) (work : ℕ) where
+  pub quickChecks-passes : Passes section families selection work → quickChecks section families selection work ≡ none
   unfolding quickChecks
   quickChecks-passes p = rw (p .checks, le-leb workLength work (p .enough))
 
-  pub quickChecks-none : quickChecks section selection work ≡ none → Passes section selection work
+  pub quickChecks-none : quickChecks section families selection work ≡ none → Passes section families selection work
   unfolding quickChecks
   quickChecks-none e =
-      let checks = otherwise-none (inputRefusal section selection) (roomRefusal (leb workLength work)) e in
+      let checks = otherwise-none (inputRefusal section families selection) (roomRefusal (leb workLength work)) e in
       record { checks = checks .0; enough = leb-true workLength work (cond-none (leb workLength work) (refusal 8 0) (checks .1)) }
 
   -- A given answer tells that the checks pass, and is the walk's.
-  pub quickAnswer-answered : (y : Bool) (n : ℕ) → quickAnswer section selection work ≡ Answered y n
-      → Passes section selection work × (walk (sectionOf section) (treeOf selection) ≡ Answered y n)
+  pub quickAnswer-answered : (y : Bool) (n : ℕ) → quickAnswer section families selection work ≡ Answered y n
+      → Passes section families selection work × (walk (searchedOf section families) (treeOf selection) ≡ Answered y n)
   unfolding quickAnswer
   quickAnswer-answered y n e =
-      let given = walkUnless-answered (quickChecks section selection work) (walk (sectionOf section) (treeOf selection)) y n e in
+      let given = walkUnless-answered (quickChecks section families selection work) (walk (searchedOf section families) (treeOf selection)) y n e in
       (quickChecks-none (given .0), given .1)
 
   -- Where the checks pass, the quick answer refuses at the first list too long that its walk builds; where none is, it answers whether the
   -- complete list has a match without excludes, and counts what its walk reaches.
-  pub quickAnswer-is : Passes section selection work
-      → quickAnswer section selection work
-      ≡ unlessTooLong (firstTooLong (sectionOf section) (walkBuilds (sectionOf section) (treeOf selection))) (isYes (completeList section selection))
-      (length (walkReaches (sectionOf section) (treeOf selection)))
+  pub quickAnswer-is : Passes section families selection work
+      → quickAnswer section families selection work
+      ≡ unlessTooLong (firstTooLong (searchedOf section families) (walkBuilds (searchedOf section families) (treeOf selection))) (isYes (completeList section families selection))
+      (length (walkReaches (searchedOf section families) (treeOf selection)))
   unfolding quickAnswer
-  quickAnswer-is p = rw (quickChecks-passes p, walk-is (sectionOf section) (treeOf selection), walkAnswer-complete (sectionOf section) (treeOf selection))
+  quickAnswer-is p = rw (quickChecks-passes p, walk-is (searchedOf section families) (treeOf selection), walkAnswer-complete (searchedOf section families) (treeOf selection))

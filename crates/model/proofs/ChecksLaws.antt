@@ -10,18 +10,18 @@ use mathlib.Core.Logic.{_↔_, _⊎_, inl, inr, ⊎-elim}
 use mathlib.Core.Option.{Option, some, none, Option·map, Option·some-ne-none, map-eq-none-iff}
 use lib.Dec.{eqb, leb, ltb}
 use lib.ListN.{length}
-use borrow.Author.Tests.{eqb-true, eq-eqb, ne-eqb, ltb-false, le-ltb, leb-false, not-false}
+use borrow.Author.Tests.{eqb-true, eq-eqb, ne-eqb, ltb-false, le-ltb, leb-false, lt-leb, not-false}
 use Rattle.model.specs.declared.Refusal.{Refusal}
-use Rattle.model.specs.Limits.{maxTokens, maxCodes, maxWaiting}
+use Rattle.model.specs.Limits.{maxTokens, maxFamilies, maxCodes, maxWaiting}
 use Rattle.model.specs.Lists.{allOf, anyOf, first}
-use Rattle.model.specs.Section.{size, wellSized, sentenceAt, paragraphAt}
+use Rattle.model.specs.Section.{size, firstAt, wellSized, sentenceAt, paragraphAt}
 use Rattle.model.specs.Selection.{kindAt, operandAt, codeOf}
 use Rattle.model.specs.Kinds.{Shape, aWord, aPhrase, aPair, aChange, shapeOf, shapeAt, shapesOf}
 use Rattle.model.specs.Trees.{Tree, phrase, pair, change, placeOf, topTree, treeOf, parts}
 use Rattle.model.specs.Parts.{isNotCode, hasWords, postfix, renumbered, wellFormed, PartAt, codesOfTrees, phrasesAll}
-use Rattle.model.specs.Checks.{refusal, otherwise, Check, tried, wrongSection, breaksOrder, lastNonzero, fallsBelow, faultyAt, faultyPosition, sectionRefusal, wrongSelection, unknownKind}
+use Rattle.model.specs.Checks.{refusal, otherwise, Check, tried, wrongSection, breaksOrder, lastNonzero, fallsBelow, faultyAt, faultyPosition, sectionRefusal, wrongFamilies, outOfOrder, entryOutOfOrder, familiesRefusal, wrongSelection, unknownKind}
 use Rattle.model.specs.Checks.{operandFits, wrongOperand, wrongShape, occursOverOther, notOverPhrase, isNot, hasNot, mildOverNot, notUnderMildNot, selectionRefusal}
-use Rattle.model.specs.Accepted.{NonzeroNeverFall, LastNonzeroBefore, ReportedOrNot, AcceptedSection, maxPhrases, AcceptedSelection}
+use Rattle.model.specs.Accepted.{NonzeroNeverFall, LastNonzeroBefore, ReportedOrNot, AcceptedSection, RisingStrictly, AcceptedFamilies, maxPhrases, AcceptedSelection}
 use Rattle.model.proofs.ListsLaws.{any-append, first-range-none, range-first-none}
 use Rattle.model.proofs.SectionLaws.{WellSized, well-sized}
 use Rattle.model.proofs.TestsLaws.{both-true, both-false, xor-false, cond-none}
@@ -228,6 +228,42 @@ accepted-section section h =
     let w = well-sized 0 maxTokens section (cond-none (wellSized 0 maxTokens section) 0 (a .0)) in
     let units = faultyPosition-none section .0 (b .0) in
     record { sized = w .long; few = w .at-most; sentences = units .0; paragraphs = units .1 }
+
+-- ---- familiesRefusal
+
+-- each word is above the one before it exactly where each is above all before it
+module _ (families : List ℕ) where
+  entries-rise : entryOutOfOrder families ≡ none → RisingStrictly (firstAt families) (size families)
+  unfolding entryOutOfOrder
+  entries-rise e i j h k l = go j k l
+    where
+      above : (p : ℕ) → 1 ≤ p → suc p ≤ size families → firstAt families p < firstAt families (suc p)
+      above p a b =
+          let before : suc p - 1 ≡ p = omega arith in
+          subst (λ (x : ℕ). firstAt families x < firstAt families (suc p)) before (leb-false _ _ (first-range-none (outOfOrder families) 2 (size families) e (suc p) (omega arith) b))
+
+      go : (j : ℕ) → i < j → j ≤ size families → firstAt families i < firstAt families j
+      go zero k l = absurd (omega arith)
+      go (suc j) k l =
+          let last = above j (omega arith) l in
+          let le : i ≤ j = omega arith in
+          ⊎-elim (λ q. subst (λ (x : ℕ). firstAt families x < firstAt families (suc j)) (sym q) last) (λ q. omega (arith, go j q (omega arith), last)) (eq-or-lt-of-le le)
+
+  rising-entries : RisingStrictly (firstAt families) (size families) → entryOutOfOrder families ≡ none
+  unfolding entryOutOfOrder
+  rising-entries r = range-first-none (outOfOrder families) 2 (size families) (λ p h k. lt-leb _ _ (r (p - 1) p (omega arith) (omega arith) k))
+
+  -- Refusal 13 at an entry falls on no table whose words rise strictly, and on every other.
+  pub entryOutOfOrder-none : (entryOutOfOrder families ≡ none) ↔ RisingStrictly (firstAt families) (size families)
+  entryOutOfOrder-none = (entries-rise, rising-entries)
+
+pub accepted-families : (families : List ℕ) → familiesRefusal families ≡ none → AcceptedFamilies families
+unfolding familiesRefusal wrongFamilies
+accepted-families families h =
+    let a = tried-cons _ _ families h in
+    let b = tried-cons _ _ families (a .1) in
+    let w = well-sized 0 maxFamilies families (cond-none (wellSized 0 maxFamilies families) 0 (a .0)) in
+    record { sized = w .long; few = w .at-most; rising = entryOutOfOrder-none families .0 (b .0) }
 
 -- ---- wrongSelection, unknownKind, wrongOperand
 

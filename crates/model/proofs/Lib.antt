@@ -5,6 +5,7 @@ pub mod ListsLaws
 pub mod SetsLaws
 pub mod EveryLaws
 pub mod SectionLaws
+pub mod FamiliesLaws
 pub mod SelectionLaws
 pub mod KindsLaws
 pub mod WaitingLaws

@@ -149,6 +149,25 @@ module _ (p : ℕ → Bool) where
       go zero a h = refl
       go (suc n) a h = let e = h a (omega arith) (omega arith) in rw e (go n (a + 1) (λ i k l. h i (omega arith) (omega arith)))
 
+  -- what it finds passes, and nothing before it does
+  pub first-range-some : (a b i : ℕ) → first p (fromTo a b) ≡ some i → (a ≤ i) × (i ≤ b) × (p i ≡ true) × ((j : ℕ) → a ≤ j → j < i → p j ≡ false)
+  unfolding first fromTo upFrom
+  first-range-some a b i e = let f = go (b + 1 - a) a e in (f .0, omega (arith, f .1), f .2, f .3)
+    where
+      FoundIn : ℕ → ℕ → Type 0
+      FoundIn a n = (a ≤ i) × (i < a + n) × (p i ≡ true) × ((j : ℕ) → a ≤ j → j < i → p j ≡ false)
+
+      at : (n a : ℕ) → (first p (upFrom (a + 1) n) ≡ some i → FoundIn (a + 1) n) → (t : Bool) → p a ≡ t → cond t (some a) (first p (upFrom (a + 1) n)) ≡ some i
+          → FoundIn a (suc n)
+      at n a later true h e = let same : a ≡ i = cc in (omega arith, omega arith, ap p (sym same) ∙ h, λ j k l. absurd (omega arith))
+      at n a later false h e =
+          let f = later e in
+          (omega (arith, f .0), omega (arith, f .1), f .2, λ j k l. ⊎-elim (λ q. ap p (sym q) ∙ h) (λ q. f .3 j (omega arith) l) (eq-or-lt-of-le k))
+
+      go : (n a : ℕ) → first p (upFrom a n) ≡ some i → FoundIn a n
+      go zero a e = absurd (Option·some-ne-none i (sym e))
+      go (suc n) a e = at n a (go n (a + 1)) (p a) refl e
+
 -- ---- Sublistᴰ xs ys: xs is ys with some elements left out
 
 pub length-sublist : {A : Type 0} {xs ys : List A} → Sublistᴰ xs ys → length xs ≤ length ys

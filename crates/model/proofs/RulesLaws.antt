@@ -13,7 +13,7 @@ use Rattle.model.specs.Matches.{Str, Match, stringsIn, strings}
 use Rattle.model.specs.Rules.{standFrom, found, phraseList, orList, joined, andList, noStrings, withInclude, withExclude, notList, hasUncovered, mildNotList, Keeping, keptIf, keptMatch, kept, leastStart, greatestEnd, join, insideWindow, windowTo, windowEnds, window}
 use Rattle.model.specs.Choices.{choices, turnedStrings, choice}
 use Rattle.model.specs.AllStrings.{AllStrs}
-use Rattle.model.specs.Section.{Section}
+use Rattle.model.specs.Families.{Searched}
 use Rattle.model.proofs.ListsLaws.{flatMap-append, length-keep, length-range}
 use Rattle.model.proofs.EveryLaws.{every-weaker, every-append, every-value, every-getD}
 
@@ -50,14 +50,14 @@ strings-singles (m ∷ ms) a = omega (arith, strings-singles ms (a .1))
 
 -- ---- phrase
 
-pub length-phrase : (s : Section) (rank : ℕ) (ws : List ℕ) → length (phraseList s rank ws) ≤ s .tokens
+pub length-phrase : (s : Searched) (rank : ℕ) (ws : List ℕ) → length (phraseList s rank ws) ≤ s .section .tokens
 unfolding phraseList
-length-phrase s rank ws = simp length-map (omega (arith, length-keep (standFrom s ws) (fromTo 1 (s .tokens)), length-range 1 (s .tokens)))
+length-phrase s rank ws = simp length-map (omega (arith, length-keep (standFrom s ws) (fromTo 1 (s .section .tokens)), length-range 1 (s .section .tokens)))
 
-pub strings-phrase : (s : Section) (rank : ℕ) (ws : List ℕ) → strings (phraseList s rank ws) ≡ length (phraseList s rank ws)
+pub strings-phrase : (s : Searched) (rank : ℕ) (ws : List ℕ) → strings (phraseList s rank ws) ≡ length (phraseList s rank ws)
 unfolding phraseList
 strings-phrase s rank ws =
-    strings-singles (phraseList s rank ws) (every-value Single (found rank (length ws)) (λ p. refl) (keep (standFrom s ws) (fromTo 1 (s .tokens))))
+    strings-singles (phraseList s rank ws) (every-value Single (found rank (length ws)) (λ p. refl) (keep (standFrom s ws) (fromTo 1 (s .section .tokens))))
 
 -- ---- or
 

@@ -16,7 +16,7 @@ use Rattle.model.specs.Checks.{refusal}
 use Rattle.model.specs.Kinds.{negated, filtered, occurring}
 use Rattle.model.specs.Lists.{first}
 use Rattle.model.specs.Matches.{isYes, tooLong}
-use Rattle.model.specs.Section.{Section}
+use Rattle.model.specs.Families.{Searched}
 use Rattle.model.specs.Trees.{Tree, phrase, pair, change, placeOf, parts}
 use Rattle.model.specs.Walk.{isTooLong, firstTooLong, unlessTooLong, build, filterWalk, turned, orWalk, andWalk, walk}
 use Rattle.model.specs.Walked.{walkAnswer, walkBuilds, walkReaches}
@@ -39,19 +39,19 @@ unfolding orElse
 map-orElse f none y = refl
 map-orElse f (some a) y = refl
 
-pub firstTooLong-append : (s : Section) (ts us : List Tree) → firstTooLong s (ts ++ us) ≡ orElse (firstTooLong s ts) (firstTooLong s us)
+pub firstTooLong-append : (s : Searched) (ts us : List Tree) → firstTooLong s (ts ++ us) ≡ orElse (firstTooLong s ts) (firstTooLong s us)
 unfolding firstTooLong
 firstTooLong-append s ts us =
     ap (Option·map placeOf) (first-append (isTooLong s) ts us) ∙ map-orElse placeOf (first (isTooLong s) ts) (first (isTooLong s) us)
 
 -- Where the lists of some codes fit, so do those of a part of them.
-pub firstTooLong-sublist : (s : Section) {ts us : List Tree} → Sublistᴰ ts us → firstTooLong s us ≡ none → firstTooLong s ts ≡ none
+pub firstTooLong-sublist : (s : Searched) {ts us : List Tree} → Sublistᴰ ts us → firstTooLong s us ≡ none → firstTooLong s ts ≡ none
 unfolding firstTooLong
 firstTooLong-sublist s {ts} {us} d e =
     map-eq-none-iff placeOf (first (isTooLong s) ts) .1 (first-sublist (isTooLong s) d (map-eq-none-iff placeOf (first (isTooLong s) us) .0 e))
 
 -- Where every code's list fits, so does the tree's own.
-pub firstTooLong-whole : (s : Section) (t : Tree) → firstTooLong s (parts t) ≡ none → tooLong (allMatches s t) ≡ false
+pub firstTooLong-whole : (s : Searched) (t : Tree) → firstTooLong s (parts t) ≡ none → tooLong (allMatches s t) ≡ false
 unfolding firstTooLong
 firstTooLong-whole s t e =
     let last = parts-last t in
@@ -85,7 +85,7 @@ cond-out f true x y = refl
 cond-out f false x y = refl
 
 -- what two sides come to, the second as `b` decides
-tooLong-sides : (s : Section) (ts : List Tree) (b : Bool) (us vs : List Tree)
+tooLong-sides : (s : Searched) (ts : List Tree) (b : Bool) (us vs : List Tree)
     → firstTooLong s (ts ++ cond b us vs) ≡ orElse (firstTooLong s ts) (cond b (firstTooLong s us) (firstTooLong s vs))
 tooLong-sides s ts b us vs = firstTooLong-append s ts (cond b us vs) ∙ ap (orElse (firstTooLong s ts)) (cond-out (firstTooLong s) b us vs)
 
@@ -114,7 +114,7 @@ not-walked none b n = refl
 not-walked (some c) b n = refl
 
 -- The walk refuses at the first list too long among those that it builds; where none is, it answers what it says, and counts what it reaches.
-pub walk-is : (s : Section) (t : Tree) → walk s t ≡ unlessTooLong (firstTooLong s (walkBuilds s t)) (walkAnswer s t) (length (walkReaches s t))
+pub walk-is : (s : Searched) (t : Tree) → walk s t ≡ unlessTooLong (firstTooLong s (walkBuilds s t)) (walkAnswer s t) (length (walkReaches s t))
 unfolding first firstTooLong parts allMatches walk build filterWalk walkAnswer walkBuilds walkReaches
 walk-is s (phrase c rank ws) = refl
 walk-is s (pair Or c t u) =
@@ -126,12 +126,12 @@ walk-is s (pair And c t u) =
 walk-is s (pair MildNot c t u) = refl
 walk-is s (change negated c t) =
     rw (walk-is s t, length-append (walkReaches s t) (change negated c t ∷ [])) (not-walked (firstTooLong s (walkBuilds s t)) (walkAnswer s t) (length (walkReaches s t)))
-walk-is s (change (filtered f) c t) = rw (yes-filter s f (allMatches s t), length-append (parts t) (change (filtered f) c t ∷ []))
+walk-is s (change (filtered f) c t) = rw (yes-filter (s .section) f (allMatches s t), length-append (parts t) (change (filtered f) c t ∷ []))
 walk-is s (change (occurring k) c t) = refl
 
 -- ---- walkAnswer
 
-pub walkAnswer-complete : (s : Section) (t : Tree) → walkAnswer s t ≡ isYes (allMatches s t)
+pub walkAnswer-complete : (s : Searched) (t : Tree) → walkAnswer s t ≡ isYes (allMatches s t)
 unfolding walkAnswer allMatches
 walkAnswer-complete s (phrase c rank ws) = sym (yes-phrase s rank ws)
 walkAnswer-complete s (pair Or c t u) = ap₂ _||_ (walkAnswer-complete s t) (walkAnswer-complete s u) ∙ sym (yes-or (allMatches s t) (allMatches s u))
@@ -152,7 +152,7 @@ cond-both true d e = d
 cond-both false d e = e
 
 -- Every code that the walk builds it reaches, in the same order.
-pub walkBuilds-reaches : (s : Section) (t : Tree) → Sublistᴰ (walkBuilds s t) (walkReaches s t)
+pub walkBuilds-reaches : (s : Searched) (t : Tree) → Sublistᴰ (walkBuilds s t) (walkReaches s t)
 unfolding parts walkBuilds walkReaches
 walkBuilds-reaches s (phrase c rank ws) = Sublistᴰ·nil-sublist (phrase c rank ws ∷ [])
 walkBuilds-reaches s (pair Or c t u) =
@@ -165,7 +165,7 @@ walkBuilds-reaches s (change (filtered f) c t) = sublist-append (change (filtere
 walkBuilds-reaches s (change (occurring k) c t) = Sublistᴰ·refl (parts (change (occurring k) c t))
 
 -- Every code that it reaches is the tree's, in the same order: none counts twice.
-pub walkReaches-parts : (s : Section) (t : Tree) → Sublistᴰ (walkReaches s t) (parts t)
+pub walkReaches-parts : (s : Searched) (t : Tree) → Sublistᴰ (walkReaches s t) (parts t)
 unfolding walkReaches parts
 walkReaches-parts s (phrase c rank ws) = Sublistᴰ·refl (phrase c rank ws ∷ [])
 walkReaches-parts s (pair Or c t u) =
@@ -177,12 +177,12 @@ walkReaches-parts s (change negated c t) = Sublistᴰ·append (walkReaches-parts
 walkReaches-parts s (change (filtered f) c t) = Sublistᴰ·refl (parts (change (filtered f) c t))
 walkReaches-parts s (change (occurring k) c t) = Sublistᴰ·refl (parts (change (occurring k) c t))
 
-pub walkBuilds-parts : (s : Section) (t : Tree) → Sublistᴰ (walkBuilds s t) (parts t)
+pub walkBuilds-parts : (s : Searched) (t : Tree) → Sublistᴰ (walkBuilds s t) (parts t)
 walkBuilds-parts s t = Sublistᴰ·trans (walkBuilds-reaches s t) (walkReaches-parts s t)
 
-pub length-walkReaches : (s : Section) (t : Tree) → length (walkReaches s t) ≤ length (parts t)
+pub length-walkReaches : (s : Searched) (t : Tree) → length (walkReaches s t) ≤ length (parts t)
 length-walkReaches s t = length-sublist (walkReaches-parts s t)
 
 -- Where every code's list fits, so does every list that the walk builds.
-pub walkBuilds-fit : (s : Section) (t : Tree) → firstTooLong s (parts t) ≡ none → firstTooLong s (walkBuilds s t) ≡ none
+pub walkBuilds-fit : (s : Searched) (t : Tree) → firstTooLong s (parts t) ≡ none → firstTooLong s (walkBuilds s t) ≡ none
 walkBuilds-fit s t e = firstTooLong-sublist s (walkBuilds-parts s t) e

@@ -14,6 +14,7 @@ use Rattle.model.specs.Lists.{Every, allOf, anyOf, isEmpty, keep, choose
 use Rattle.model.specs.Matches.{Str, Match, noExclude, isYes}
 use Rattle.model.specs.Rules.{standFrom, found, phraseList, orList, joined, andList, withInclude, withExclude, notList, Keeping, keptIf, keptMatch, kept, insideWindow, windowTo, windowEnds, window, joinedAll, choicesOf, atLeast, fromToTimes}
 use Rattle.model.specs.Section.{Section}
+use Rattle.model.specs.Families.{Searched}
 use Rattle.model.specs.Walk.{givesYes}
 use Rattle.model.proofs.EveryLaws.{every-value, every-choose}
 use Rattle.model.proofs.ListsLaws.{any-append, isEmpty-append, range-empty, range-cons}
@@ -26,9 +27,9 @@ unfolding anyOf isEmpty
 yes-found rank k [] = refl
 yes-found rank k (p ∷ ps) = refl
 
-pub yes-phrase : (s : Section) (rank : ℕ) (ws : List ℕ) → isYes (phraseList s rank ws) ≡ not (isEmpty (phraseList s rank ws))
+pub yes-phrase : (s : Searched) (rank : ℕ) (ws : List ℕ) → isYes (phraseList s rank ws) ≡ not (isEmpty (phraseList s rank ws))
 unfolding phraseList
-yes-phrase s rank ws = yes-found rank (length ws) (keep (standFrom s ws) (fromTo 1 (s .tokens)))
+yes-phrase s rank ws = yes-found rank (length ws) (keep (standFrom s ws) (fromTo 1 (s .section .tokens)))
 
 -- ---- or
 
@@ -183,6 +184,6 @@ yes-fromTo a b ms f =
     yes-and (atLeast a ms) (notList (atLeast (b + 1) ms))
     ∙ ap₂ _&&_ (yes-atLeast a ms f) (yes-not (atLeast (b + 1) ms) ∙ ap not (yes-atLeast (b + 1) ms f))
 
-pub free-phrase : (s : Section) (rank : ℕ) (ws : List ℕ) → Every Free (phraseList s rank ws)
+pub free-phrase : (s : Searched) (rank : ℕ) (ws : List ℕ) → Every Free (phraseList s rank ws)
 unfolding phraseList isEmpty
-free-phrase s rank ws = every-value Free (found rank (length ws)) (λ p. refl) (keep (standFrom s ws) (fromTo 1 (s .tokens)))
+free-phrase s rank ws = every-value Free (found rank (length ws)) (λ p. refl) (keep (standFrom s ws) (fromTo 1 (s .section .tokens)))

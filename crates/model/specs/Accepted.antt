@@ -8,10 +8,10 @@ use mathlib.Core.Path.{_≡_}
 use lib.ListN.{length}
 use Rattle.model.specs.AllStrings.{RanksUpTo}
 use Rattle.model.specs.Checks.{operandFits, occursOverOther, mildOverNot, inputRefusal}
-use Rattle.model.specs.Limits.{maxTokens, maxCodes, workLength}
+use Rattle.model.specs.Limits.{maxTokens, maxFamilies, maxCodes, workLength}
 use Rattle.model.specs.Lists.{first}
 use Rattle.model.specs.Parts.{postfix, renumbered, wellFormed}
-use Rattle.model.specs.Section.{size, sentenceAt, paragraphAt}
+use Rattle.model.specs.Section.{size, firstAt, sentenceAt, paragraphAt}
 use Rattle.model.specs.Selection.{kindAt, operandAt}
 use Rattle.model.specs.Kinds.{shapesOf}
 use Rattle.model.specs.Trees.{treeOf, parts}
@@ -46,6 +46,15 @@ pub record AcceptedSection (section : List ℕ) : Type 0 where
   pub sentences : NonzeroNeverFall (sentenceAt section) (size section)
   pub paragraphs : ReportedOrNot (paragraphAt section) (size section)
 
+-- F-6: "a size of at most 2,048, then two parallel arrays, word numbers rising strictly and their family numbers"
+abbrev pub RisingStrictly : (ℕ → ℕ) → ℕ → Type 0
+RisingStrictly number n = (i j : ℕ) → 1 ≤ i → i < j → j ≤ n → number i < number j
+
+pub record AcceptedFamilies (families : List ℕ) : Type 0 where
+  pub sized : length families ≡ 1 + 2 * size families
+  pub few : size families ≤ maxFamilies
+  pub rising : RisingStrictly (firstAt families) (size families)
+
 -- A phrase has a word and a code of its own, so there are at most half as many phrases as codes.
 abbrev pub maxPhrases : ℕ
 maxPhrases = 32
@@ -64,7 +73,7 @@ pub record AcceptedSelection (selection : List ℕ) : Type 0 where
   pub no-not : first mildOverNot (parts (treeOf selection)) ≡ none
 
 -- "Section and selection pass the checks where no refusal other than 8 falls on them before any list is built. Working memory is enough from
--- 12,800 u32."
-pub record Passes (section selection : List ℕ) (work : ℕ) : Type 0 where
-  pub checks : inputRefusal section selection ≡ none
+-- 12,800 u32." F-6: so does the family table.
+pub record Passes (section families selection : List ℕ) (work : ℕ) : Type 0 where
+  pub checks : inputRefusal section families selection ≡ none
   pub enough : workLength ≤ work

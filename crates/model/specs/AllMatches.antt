@@ -11,6 +11,7 @@ use Rattle.model.specs.Kinds.{Change, negated, filtered, occurring}
 use Rattle.model.specs.Matches.{Match}
 use Rattle.model.specs.Rules.{phraseList, orList, andList, notList, mildNotList, kept, ordered, window, distance, same, different, atStart, atEnd, entireContent, atLeast, fromToTimes}
 use Rattle.model.specs.Section.{Section}
+use Rattle.model.specs.Families.{Searched}
 use Rattle.model.specs.Trees.{Tree, phrase, pair, change}
 
 -- kinds 2, 3 and 5
@@ -46,7 +47,7 @@ changeList s negated = notList
 changeList s (filtered f) = filterList s f
 changeList s (occurring k) = occursList k
 
-unfoldable pub allMatches : Section → Tree → List Match
+unfoldable pub allMatches : Searched → Tree → List Match
 allMatches s (phrase c rank ws) = phraseList s rank ws
 allMatches s (pair k c t u) = pairList k (allMatches s t) (allMatches s u)
-allMatches s (change k c t) = changeList s k (allMatches s t)
+allMatches s (change k c t) = changeList (s .section) k (allMatches s t)

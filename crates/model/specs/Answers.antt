@@ -18,7 +18,8 @@ use Rattle.model.specs.AllMatches.{allMatches}
 use Rattle.model.specs.Checks.{refusal, otherwise, sectionRefusal, listingChecks, quickChecks}
 use Rattle.model.specs.Limits.{radix}
 use Rattle.model.specs.Matches.{Str, Match, isYes, stringsIn, strings}
-use Rattle.model.specs.Section.{size, sectionOf}
+use Rattle.model.specs.Section.{size}
+use Rattle.model.specs.Families.{searchedOf}
 use Rattle.model.specs.Trees.{treeOf, parts}
 use Rattle.model.specs.Walk.{firstTooLong, walk}
 
@@ -33,14 +34,14 @@ checkedOf size (some r) = CheckedRefused r
 checkedOf size none = Accepted size
 
 -- The complete AllMatches of lent slices.
-abbrev pub completeList : List ℕ → List ℕ → List Match
-completeList section selection = allMatches (sectionOf section) (treeOf selection)
+abbrev pub completeList : List ℕ → List ℕ → List ℕ → List Match
+completeList section families selection = allMatches (searchedOf section families) (treeOf selection)
 
--- The full listing: refusals 1 to 8 and 12, then 9 at "the first such code built". The listing builds every code but kind 0.
-unfoldable pub listingRefusal : List ℕ → List ℕ → ℕ → ℕ → Option Refusal
-listingRefusal section selection work buffer =
-    let nine = Option·map (refusal 9) (firstTooLong (sectionOf section) (parts (treeOf selection))) in
-    otherwise (listingChecks section selection work buffer) nine
+-- The full listing: refusals 1 to 8, 12 and 13, then 9 at "the first such code built". The listing builds every code but kind 0.
+unfoldable pub listingRefusal : List ℕ → List ℕ → List ℕ → ℕ → ℕ → Option Refusal
+listingRefusal section families selection work buffer =
+    let nine = Option·map (refusal 9) (firstTooLong (searchedOf section families) (parts (treeOf selection))) in
+    otherwise (listingChecks section families selection work buffer) nine
 
 -- "It answers M, S and yes or no, or a refusal with its place."
 abbrev pub listed : List Match → Listing
@@ -50,10 +51,10 @@ abbrev pub answerUnless : Option Refusal → List Match → Listing
 answerUnless (some r) ms = ListingRefused r
 answerUnless none ms = listed ms
 
-unfoldable pub listingAnswer : List ℕ → List ℕ → ℕ → ℕ → Listing
-listingAnswer section selection work buffer =
-    let ms = completeList section selection in
-    answerUnless (listingRefusal section selection work buffer) ms
+unfoldable pub listingAnswer : List ℕ → List ℕ → List ℕ → ℕ → ℕ → Listing
+listingAnswer section families selection work buffer =
+    let ms = completeList section families selection in
+    answerUnless (listingRefusal section families selection work buffer) ms
 
 -- "The buffer then holds M, S, the M string counts, then two parallel arrays of S: spans (start × 65,536 + end) and tags (query position × 4, plus
 -- 2 if contiguous, plus 1 if an exclude), includes before excludes in each match."
@@ -78,20 +79,20 @@ abbrev pub bufferUnless : Option Refusal → List ℕ → List ℕ → List ℕ
 bufferUnless (some r) numbers buffer = buffer
 bufferUnless none numbers buffer = numbers ++ drop (length numbers) buffer
 
-unfoldable pub listingBuffer : List ℕ → List ℕ → ℕ → List ℕ → List ℕ
-listingBuffer section selection work buffer =
-    let numbers = listingNumbers (completeList section selection) in
-    bufferUnless (listingRefusal section selection work (length buffer)) numbers buffer
+unfoldable pub listingBuffer : List ℕ → List ℕ → List ℕ → ℕ → List ℕ → List ℕ
+listingBuffer section families selection work buffer =
+    let numbers = listingNumbers (completeList section families selection) in
+    bufferUnless (listingRefusal section families selection work (length buffer)) numbers buffer
 
--- The quick answer: refusals 1 to 8 and 12, then the walk.
+-- The quick answer: refusals 1 to 8, 12 and 13, then the walk.
 abbrev pub walkUnless : Option Refusal → Quick → Quick
 walkUnless (some r) walked = QuickRefused r
 walkUnless none walked = walked
 
-unfoldable pub quickAnswer : List ℕ → List ℕ → ℕ → Quick
-quickAnswer section selection work =
-    let walked = walk (sectionOf section) (treeOf selection) in
-    walkUnless (quickChecks section selection work) walked
+unfoldable pub quickAnswer : List ℕ → List ℕ → List ℕ → ℕ → Quick
+quickAnswer section families selection work =
+    let walked = walk (searchedOf section families) (treeOf selection) in
+    walkUnless (quickChecks section families selection work) walked
 
 -- The snippet: "Section, from, to: the word numbers of those positions, as a part of the lent section. An empty part if the section isn't accepted
 -- or 1 ≤ from ≤ to ≤ n fails."

@@ -1,4 +1,4 @@
--- Refusals 1 to 8 of the two calls, with document 02's F-5 in 2, and 12 of its F-3. "Tried in this order, each over the whole input before the next."
+-- Refusals 1 to 8 of the two calls, with document 02's F-5 in 2, 12 of its F-3 and 13 of its F-6. "Tried in this order, each over the whole input before the next."
 use Prim.Native.Nat.{ℕ, zero, suc, _-_, _/_, _%_}
 use mathlib.Core.Bool.{Bool, true, false, not, _&&_, _||_, cond, xor}
 use mathlib.Core.List.{List, [], _∷_}
@@ -6,9 +6,9 @@ use mathlib.Core.Option.{Option, some, none, Option·map}
 use lib.Dec.{leb, ltb, eqb}
 use Rattle.model.specs.declared.Pair.the-variants.{Or, And, MildNot}
 use Rattle.model.specs.declared.Refusal.{Refusal}
-use Rattle.model.specs.Limits.{maxTokens, maxCodes, maxWaiting, maxWindow, maxDistance, maxTimes, workLength, bufferLength, radix}
+use Rattle.model.specs.Limits.{maxTokens, maxFamilies, maxCodes, maxWaiting, maxWindow, maxDistance, maxTimes, workLength, bufferLength, radix}
 use Rattle.model.specs.Lists.{anyOf, first, fromTo}
-use Rattle.model.specs.Section.{size, wellSized, sentenceAt, paragraphAt}
+use Rattle.model.specs.Section.{size, firstAt, wellSized, sentenceAt, paragraphAt}
 use Rattle.model.specs.Selection.{kindAt, operandAt}
 use Rattle.model.specs.Kinds.{negated, filtered, occurring, countsAsNot, shapesOf}
 use Rattle.model.specs.Waiting.{firstMisfit}
@@ -58,6 +58,16 @@ faultyAt section p =
 
 unfoldable pub faultyPosition : List ℕ → Option ℕ
 faultyPosition section = first (faultyAt section) (fromTo 2 (size section))
+
+-- F-6: 13, "place 0 for a wrong size or length"; "at the first entry out of order": of "word numbers rising strictly". Entry 1 has none before it.
+unfoldable pub wrongFamilies : List ℕ → Option ℕ
+wrongFamilies families = cond (wellSized 0 maxFamilies families) none (some 0)
+
+abbrev pub outOfOrder : List ℕ → ℕ → Bool
+outOfOrder families i = leb (firstAt families i) (firstAt families (i - 1))
+
+unfoldable pub entryOutOfOrder : List ℕ → Option ℕ
+entryOutOfOrder families = first (outOfOrder families) (fromTo 2 (size families))
 
 -- 3, place 0: "selection empty, m not 1 to 64, or length wrong"
 unfoldable pub wrongSelection : List ℕ → Option ℕ
@@ -138,6 +148,9 @@ notUnderMildNot selection = Option·map placeOf (first mildOverNot (parts (treeO
 unfoldable pub sectionRefusal : List ℕ → Option Refusal
 sectionRefusal = tried (record { number = 1; fails = wrongSection } ∷ record { number = 2; fails = faultyPosition } ∷ [])
 
+unfoldable pub familiesRefusal : List ℕ → Option Refusal
+familiesRefusal = tried (record { number = 13; fails = wrongFamilies } ∷ record { number = 13; fails = entryOutOfOrder } ∷ [])
+
 unfoldable pub selectionRefusal : List ℕ → Option Refusal
 selectionRefusal =
     tried
@@ -153,14 +166,18 @@ selectionRefusal =
 abbrev pub roomRefusal : Bool → Option Refusal
 roomRefusal enough = cond enough none (some (refusal 8 0))
 
--- What falls on section and selection, other than 8, before any list is built.
-unfoldable pub inputRefusal : List ℕ → List ℕ → Option Refusal
-inputRefusal section selection = let later = selectionRefusal selection in otherwise (sectionRefusal section) later
+-- What falls on section, family table and selection, other than 8, before any list is built. F-6: 13 is "tried after 2".
+unfoldable pub inputRefusal : List ℕ → List ℕ → List ℕ → Option Refusal
+inputRefusal section families selection =
+    let last = selectionRefusal selection in
+    let later = otherwise (familiesRefusal families) last in
+    otherwise (sectionRefusal section) later
 
 -- "Takes section, selection, working memory (at least 12,800 u32) and a listing buffer (at least 1,282 u32)."
-unfoldable pub listingChecks : List ℕ → List ℕ → ℕ → ℕ → Option Refusal
-listingChecks section selection work buffer = otherwise (inputRefusal section selection) (roomRefusal (leb workLength work && leb bufferLength buffer))
+unfoldable pub listingChecks : List ℕ → List ℕ → List ℕ → ℕ → ℕ → Option Refusal
+listingChecks section families selection work buffer =
+    otherwise (inputRefusal section families selection) (roomRefusal (leb workLength work && leb bufferLength buffer))
 
 -- "Takes section, selection and working memory (at least 12,800 u32)."
-unfoldable pub quickChecks : List ℕ → List ℕ → ℕ → Option Refusal
-quickChecks section selection work = otherwise (inputRefusal section selection) (roomRefusal (leb workLength work))
+unfoldable pub quickChecks : List ℕ → List ℕ → List ℕ → ℕ → Option Refusal
+quickChecks section families selection work = otherwise (inputRefusal section families selection) (roomRefusal (leb workLength work))

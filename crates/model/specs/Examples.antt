@@ -1,5 +1,5 @@
 -- Document 01's starred examples, and the one under `ftlist`, "proved of the definitions jointly, as entries of one list checked by one fact", and worked
--- examples of document 02's F-3, F-4 and F-5. Each is put to the calls' definitions as lent numbers, with everything that is said of it.
+-- examples of document 02's F-3 to F-6. Each is put to the calls' definitions as lent numbers, with everything that is said of it.
 use Prim.Native.Nat.{ℕ, _+_, _*_}
 use mathlib.Core.Path.{_≡_, refl}
 use mathlib.Core.Bool.{Bool, true, false, _&&_, Bool·beq, xor}
@@ -13,12 +13,13 @@ use Rattle.model.specs.declared.Quick.the-variants.{Answered, Refused as
 use Rattle.model.specs.declared.Refusal.{Refusal}
 use Rattle.model.specs.AllMatches.{filterList, allMatches}
 use Rattle.model.specs.Answers.{completeList, listingRefusal, listingAnswer, listingNumbers, listingBuffer, quickAnswer}
-use Rattle.model.specs.Checks.{tried, wrongSection, lastNonzero, faultyAt, faultyPosition, wrongSelection, unknownKind, filterOperandFits, timesOperandFits, operandFits, wrongOperand, wrongShape, notOverPhrase, notUnderMildNot, sectionRefusal, selectionRefusal, inputRefusal, listingChecks, quickChecks}
+use Rattle.model.specs.Checks.{tried, wrongSection, lastNonzero, faultyAt, faultyPosition, wrongFamilies, entryOutOfOrder, wrongSelection, unknownKind, filterOperandFits, timesOperandFits, operandFits, wrongOperand, wrongShape, notOverPhrase, notUnderMildNot, sectionRefusal, familiesRefusal, selectionRefusal, inputRefusal, listingChecks, quickChecks}
 use Rattle.model.specs.Limits.{workLength, bufferLength, radix}
 use Rattle.model.specs.Lists.{allOf, anyOf, isEmpty, keep, first, allPairs, neighbours, insertSorted, sort, choose, upFrom, fromTo}
 use Rattle.model.specs.Matches.{Str, Match, strings}
 use Rattle.model.specs.Rules.{standFrom, phraseList, noStrings, andList, notList, mildNotList, leastStart, greatestEnd, join, kept, windowEnds, window, inUnitFor, joinedAll, choicesOf, atLeast, fromToTimes}
 use Rattle.model.specs.Section.{wellSized}
+use Rattle.model.specs.Families.{entryOf, familyOf, wordFits}
 use Rattle.model.specs.Selection.{upTo}
 use Rattle.model.specs.Kinds.{shapesOf}
 use Rattle.model.specs.Trees.{placeOf, combine, changeLast, read, readAll, topTree, treeOf, parts}
@@ -40,6 +41,11 @@ pub record Example : Type 0 where
   pub section : List ℕ
   pub selection : List ℕ
   pub claims : List Claim
+
+-- a family table, and examples with it
+pub record WithTable : Type 0 where
+  pub families : List ℕ
+  pub examples : List Example
 
 -- ---- do the definitions say so?
 
@@ -87,25 +93,28 @@ quickRefuses (Answered y n) number place = false
 quickRefuses (QuickRefused r) number place = sameRefusal r number place
 
 -- the listing buffer after the call, which was all zeros before it
-buffered : List ℕ → List ℕ → List ℕ
-buffered section selection = listingBuffer section selection workLength (replicate bufferLength 0)
+buffered : List ℕ → List ℕ → List ℕ → List ℕ
+buffered section families selection = listingBuffer section families selection workLength (replicate bufferLength 0)
 
-holds : List ℕ → List ℕ → Claim → Bool
-holds section selection (hasMatches m) = countsMatches (listingAnswer section selection workLength bufferLength) m
-holds section selection (hasStrings s) = countsStrings (listingAnswer section selection workLength bufferLength) s
-holds section selection (lists ms) = eachSame sameMatch (completeList section selection) ms && eachSame eqb (take (length (listingNumbers ms)) (buffered section selection)) (listingNumbers ms)
-holds section selection (answers b) =
-    listingSays (listingAnswer section selection workLength bufferLength) b && quickSays (quickAnswer section selection workLength) b
-holds section selection (refused number place) =
-    listingRefuses (listingAnswer section selection workLength bufferLength) number place
-    && quickRefuses (quickAnswer section selection workLength) number place
-holds section selection (quickOnly place b codes) =
-    listingRefuses (listingAnswer section selection workLength bufferLength) 9 place
-    && quickSays (quickAnswer section selection workLength) b
-    && quickCounts (quickAnswer section selection workLength) codes
+holds : List ℕ → List ℕ → List ℕ → Claim → Bool
+holds section families selection (hasMatches m) = countsMatches (listingAnswer section families selection workLength bufferLength) m
+holds section families selection (hasStrings s) = countsStrings (listingAnswer section families selection workLength bufferLength) s
+holds section families selection (lists ms) = eachSame sameMatch (completeList section families selection) ms && eachSame eqb (take (length (listingNumbers ms)) (buffered section families selection)) (listingNumbers ms)
+holds section families selection (answers b) =
+    listingSays (listingAnswer section families selection workLength bufferLength) b && quickSays (quickAnswer section families selection workLength) b
+holds section families selection (refused number place) =
+    listingRefuses (listingAnswer section families selection workLength bufferLength) number place
+    && quickRefuses (quickAnswer section families selection workLength) number place
+holds section families selection (quickOnly place b codes) =
+    listingRefuses (listingAnswer section families selection workLength bufferLength) 9 place
+    && quickSays (quickAnswer section families selection workLength) b
+    && quickCounts (quickAnswer section families selection workLength) codes
 
-pub right : Example → Bool
-right e = allOf (holds (e .section) (e .selection)) (e .claims)
+rightWith : List ℕ → Example → Bool
+rightWith families e = allOf (holds (e .section) families (e .selection)) (e .claims)
+
+pub right : WithTable → Bool
+right t = allOf (rightWith (t .families)) (t .examples)
 
 -- ---- sections, selections and matches, as the paper writes them
 
@@ -151,12 +160,26 @@ headed = inParagraph 1 (10 ∷ 20 ∷ 30 ∷ 10 ∷ 40 ∷ 20 ∷ []) (0 ∷ 0 �
 sevens : ℕ → List ℕ
 sevens n = inParagraph 0 (replicate n 7) (replicate n 0)
 
+-- a family table: words, and their families
+table : List ℕ → List ℕ → List ℕ
+table words numbers = length words ∷ (words ++ numbers)
+
+emptyTable : List ℕ
+emptyTable = 0 ∷ []
+
+-- a word, and a phrase of two
+word : ℕ → List ℕ
+word w = select (0 ∷ 1 ∷ []) (w ∷ 1 ∷ [])
+
+phraseOf : ℕ → ℕ → List ℕ
+phraseOf v w = select (0 ∷ 0 ∷ 1 ∷ []) (v ∷ w ∷ 2 ∷ [])
+
 -- one word, and an occurs over it: its kind and its operand
 occurs : ℕ → ℕ → ℕ → List ℕ
 occurs word kind operand = select (0 ∷ 1 ∷ kind ∷ []) (word ∷ 1 ∷ operand ∷ [])
 
-pub entries : List Example
-entries =
+withoutFamilies : List Example
+withoutFamilies =
     -- "10: spans 1-1, 4-4."
     record { section = six; selection = select (0 ∷ 1 ∷ []) (10 ∷ 1 ∷ []); claims = lists (one true 1 1 1 ∷ one true 1 4 4 ∷ []) ∷ [] }
     -- "10 and 20: four matches."
@@ -266,10 +289,50 @@ entries =
     ∷ record { section = 2 ∷ 7 ∷ 7 ∷ (1 * radix + 1) ∷ 0 ∷ []; selection = select (0 ∷ 1 ∷ []) (7 ∷ 1 ∷ []); claims = refused 2 2 ∷ [] }
     ∷ []
 
+-- F-6: 10 and 40 are one family; so are 20 and 21, of which 21 stands nowhere in the section. 30 is in the table alone of its family.
+withFamilies : List Example
+withFamilies =
+    -- a word finds its family, itself too, and also where it stands nowhere itself; one that is alone, or out of the table, itself only
+    record { section = six; selection = word 10; claims = lists (one true 1 1 1 ∷ one true 1 4 4 ∷ one true 1 5 5 ∷ []) ∷ answers true ∷ [] }
+    ∷ record { section = six; selection = word 40; claims = lists (one true 1 1 1 ∷ one true 1 4 4 ∷ one true 1 5 5 ∷ []) ∷ [] }
+    ∷ record { section = six; selection = word 21; claims = lists (one true 1 2 2 ∷ one true 1 6 6 ∷ []) ∷ answers true ∷ [] }
+    ∷ record { section = six; selection = word 30; claims = lists (one true 1 3 3 ∷ []) ∷ [] }
+    ∷ record { section = four; selection = word 3; claims = lists (one true 1 3 3 ∷ []) ∷ [] }
+    ∷ record { section = four; selection = word 10; claims = lists [] ∷ answers false ∷ [] }
+    -- each word of a phrase by its family; both words of one family
+    ∷ record { section = six; selection = phraseOf 10 21; claims = lists (one true 1 1 2 ∷ one true 1 5 6 ∷ []) ∷ answers true ∷ [] }
+    ∷ record { section = six; selection = phraseOf 40 40; claims = lists (one true 1 4 5 ∷ []) ∷ answers true ∷ [] }
+    ∷ record { section = six; selection = phraseOf 30 10; claims = lists (one true 1 3 4 ∷ []) ∷ [] }
+    -- under a not, and under a filter over a not: 30 and not 40, which 10 now excludes; in a window of two words one 10 is left outside
+    ∷ record { section = six; selection = select (0 ∷ 1 ∷ 0 ∷ 1 ∷ 4 ∷ 3 ∷ []) (30 ∷ 1 ∷ 99 ∷ 1 ∷ 0 ∷ 0 ∷ []); claims = answers true ∷ [] }
+    ∷ record { section = six; selection = select (0 ∷ 1 ∷ 0 ∷ 1 ∷ 4 ∷ 3 ∷ 9 ∷ []) (30 ∷ 1 ∷ 40 ∷ 1 ∷ 0 ∷ 0 ∷ 0 ∷ []); claims = answers false ∷ [] }
+    ∷ record { section = six; selection = select (0 ∷ 1 ∷ 0 ∷ 1 ∷ 4 ∷ 3 ∷ 7 ∷ []) (30 ∷ 1 ∷ 40 ∷ 1 ∷ 0 ∷ 0 ∷ 2 ∷ []); claims = answers true ∷ [] }
+    ∷ []
+
+-- Refusal 13, beside others: after 2, before 3.
+refusedWith : ℕ → ℕ → List Example
+refusedWith number place =
+    record { section = six; selection = word 10; claims = refused number place ∷ [] }
+    ∷ record { section = six; selection = []; claims = refused number place ∷ [] }
+    ∷ record { section = inParagraph 1 (7 ∷ 7 ∷ []) (2 ∷ 1 ∷ []); selection = []; claims = refused 2 2 ∷ [] }
+    ∷ []
+
+pub entries : List WithTable
+entries =
+    record { families = emptyTable; examples = withoutFamilies }
+    ∷ record { families = table (10 ∷ 20 ∷ 21 ∷ 30 ∷ 40 ∷ []) (1 ∷ 2 ∷ 2 ∷ 0 ∷ 1 ∷ []); examples = withFamilies }
+    -- no numbers; a wrong length; over 2,048 entries; equal words; a fall, and a later one
+    ∷ record { families = []; examples = refusedWith 13 0 }
+    ∷ record { families = 2 ∷ 10 ∷ 20 ∷ 1 ∷ []; examples = refusedWith 13 0 }
+    ∷ record { families = 2049 ∷ []; examples = refusedWith 13 0 }
+    ∷ record { families = table (10 ∷ 10 ∷ []) (1 ∷ 1 ∷ []); examples = refusedWith 13 2 }
+    ∷ record { families = table (10 ∷ 30 ∷ 20 ∷ 10 ∷ []) (1 ∷ 1 ∷ 1 ∷ 1 ∷ []); examples = refusedWith 13 3 }
+    ∷ []
+
 pub examples-hold : allOf right entries ≡ true
-unfolding eachSame sameStr sameMatch countsMatches countsStrings listingSays quickSays quickCounts sameRefusal listingRefuses quickRefuses buffered holds right inParagraph select one at these both six headed emptySection four sevens occurs entries
-    xor allOf anyOf isEmpty keep first allPairs neighbours insertSorted sort choose upFrom fromTo flatMap wellSized upTo shapesOf firstMisfitFrom placeOf combine changeLast read readAll topTree treeOf parts strings
+unfolding eachSame sameStr sameMatch countsMatches countsStrings listingSays quickSays quickCounts sameRefusal listingRefuses quickRefuses buffered holds rightWith right inParagraph select one at these both six headed emptySection four sevens table emptyTable word phraseOf occurs withoutFamilies withFamilies refusedWith entries
+    xor allOf anyOf isEmpty keep first allPairs neighbours insertSorted sort choose upFrom fromTo flatMap wellSized entryOf familyOf wordFits upTo shapesOf firstMisfitFrom placeOf combine changeLast read readAll topTree treeOf parts strings
     standFrom phraseList andList notList mildNotList leastStart greatestEnd join kept windowEnds window inUnitFor joinedAll choicesOf atLeast fromToTimes filterList allMatches
-    tried wrongSection lastNonzero faultyAt faultyPosition wrongSelection unknownKind filterOperandFits timesOperandFits operandFits wrongOperand wrongShape notOverPhrase notUnderMildNot sectionRefusal selectionRefusal inputRefusal listingChecks quickChecks
+    tried wrongSection lastNonzero faultyAt faultyPosition wrongFamilies entryOutOfOrder wrongSelection unknownKind filterOperandFits timesOperandFits operandFits wrongOperand wrongShape notOverPhrase notUnderMildNot sectionRefusal familiesRefusal selectionRefusal inputRefusal listingChecks quickChecks
     firstTooLong build filterWalk walk listingRefusal listingAnswer listingNumbers listingBuffer quickAnswer
 examples-hold = refl

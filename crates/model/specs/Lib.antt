@@ -1,7 +1,8 @@
--- The meaning of document 01, in its order, with document 02's F-3 to F-5 ..
+-- The meaning of document 01, in its order, with document 02's F-3 to F-6 ..
 pub mod Limits
 pub mod Lists
 pub mod Section
+pub mod Families
 pub mod Selection
 pub mod Kinds
 pub mod Waiting

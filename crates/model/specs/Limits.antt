@@ -1,4 +1,4 @@
--- The limits of document 01, and of document 02's F-1 and F-3, with the sentence that sets each. src/lib.rt has the same numbers for the code.
+-- The limits of document 01, and of document 02's F-1, F-3 and F-6, with the sentence that sets each. src/lib.rt has the same numbers for the code.
 use Prim.Native.Nat.{ℕ}
 
 -- "A section is n (0 to 4,096)"
@@ -42,6 +42,10 @@ bufferLength = 1282
 -- "A place is paragraph × 65,536 + sentence"; a span and the operands of kinds 8 and 16 hold two numbers in the same way
 abbrev pub radix : ℕ
 radix = 65536
+
+-- F-6: "a size of at most 2,048"
+abbrev pub maxFamilies : ℕ
+maxFamilies = 2048
 
 -- F-1: "text of at most 2,048 bytes"
 abbrev pub maxText : ℕ

@@ -7,18 +7,20 @@ use lib.ListN.{length}
 use Rattle.model.specs.Lists.{allOf, anyOf, keep, allPairs, neighbours, sort, choose, fromTo}
 use Rattle.model.specs.Matches.{Str, Match}
 use Rattle.model.specs.Section.{Section}
+use Rattle.model.specs.Families.{Searched}
 
 -- Phrase: "one match per start where the k words stand in a row, ascending, holding one contiguous include. Its query position is its rank among the kind-1 codes, from 1."
+-- Document 02, F-6: "A phrase fits where each word equals its token or both are in the table with the same family."
 
-unfoldable pub standFrom : Section → List ℕ → ℕ → Bool
+unfoldable pub standFrom : Searched → List ℕ → ℕ → Bool
 standFrom s [] p = true
-standFrom s (w ∷ ws) p = leb p (s .tokens) && eqb (s .word p) w && standFrom s ws (p + 1)
+standFrom s (w ∷ ws) p = leb p (s .section .tokens) && s .fits (s .section .word p) w && standFrom s ws (p + 1)
 
 abbrev pub found : ℕ → ℕ → ℕ → Match
 found rank k p = record { includes = record { start = p; end = p + k - 1; query = rank; contiguous = true } ∷ []; excludes = [] }
 
-unfoldable pub phraseList : Section → ℕ → List ℕ → List Match
-phraseList s rank ws = map (found rank (length ws)) (keep (standFrom s ws) (fromTo 1 (s .tokens)))
+unfoldable pub phraseList : Searched → ℕ → List ℕ → List Match
+phraseList s rank ws = map (found rank (length ws)) (keep (standFrom s ws) (fromTo 1 (s .section .tokens)))
 
 -- Or: "L's matches, then R's."
 

@@ -25,18 +25,18 @@ unfoldable pub selectionOf : List Code → List ℕ
 selectionOf cs = length cs ∷ (map kindOf cs ++ map operandOf cs)
 
 -- The full listing of a typed search.
-abbrev pub typedListing : List ℕ → TextAnswer → ℕ → ℕ → Listing
-typedListing section (codes cs) work buffer = listingAnswer section (selectionOf cs) work buffer
-typedListing section (error r) work buffer = ListingRefused r
+abbrev pub typedListing : List ℕ → List ℕ → TextAnswer → ℕ → ℕ → Listing
+typedListing section families (codes cs) work buffer = listingAnswer section families (selectionOf cs) work buffer
+typedListing section families (error r) work buffer = ListingRefused r
 
-abbrev pub typedBuffer : List ℕ → TextAnswer → ℕ → List ℕ → List ℕ
-typedBuffer section (codes cs) work buffer = listingBuffer section (selectionOf cs) work buffer
-typedBuffer section (error r) work buffer = buffer
+abbrev pub typedBuffer : List ℕ → List ℕ → TextAnswer → ℕ → List ℕ → List ℕ
+typedBuffer section families (codes cs) work buffer = listingBuffer section families (selectionOf cs) work buffer
+typedBuffer section families (error r) work buffer = buffer
 
 -- The quick answer of a typed search.
-abbrev pub typedQuick : List ℕ → TextAnswer → ℕ → Quick
-typedQuick section (codes cs) work = quickAnswer section (selectionOf cs) work
-typedQuick section (error r) work = QuickRefused r
+abbrev pub typedQuick : List ℕ → List ℕ → TextAnswer → ℕ → Quick
+typedQuick section families (codes cs) work = quickAnswer section families (selectionOf cs) work
+typedQuick section families (error r) work = QuickRefused r
 
 -- The reader alone: the text's error, 3 for over 64 codes, then 8 where the lent numbers are fewer than the longest selection's.
 abbrev pub codesRefusal : List Code → ℕ → Option Refusal

@@ -16,15 +16,16 @@ use Rattle.model.specs.Lists.{first, anyOf, isEmpty, keep, fromTo}
 use Rattle.model.specs.Matches.{Match, isYes, tooLong}
 use Rattle.model.specs.Rules.{phraseList}
 use Rattle.model.specs.Section.{Section, size}
+use Rattle.model.specs.Families.{Searched}
 use Rattle.model.specs.Selection.{kindAt}
 use Rattle.model.specs.Trees.{Tree, phrase, pair, change, placeOf, parts}
 
 -- 9, "the first such code built": "its list has over 256 matches or 512 strings". "Building makes one list for each code of the part but kind 0,
 -- in postfix order; a list is measured complete, and the steps inside a rule are not."
-abbrev pub isTooLong : Section → Tree → Bool
+abbrev pub isTooLong : Searched → Tree → Bool
 isTooLong s t = tooLong (allMatches s t)
 
-unfoldable pub firstTooLong : Section → List Tree → Option ℕ
+unfoldable pub firstTooLong : Searched → List Tree → Option ℕ
 firstTooLong s codes = Option·map placeOf (first (isTooLong s) codes)
 
 -- "At kinds 5 to 15 it builds that code's whole part by the rules above, left to right, and looks for a match without excludes." "a built part,
@@ -33,7 +34,7 @@ abbrev pub unlessTooLong : Option ℕ → Bool → ℕ → Quick
 unlessTooLong (some place) answer codes = Refused (refusal 9 place)
 unlessTooLong none answer codes = Answered answer codes
 
-unfoldable pub build : Section → Tree → Quick
+unfoldable pub build : Searched → Tree → Quick
 build s t = unlessTooLong (firstTooLong s (parts t)) (isYes (allMatches s t)) (length (parts t))
 
 -- Document 02, F-4: "Where the walk itself reaches a filter (kinds 6 to 15), it should take the operand's matches one by one and stop at the first
@@ -43,8 +44,8 @@ givesYes s f m = isYes (filterMatch s f m)
 
 -- "That filter's own list no longer counts for refusal 9; the lists under it still do." "the count of codes remains that of the walk": all codes of the
 -- operand's part but those of kind 0, and the filter.
-unfoldable pub filterWalk : Section → Filter → Tree → Quick
-filterWalk s f t = unlessTooLong (firstTooLong s (parts t)) (anyOf (givesYes s f) (allMatches s t)) (length (parts t) + 1)
+unfoldable pub filterWalk : Searched → Filter → Tree → Quick
+filterWalk s f t = unlessTooLong (firstTooLong s (parts t)) (anyOf (givesYes (s .section) f) (allMatches s t)) (length (parts t) + 1)
 
 -- "not turns the answer round"; "each walked code counts once"; "The walk ends at its first refusal."
 abbrev pub turned : Quick → Quick
@@ -68,7 +69,7 @@ andWalk (Refused r) right = Refused r
 -- "a phrase is yes if its list isn't empty"; "Limits on size hold only for lists built at or under kinds 5 to 15." Of these kind 5 is built. Since F-4
 -- kinds 6 to 15 are `filterWalk`, and only the lists under them are limited. Kinds 16 and 17 are built, as filters were before (F-3: "The quick walk
 -- builds and counts them as it does filters").
-unfoldable pub walk : Section → Tree → Quick
+unfoldable pub walk : Searched → Tree → Quick
 walk s (phrase c rank ws) = Answered (not (isEmpty (phraseList s rank ws))) 1
 walk s (change negated c t) = turned (walk s t)
 walk s (pair Or c t u) = let right = walk s u in orWalk (walk s t) right

@@ -8,11 +8,11 @@ use Rattle.model.specs.AllMatches.{allMatches}
 use Rattle.model.specs.Lists.{isEmpty}
 use Rattle.model.specs.Matches.{isYes}
 use Rattle.model.specs.Rules.{phraseList}
-use Rattle.model.specs.Section.{Section}
+use Rattle.model.specs.Families.{Searched}
 use Rattle.model.specs.Trees.{Tree, phrase, pair, change, parts}
 
 -- the answer that the walk comes to where no list that it builds is too long
-unfoldable pub walkAnswer : Section → Tree → Bool
+unfoldable pub walkAnswer : Searched → Tree → Bool
 walkAnswer s (phrase c rank ws) = not (isEmpty (phraseList s rank ws))
 walkAnswer s (change negated c t) = not (walkAnswer s t)
 walkAnswer s (pair Or c t u) = walkAnswer s t || walkAnswer s u
@@ -22,7 +22,7 @@ walkAnswer s (change (filtered f) c t) = isYes (allMatches s (change (filtered f
 walkAnswer s (change (occurring k) c t) = isYes (allMatches s (change (occurring k) c t))
 
 -- the codes that it builds, in order, were no list too long
-unfoldable pub walkBuilds : Section → Tree → List Tree
+unfoldable pub walkBuilds : Searched → Tree → List Tree
 walkBuilds s (phrase c rank ws) = []
 walkBuilds s (change negated c t) = walkBuilds s t
 walkBuilds s (pair Or c t u) = walkBuilds s t ++ cond (walkAnswer s t) [] (walkBuilds s u)
@@ -32,7 +32,7 @@ walkBuilds s (change (filtered f) c t) = parts t
 walkBuilds s (change (occurring k) c t) = parts (change (occurring k) c t)
 
 -- the codes that it walks or builds, were no list too long
-unfoldable pub walkReaches : Section → Tree → List Tree
+unfoldable pub walkReaches : Searched → Tree → List Tree
 walkReaches s (phrase c rank ws) = phrase c rank ws ∷ []
 walkReaches s (change negated c t) = walkReaches s t ++ change negated c t ∷ []
 walkReaches s (pair Or c t u) = walkReaches s t ++ cond (walkAnswer s t) [] (walkReaches s u) ++ pair Or c t u ∷ []
