@@ -8,11 +8,12 @@ use Rattle.model.specs.Accepted.{AcceptedSection, maxPhrases}
 use Rattle.model.specs.Limits.{maxTokens, maxWaiting}
 use Rattle.model.specs.Lists.{keep, fromTo}
 use Rattle.model.specs.Rules.{standFrom}
-use Rattle.model.specs.Section.{Section, size}
+use Rattle.model.specs.Families.{Searched}
+use Rattle.model.specs.Section.{size}
 
 -- the starts from p on, ascending
-unfoldable pub startsFrom : Section → List ℕ → ℕ → List ℕ
-startsFrom s words p = keep (standFrom s words) (fromTo p (s .tokens))
+unfoldable pub startsFrom : Searched → List ℕ → ℕ → List ℕ
+startsFrom s words p = keep (standFrom s words) (fromTo p (s .section .tokens))
 
 -- a row of the words from p on lies within an accepted section
 pub record RowWithin (section words : List ℕ) (p : ℕ) : Type 0 where
@@ -26,13 +27,13 @@ pub record SearchRange (section words : List ℕ) (from to : ℕ) : Type 0 where
   pub rows-within : to + length words ≤ size section + 2
 
 -- no start from `from` on lies before p, which isn't after `to`
-pub record Skipped (s : Section) (words : List ℕ) (from to p : ℕ) : Type 0 where
+pub record Skipped (s : Searched) (words : List ℕ) (from to p : ℕ) : Type 0 where
   pub not-before : from ≤ p
   pub up-to : p ≤ to
   pub same : startsFrom s words from ≡ startsFrom s words p
 
 -- p is the first start from `from` on and before `to`, or `to` where there is none
-pub record FirstStart (s : Section) (words : List ℕ) (from to p : ℕ) : Type 0 where
+pub record FirstStart (s : Searched) (words : List ℕ) (from to p : ℕ) : Type 0 where
   pub skipped : Skipped s words from to p
   pub stands : p < to → standFrom s words p ≡ true
 

@@ -1,80 +1,111 @@
 // Phrase: "one match per start where the k words stand in a row, ascending, holding one contiguous include. Its query position is its rank".
+// Document 02, F-6: "A phrase fits where each word equals its token or both are in the table with the same family."
 mod blocks; // blocks of sixteen positions, skipped as a whole
+mod equal; // the first start by equality
+mod fitting; // the first start by families
 mod rows; // words in a row, position by position
 
+use families::MOST_KIN;
 use model::MAX_MATCHES;
 use model::Position;
 use store::Built;
 use strings::span_of;
 use strings::tag_of;
-ghost use mathlib.Core.Bool.{not};
+ghost use mathlib.Core.Bool.{false, not, true};
 ghost use mathlib.Core.Path.{_≡_};
 ghost use Prim.Native.Nat.{ℕ, _+_, _≤_};
 ghost use lib.ListN.{length};
-ghost use Rattle.model.specs.Accepted.{AcceptedSection, maxPhrases};
+ghost use Rattle.model.specs.Accepted.{AcceptedFamilies, AcceptedSection, maxPhrases};
+ghost use Rattle.model.specs.Families.{searchedOf};
 ghost use Rattle.model.specs.Limits.{maxWaiting};
 ghost use Rattle.model.specs.Lists.{isEmpty};
 ghost use Rattle.model.specs.Rules.{found, phraseList};
-ghost use Rattle.model.specs.Section.{sectionOf, size};
+ghost use Rattle.model.specs.Section.{size};
+ghost use Rattle.families.specs.Kin.{mostKin};
 ghost use Rattle.store.specs.Layout.{matchNumbers, slotSize};
 ghost use Rattle.store.specs.Outcome.{Outcome};
 ghost use Rattle.store.specs.Put.{Put};
+ghost use Rattle.phrase.specs.Searches.{OutOfTable, SearchedBy};
 ghost use Rattle.phrase.specs.Starts.{Findable, FirstStart};
 
-// The first start of a phrase of one word from `from` on, or the position after the last one.
-fn next_word(section: &[u32], words: &[u32], from: usize) -> usize
-    requires { ⌜ AcceptedSection (now section) ⌝ }
-    requires { ⌜ (from ≤ size (now section) + 1) × (length (now words) ≡ 1) ⌝ }
-    ensures { λ r. ⌜ FirstStart (sectionOf (now (section .entry))) (now (words .entry)) from (size (now (section .entry)) + 1) r ⌝ }
-{
-    let to = section[0] as usize + 1;
-    let begin = blocks::skip_without_word(section, words, from, to, 0);
-    rows::first_start(section, words, begin, to, 0)
+// How a phrase is looked for.
+enum Search {
+    // by equality: none of its words is in the family table
+    Equal,
+    // by families: by the kin, so many, of one of its words; by none where they aren't told
+    Kin { word: usize, count: usize },
 }
 
-// The first start from `from` on, or the position after the last one. `from` is tried by itself, since finds may follow each other. Then blocks are skipped by
-// two words of the phrase: at first by the last and the first, and after a block that has both in one row and no start by the next two, so that an absent word
-// is soon one of them.
-fn next_start(section: &[u32], words: &[u32], from: usize) -> usize
-    requires { ⌜ AcceptedSection (now section) ⌝ }
-    requires { ⌜ from ≤ size (now section) + 1 ⌝ }
-    ensures { λ r. ⌜ FirstStart (sectionOf (now (section .entry))) (now (words .entry)) from (size (now (section .entry)) + 1) r ⌝ }
+// Is any of the words in the family table?
+fn any_in_table(families: &[u32], words: &[u32]) -> bool
+    requires { ⌜ AcceptedFamilies (now families) ⌝ }
+    ensures { λ r. ⌜ (r ≡ true → 1 ≤ length (now (words .entry))) ⌝ }
+    ensures { λ r. ⌜ (r ≡ false → OutOfTable (now (families .entry)) (now (words .entry))) ⌝ }
 {
-    let k = words.len();
-    if k == 1 {
-        return next_word(section, words, from);
-    }
-    let n = section[0] as usize;
-    if n + 1 < from + k {
-        return n + 1;
-    }
-    if rows::stands(section, words, from) {
-        return from;
-    }
-    let to = n + 2 - k;
-    let mut p = from;
-    let mut i = k - 1;
-    while p < to {
-        let j = (i + 1) % k;
-        let begin = blocks::skip_without_pair(section, words, p, to, i, j);
-        let end = blocks::block_end(begin, to);
-        let start = rows::first_start(section, words, begin, end, i);
-        if start < end {
-            return start;
+    let mut i: usize = 0;
+    while i < words.len() {
+        if families::entry_of(families, words[i]) != 0 {
+            return true;
         }
-        p = end;
-        i = j;
+        i += 1;
     }
-    n + 1
+    false
+}
+
+// How to look for a phrase: by the first of its words whose kin are few enough to be told, and put down, unless none is in the table.
+fn search_for(families: &[u32], words: &[u32], kin: &mut [u32]) -> Search
+    requires { ⌜ AcceptedFamilies (now families) ⌝ }
+    requires { ⌜ mostKin ≤ length (now kin) ⌝ }
+    ensures { λ r. ⌜ SearchedBy (now (families .entry)) (now (words .entry)) (now (kin .exit)) r ⌝ }
+{
+    if !any_in_table(families, words) {
+        return Search::Equal;
+    }
+    let mut i: usize = 0;
+    while i < words.len() {
+        let count = families::kin_of(families, words[i], kin);
+        if count != 0 {
+            return Search::Kin { word: i, count };
+        }
+        i += 1;
+    }
+    Search::Kin { word: 0, count: 0 }
+}
+
+// The first start from `from` on, or the position after the last one.
+fn next_start(
+    section: &[u32],
+    families: &[u32],
+    words: &[u32],
+    kin: &[u32],
+    search: Search,
+    from: usize,
+) -> usize
+    requires { ⌜ AcceptedSection (now section) ⌝ }
+    requires { ⌜ AcceptedFamilies (now families) ⌝ }
+    requires { ⌜ from ≤ size (now section) + 1 ⌝ }
+    requires { ⌜ SearchedBy (now families) (now words) (now kin) search ⌝ }
+    ensures { λ r.
+        ⌜ FirstStart (searchedOf (now (section .entry)) (now (families .entry))) (now (words .entry)) from (size (now (section .entry)) + 1) r ⌝ }
+{
+    match search {
+        Search::Equal => equal::next_start(section, words, from),
+        Search::Kin { word, count } => {
+            fitting::next_start(section, families, words, &kin[..count], word, from)
+        }
+    }
 }
 
 // Is there any start? Stops at the first.
-pub fn is_found(section: &[u32], words: &[u32]) -> bool
+pub fn is_found(section: &[u32], families: &[u32], words: &[u32]) -> bool
     requires { ⌜ AcceptedSection (now section) ⌝ }
-    ensures { λ r. ⌜ ((rank : ℕ) → r ≡ not (isEmpty (phraseList (sectionOf (now (section .entry))) rank (now (words .entry))))) ⌝ }
+    requires { ⌜ AcceptedFamilies (now families) ⌝ }
+    ensures { λ r. ⌜ ((rank : ℕ) → r ≡ not (isEmpty (phraseList (searchedOf (now (section .entry)) (now (families .entry))) rank (now (words .entry))))) ⌝ }
 {
     let n = section[0] as usize;
-    next_start(section, words, 1) <= n
+    let mut kin = [0u32; MOST_KIN];
+    let search = search_for(families, words, &mut kin);
+    next_start(section, families, words, &kin, search, 1) <= n
 }
 
 // Puts the find of k words at position p: a match with one contiguous include.
@@ -91,24 +122,35 @@ fn put_found(mem: &mut [u32], q: usize, p: usize, k: usize, rank: u32) -> usize
 }
 
 // The list of a phrase, in the slot at `at`; given up at the 257th find.
-pub fn phrase_list(section: &[u32], words: &[u32], rank: u32, mem: &mut [u32], at: usize) -> Built
+pub fn phrase_list(
+    section: &[u32],
+    families: &[u32],
+    words: &[u32],
+    rank: u32,
+    mem: &mut [u32],
+    at: usize,
+) -> Built
     requires { ⌜ AcceptedSection (now section) ⌝ }
+    requires { ⌜ AcceptedFamilies (now families) ⌝ }
     requires { ⌜ length (now words) ≤ maxWaiting ⌝ }
     requires { ⌜ rank ≤ maxPhrases ⌝ }
     requires { ⌜ at + slotSize ≤ length (now mem) ⌝ }
-    ensures { λ b. ⌜ Outcome (phraseList (sectionOf (now (section .entry))) rank (now (words .entry))) (now (mem .entry)) (now (mem .exit)) at b ⌝ }
+    ensures { λ b.
+        ⌜ Outcome (phraseList (searchedOf (now (section .entry)) (now (families .entry))) rank (now (words .entry))) (now (mem .entry)) (now (mem .exit)) at b ⌝ }
 {
     let n = section[0] as usize;
+    let mut kin = [0u32; MOST_KIN];
+    let search = search_for(families, words, &mut kin);
     let mut q = at + store::FIRST_MATCH;
     let mut matches = 0;
-    let mut p = next_start(section, words, 1);
+    let mut p = next_start(section, families, words, &kin, search, 1);
     while p <= n {
         if matches == MAX_MATCHES {
             return Built::TooLong;
         }
         q = put_found(mem, q, p, words.len(), rank);
         matches += 1;
-        p = next_start(section, words, p + 1);
+        p = next_start(section, families, words, &kin, search, p + 1);
     }
     store::put_slot_header(mem, at, matches, matches);
     Built::Made {

@@ -1,15 +1,15 @@
-// The words of a phrase in a row, position by position.
+// The words of a phrase in a row, each equal to its token, position by position.
 ghost use mathlib.Core.Path.{_≡_};
 ghost use Prim.Native.Nat.{_<_};
 ghost use lib.ListN.{length};
 ghost use Rattle.model.specs.Rules.{standFrom};
-ghost use Rattle.model.specs.Section.{sectionOf};
+ghost use Rattle.model.specs.Families.{equalWords};
 ghost use Rattle.phrase.specs.Starts.{FirstStart, RowWithin, SearchRange};
 
 // Do the words stand in a row from position p on?
 pub fn stands(section: &[u32], words: &[u32], p: usize) -> bool
     requires { ⌜ RowWithin (now section) (now words) p ⌝ }
-    ensures { λ r. ⌜ r ≡ standFrom (sectionOf (now (section .entry))) (now (words .entry)) p ⌝ }
+    ensures { λ r. ⌜ r ≡ standFrom (equalWords (now (section .entry))) (now (words .entry)) p ⌝ }
 {
     let mut i: usize = 0;
     while i < words.len() {
@@ -25,7 +25,7 @@ pub fn stands(section: &[u32], words: &[u32], p: usize) -> bool
 fn stands_by(section: &[u32], words: &[u32], p: usize, i: usize) -> bool
     requires { ⌜ RowWithin (now section) (now words) p ⌝ }
     requires { ⌜ i < length (now words) ⌝ }
-    ensures { λ r. ⌜ r ≡ standFrom (sectionOf (now (section .entry))) (now (words .entry)) p ⌝ }
+    ensures { λ r. ⌜ r ≡ standFrom (equalWords (now (section .entry))) (now (words .entry)) p ⌝ }
 {
     if section[p + i] != words[i] {
         return false;
@@ -37,7 +37,7 @@ fn stands_by(section: &[u32], words: &[u32], p: usize, i: usize) -> bool
 pub fn first_start(section: &[u32], words: &[u32], from: usize, to: usize, i: usize) -> usize
     requires { ⌜ SearchRange (now section) (now words) from to ⌝ }
     requires { ⌜ i < length (now words) ⌝ }
-    ensures { λ r. ⌜ FirstStart (sectionOf (now (section .entry))) (now (words .entry)) from to r ⌝ }
+    ensures { λ r. ⌜ FirstStart (equalWords (now (section .entry))) (now (words .entry)) from to r ⌝ }
 {
     let mut p = from;
     while p < to {

@@ -1,1 +1,2 @@
 pub mod EverySecond
+pub mod Blocks

@@ -1,4 +1,6 @@
 // Lent slices of u32: a size first, then two parallel arrays. Any slice of any length may come in.
+pub mod blocks; // blocks of sixteen numbers
+
 ghost use mathlib.Core.Path.{_≡_};
 ghost use Prim.Native.Nat.{_+_, _*_, _≤_};
 ghost use lib.ListN.{getD, length};

@@ -11,9 +11,10 @@ use Rattle.model.specs.declared.Quick.the-variants.{Answered}
 use Rattle.model.specs.declared.Refusal.{Refusal}
 use Rattle.model.specs.Answers.{completeList, answerUnless, listingAnswer, walkUnless, isAccepted, snippetOf}
 use Rattle.model.specs.Checks.{sectionRefusal}
+use Rattle.model.specs.Families.{searchedOf}
 use Rattle.model.specs.Limits.{workLength, bufferLength}
 use Rattle.model.specs.Matches.{Match, isYes}
-use Rattle.model.specs.Section.{size, sectionOf}
+use Rattle.model.specs.Section.{size}
 use Rattle.model.specs.Trees.{treeOf, parts}
 use Rattle.model.specs.Walked.{walkBuilds, walkReaches}
 use Rattle.model.proofs.AnswersLaws.{listingBuffer-refused}
@@ -39,17 +40,17 @@ part section false from k = ([], section, refl)
 
 pub demand-1 : Demand1
 unfolding listingAnswer snippetOf
-demand-1 section selection work buffer from to =
+demand-1 section families selection work buffer from to =
     let room = leb workLength work && leb bufferLength (length buffer) in
-    let s = sectionOf section in
+    let s = searchedOf section families in
     let t = treeOf selection in
     record {
       listing-answers =
-          rw (listing-table section selection work (length buffer))
-          (listing-either (firstFall (listingTable section selection work (length buffer))) (completeList section selection) (firstFall-number section selection room (parts t)));
+          rw (listing-table section families selection work (length buffer))
+          (listing-either (firstFall (listingTable section families selection work (length buffer))) (completeList section families selection) (firstFall-number section families selection room (parts t)));
       quick-answers =
-          rw (quick-table section selection work)
-          (quick-either (firstFall (quickTable section selection work)) (isYes (completeList section selection)) (length (walkReaches s t)) (firstFall-number section selection (leb workLength work) (walkBuilds s t)));
+          rw (quick-table section families selection work)
+          (quick-either (firstFall (quickTable section families selection work)) (isYes (completeList section families selection)) (length (walkReaches s t)) (firstFall-number section families selection (leb workLength work) (walkBuilds s t)));
       snippet-answers = part section (isAccepted (sectionRefusal section) && leb 1 from && leb from to && leb to (size section)) from (to + 1 - from);
-      refused-unchanged = λ r e. listingBuffer-refused section selection work buffer r e;
+      refused-unchanged = λ r e. listingBuffer-refused section families selection work buffer r e;
     }

@@ -11,18 +11,19 @@ use Rattle.model.specs.declared.Refusal.{Refusal}
 use Rattle.model.specs.Accepted.{maxPhrases}
 use Rattle.model.specs.AllStrings.{Within}
 use Rattle.model.specs.Answers.{completeList, answerUnless, listingAnswer, listingNumbers, listingBuffer}
-use Rattle.model.specs.Checks.{sectionRefusal, selectionRefusal, inputRefusal}
+use Rattle.model.specs.Checks.{inputRefusal}
+use Rattle.model.specs.Families.{searchedOf}
 use Rattle.model.specs.Limits.{radix}
 use Rattle.model.specs.Matches.{Str, Match}
-use Rattle.model.specs.Section.{size, sectionOf}
+use Rattle.model.specs.Section.{size}
 use Rattle.model.specs.Trees.{treeOf}
 use Rattle.model.proofs.AllStringsLaws.{within-matches}
 use Rattle.model.proofs.AnswersLaws.{listingRefusal-none, complete-fits, listingAnswer-listed, length-listingNumbers, listingBuffer-listed}
-use Rattle.model.proofs.ChecksLaws.{otherwise-none, faultyPosition-none, accepted-section, accepted-selection}
+use Rattle.model.proofs.ChecksLaws.{faultyPosition-none, entryOutOfOrder-none, accepted-section, accepted-selection}
 use Rattle.model.proofs.EveryLaws.{every-weaker}
 use Rattle.theorems.specs.Demands.{ListingGiven, ListingRefuses, listingTable, EndsBelowRadix, Demand2}
 use Rattle.theorems.proofs.NumbersLaws.{same-list}
-use Rattle.theorems.proofs.TableLaws.{firstFall, firstFall-none, firstFall-some, listing-table}
+use Rattle.theorems.proofs.TableLaws.{firstFall, firstFall-none, firstFall-some, input-none, listing-table}
 use Rattle.theorems.proofs.WordsLaws.{yes-exists}
 
 -- ---- what an answer tells of the table
@@ -37,49 +38,49 @@ given-none (some q) ms = (λ w. let z : _≡_ {A = ℕ} 0 1 = cc (w .3) in absur
 
 -- ---- what a given listing holds
 
-module _ (section selection : List ℕ) (work : ℕ) (buffer : List ℕ) where
+module _ (section families selection : List ℕ) (work : ℕ) (buffer : List ℕ) where
   abbrev all : List Match
-  all = completeList section selection
+  all = completeList section families selection
 
   -- every span ends within the section
-  complete-ends : inputRefusal section selection ≡ none → EndsBelowRadix all
-  unfolding inputRefusal
+  complete-ends : inputRefusal section families selection ≡ none → EndsBelowRadix all
   complete-ends e =
-      let passed = otherwise-none (sectionRefusal section) (selectionRefusal selection) e in
+      let passed = input-none section families selection e in
       let few = accepted-section section (passed .0) .few in
       let below : (s : Str) → Within (size section) s → s .end < radix = λ s w. omega (arith, few, w .up-to) in
       every-weaker _ _
       (λ m a. record { includes = every-weaker _ _ below (m .includes) (a .includes); excludes = every-weaker _ _ below (m .excludes) (a .excludes) })
-      all (within-matches (sectionOf section) maxPhrases (treeOf selection) (accepted-selection selection (passed .1) .ranks))
+      all (within-matches (searchedOf section families) maxPhrases (treeOf selection) (accepted-selection selection (passed .2) .ranks))
 
-  holds : ListingGiven (listingAnswer section selection work (length buffer))
+  holds : ListingGiven (listingAnswer section families selection work (length buffer))
       → (length (listingNumbers all) ≤ length buffer)
-      × (listingBuffer section selection work buffer ≡ listingNumbers all ++ drop (length (listingNumbers all)) buffer)
+      × (listingBuffer section families selection work buffer ≡ listingNumbers all ++ drop (length (listingNumbers all)) buffer)
   holds w =
-      let none-refuses = listingAnswer-listed section selection work (length buffer) (w .0) (w .1) (w .2) (w .3) .0 in
-      let fits = complete-fits section selection work (length buffer) none-refuses in
-      let room = listingRefusal-none section selection work (length buffer) none-refuses .room in
-      (omega (arith, room, fits .0, fits .1, length-listingNumbers all), listingBuffer-listed section selection work buffer none-refuses)
+      let none-refuses = listingAnswer-listed section families selection work (length buffer) (w .0) (w .1) (w .2) (w .3) .0 in
+      let fits = complete-fits section families selection work (length buffer) none-refuses in
+      let room = listingRefusal-none section families selection work (length buffer) none-refuses .room in
+      (omega (arith, room, fits .0, fits .1, length-listingNumbers all), listingBuffer-listed section families selection work buffer none-refuses)
 
-  no-other : ListingGiven (listingAnswer section selection work (length buffer))
+  no-other : ListingGiven (listingAnswer section families selection work (length buffer))
       → EndsBelowRadix all
-      × ((ms : List Match) (rest : List ℕ) → EndsBelowRadix ms → listingBuffer section selection work buffer ≡ listingNumbers ms ++ rest → ms ≡ all)
+      × ((ms : List Match) (rest : List ℕ) → EndsBelowRadix ms → listingBuffer section families selection work buffer ≡ listingNumbers ms ++ rest → ms ≡ all)
   no-other w =
-      let none-refuses = listingAnswer-listed section selection work (length buffer) (w .0) (w .1) (w .2) (w .3) .0 in
-      let ends = complete-ends (listingRefusal-none section selection work (length buffer) none-refuses .passes .checks) in
+      let none-refuses = listingAnswer-listed section families selection work (length buffer) (w .0) (w .1) (w .2) (w .3) .0 in
+      let ends = complete-ends (listingRefusal-none section families selection work (length buffer) none-refuses .passes .checks) in
       (ends, λ ms rest short e. same-list ms all rest (drop (length (listingNumbers all)) buffer) short ends (sym e ∙ holds w .1))
 
 pub demand-2 : Demand2
 unfolding listingAnswer
-demand-2 section selection work buffer =
-    let table = listingTable section selection work (length buffer) in
-    let is = listing-table section selection work (length buffer) in
+demand-2 section families selection work buffer =
+    let table = listingTable section families selection work (length buffer) in
+    let is = listing-table section families selection work (length buffer) in
     record {
-      refused-exactly = λ r. rw is (Iff·trans (refused-some (firstFall table) (completeList section selection) r) (firstFall-some table r));
-      given-exactly = rw is (Iff·trans (given-none (firstFall table) (completeList section selection)) (firstFall-none table));
+      refused-exactly = λ r. rw is (Iff·trans (refused-some (firstFall table) (completeList section families selection) r) (firstFall-some table r));
+      given-exactly = rw is (Iff·trans (given-none (firstFall table) (completeList section families selection)) (firstFall-none table));
       units-exactly = faultyPosition-none section;
-      counts-complete = λ m s y e. let given = listingAnswer-listed section selection work (length buffer) m s y e in (given .1, given .2);
-      holds-complete = holds section selection work buffer;
-      holds-no-other = no-other section selection work buffer;
-      yes-exactly = λ m s y e. rw (listingAnswer-listed section selection work (length buffer) m s y e .3) (yes-exists (completeList section selection));
+      words-exactly = entryOutOfOrder-none families;
+      counts-complete = λ m s y e. let given = listingAnswer-listed section families selection work (length buffer) m s y e in (given .1, given .2);
+      holds-complete = holds section families selection work buffer;
+      holds-no-other = no-other section families selection work buffer;
+      yes-exactly = λ m s y e. rw (listingAnswer-listed section families selection work (length buffer) m s y e .3) (yes-exists (completeList section families selection));
     }

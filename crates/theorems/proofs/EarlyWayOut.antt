@@ -13,10 +13,11 @@ use Rattle.model.specs.declared.Quick.{Quick}
 use Rattle.model.specs.declared.Quick.the-variants.{Answered, Refused}
 use Rattle.model.specs.declared.Refusal.{Refusal}
 use Rattle.model.specs.AllMatches.{filterMatch, allMatches}
+use Rattle.model.specs.Families.{Searched, searchedOf}
 use Rattle.model.specs.Kinds.{negated, filtered, occurring}
 use Rattle.model.specs.Lists.{anyOf}
 use Rattle.model.specs.Matches.{Match, isYes}
-use Rattle.model.specs.Section.{Section, sectionOf}
+use Rattle.model.specs.Section.{Section}
 use Rattle.model.specs.Trees.{Tree, phrase, pair, change, parts}
 use Rattle.model.specs.Walk.{firstTooLong, unlessTooLong, build, givesYes, turned, orWalk, andWalk, walk}
 use Rattle.model.specs.Walked.{walkBuilds, walkReaches}
@@ -27,7 +28,7 @@ use Rattle.theorems.specs.Demands.{Has, FirstWith, WithoutExcludes}
 use Rattle.theorems.specs.Requests.{walkWith, walkBefore, FilterReachedOf, EarlyWayOut}
 use Rattle.theorems.proofs.WordsLaws.{any-first-exactly, yes-exists, tooLong-exactly}
 
-module _ (s : Section) (f : Filter) (c : ℕ) (operand : Tree) where
+module _ (s : Searched) (f : Filter) (c : ℕ) (operand : Tree) where
   abbrev whole : Tree
   whole = change (filtered f) c operand
 
@@ -38,25 +39,25 @@ module _ (s : Section) (f : Filter) (c : ℕ) (operand : Tree) where
   unfolding walkBuilds walkReaches
   is = walk-is s whole ∙ ap (λ (b : Bool). unlessTooLong long b (length (parts whole))) (walkAnswer-complete s whole)
 
-  yes-under : isYes (allMatches s whole) ≡ anyOf (givesYes s f) (allMatches s operand)
+  yes-under : isYes (allMatches s whole) ≡ anyOf (givesYes (s .section) f) (allMatches s operand)
   unfolding allMatches
-  yes-under = yes-filter s f (allMatches s operand)
+  yes-under = yes-filter (s .section) f (allMatches s operand)
 
 -- the first match that gives one without excludes
 first-gives : (s : Section) (f : Filter) (ms : List Match)
     → (anyOf (givesYes s f) ms ≡ true) ↔ ((m : Match) × FirstWith (λ l. Has WithoutExcludes (filterMatch s f l)) ms m)
 first-gives s f ms = any-first-exactly (givesYes s f) (λ l. Has WithoutExcludes (filterMatch s f l)) (λ m. yes-exists (filterMatch s f m)) ms
 
-reached : (section : List ℕ) (f : Filter) (c : ℕ) (operand : Tree) → FilterReachedOf section f c operand
-reached section f c operand =
-    let s = sectionOf section in
+reached : (section families : List ℕ) (f : Filter) (c : ℕ) (operand : Tree) → FilterReachedOf section families f c operand
+reached section families f c operand =
+    let s = searchedOf section families in
     let o = long s f c operand in
     let ms = allMatches s (whole s f c operand) in
     let k = length (parts (whole s f c operand)) in
     let answered : (y : Bool) (n : ℕ) → walk s (whole s f c operand) ≡ Answered y n → (y ≡ isYes ms) × (n ≡ k) = λ y n e. unlessTooLong-answered o (isYes ms) y k n (sym (is s f c operand) ∙ e) in
     record {
-      decided-by-first = λ y n e. rw (answered y n e .0 ∙ yes-under s f c operand) (first-gives s f (allMatches s operand));
-      size-exactly = λ place. rw (is s f c operand) (Iff·trans (unlessTooLong-refused o (isYes ms) k place) (tooLong-exactly section (parts operand) place));
+      decided-by-first = λ y n e. rw (answered y n e .0 ∙ yes-under s f c operand) (first-gives (s .section) f (allMatches s operand));
+      size-exactly = λ place. rw (is s f c operand) (Iff·trans (unlessTooLong-refused o (isYes ms) k place) (tooLong-exactly section families (parts operand) place));
       size-only = λ r e. unlessTooLong-nine o (isYes ms) k r (sym (is s f c operand) ∙ e);
       held-to-complete = λ y n e. rw (answered y n e .0) (yes-exists ms);
       counts-part = λ y n e. answered y n e .1;
@@ -89,14 +90,14 @@ before-built : (f g : Option ℕ) (b : Bool) (k : ℕ) → (f ≡ none → g ≡
 before-built none g b k h y n e = rw (h refl) e
 before-built (some c) g b k h y n e = cc
 
-filter-before : (s : Section) (f : Filter) (c : ℕ) (t : Tree) → AsBefore (build s (change (filtered f) c t)) (walk s (change (filtered f) c t))
+filter-before : (s : Searched) (f : Filter) (c : ℕ) (t : Tree) → AsBefore (build s (change (filtered f) c t)) (walk s (change (filtered f) c t))
 unfolding build parts
 filter-before s f c t y n e =
     let under : Sublistᴰ (parts t) (parts t ++ change (filtered f) c t ∷ []) = sublist-append (change (filtered f) c t ∷ []) (Sublistᴰ·refl (parts t)) in
     is s f c t
     ∙ before-built (firstTooLong s (parts (change (filtered f) c t))) (firstTooLong s (parts t)) (isYes (allMatches s (change (filtered f) c t))) (length (parts (change (filtered f) c t))) (firstTooLong-sublist s under) y n e
 
-as-before : (s : Section) (t : Tree) → AsBefore (walkBefore s t) (walk s t)
+as-before : (s : Searched) (t : Tree) → AsBefore (walkBefore s t) (walk s t)
 unfolding walkWith walk
 as-before s (phrase c rank ws) y n e = e
 as-before s (change negated c t) y n e = before-turned (walkBefore s t) (walk s t) (as-before s t) y n e
@@ -111,7 +112,7 @@ refused-before : (p q : Quick) → AsBefore p q → (r : Refusal) → q ≡ Refu
 refused-before (Answered y n) q h r e = (r, sym (h y n refl) ∙ e)
 refused-before (Refused o) q h r e = (o, refl)
 
-elsewhere : (s : Section) (t : Tree) → walk s t ≡ walkWith (λ f c u. walk s (change (filtered f) c u)) s t
+elsewhere : (s : Searched) (t : Tree) → walk s t ≡ walkWith (λ f c u. walk s (change (filtered f) c u)) s t
 unfolding walkWith walk
 elsewhere s (phrase c rank ws) = refl
 elsewhere s (change negated c t) = ap turned (elsewhere s t)

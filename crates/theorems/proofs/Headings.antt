@@ -24,13 +24,9 @@ use Rattle.model.proofs.EveryLaws.{every-append}
 use Rattle.model.proofs.ListsLaws.{first-range-none}
 use Rattle.model.proofs.TestsLaws.{false-true, both-true, both-false, positive}
 use Rattle.theorems.specs.Requests.{SentenceFalls, ParagraphBreaks, faultyBefore, AllNonzero, HeadingsOf, SomeZeroed, InSentences, Headings}
-use Rattle.theorems.proofs.WordsLaws.{first-exactly}
+use Rattle.theorems.proofs.WordsLaws.{or-exactly, first-exactly}
 
 -- ---- the tests, in words
-
-or-exactly : {P Q : Type 0} (a b : Bool) → (a ≡ true) ↔ P → (b ≡ true) ↔ Q → ((a || b) ≡ true) ↔ (P ⊎ Q)
-or-exactly true b p q = (λ e. inl (p .0 refl), λ e. refl)
-or-exactly false b p q = (λ e. inr (q .0 e), ⊎-elim (λ x. false-true (p .1 x)) (q .1))
 
 below-exactly : (unit : ℕ → ℕ) (p : ℕ)
     → (fallsBelow (lastNonzero unit (p - 1)) (unit p) ≡ true) ↔ ((1 ≤ unit p) × ((q : ℕ) × LastNonzeroBefore unit p q × (unit p < unit q)))

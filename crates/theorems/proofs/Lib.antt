@@ -7,6 +7,7 @@ pub mod SpansRead
 pub mod OccursChosen
 pub mod EarlyWayOut
 pub mod Headings
+pub mod WordFamilies
 -- .. and the laws of their words.
 pub mod WordsLaws
 pub mod SpelledLaws

@@ -2,82 +2,25 @@
 -- differ first where the earlier goes on with a lower position. Sizes rise. A phrase's matches have no excludes, so there is a yes where there is a choice.
 use Prim.Native.Nat.{ℕ, zero, suc, _+_, _-_, _≤_, _<_}
 use native.Mathlib.Omega.{arith}
-use native.Mathlib.Nat.{eq-or-lt-of-le}
 use mathlib.Core.Bool.{Bool, true, false, not, _&&_, cond}
-use mathlib.Core.List.{List, [], _∷_, _++_, map, flatMap, map-append, map-map, append-assoc, Sublistᴰ, Sublistᴰ·slnil, Sublistᴰ·cons, Sublistᴰ·cons-cons, Sublistᴰ·nil-sublist}
-use mathlib.Core.Logic.{_↔_, inl, inr, ⊎-elim}
+use mathlib.Core.List.{List, [], _∷_, _++_, map, flatMap, map-append, map-map, Sublistᴰ, Sublistᴰ·slnil, Sublistᴰ·cons, Sublistᴰ·cons-cons, Sublistᴰ·nil-sublist}
+use mathlib.Core.Logic.{_↔_, inl, inr}
 use mathlib.Core.Path.{_≡_, refl, sym, ap, ap₂, subst, _∙_}
 use lib.Dec.{leb}
 use lib.ListN.{length}
 use borrow.Author.Tests.{leb-true, le-leb, leb-false, lt-leb, not-true}
 use Rattle.model.specs.AllMatches.{allMatches}
+use Rattle.model.specs.Families.{Searched}
 use Rattle.model.specs.Lists.{Every, keep, choose, upFrom, fromTo}
 use Rattle.model.specs.Matches.{Match, isYes}
 use Rattle.model.specs.Rules.{standFrom, found, phraseList, joinedAll, choicesOf, atLeast, fromToTimes}
-use Rattle.model.specs.Section.{Section}
 use Rattle.model.proofs.EveryLaws.{every-weaker, every-append, every-map, every-flatMap, every-keep, every-upFrom, every-range}
-use Rattle.model.proofs.ListsLaws.{flatMap-append, length-sublist}
+use Rattle.model.proofs.ListsLaws.{length-sublist}
 use Rattle.model.proofs.TestsLaws.{both-true, and-join}
 use Rattle.model.proofs.YesLaws.{yes-atLeast, yes-fromTo, free-phrase}
 use Rattle.theorems.specs.Demands.{Has, WithoutExcludes}
 use Rattle.theorems.specs.Requests.{InOrder, Precedes, starts, Sooner, OccursChosen}
-use Rattle.theorems.proofs.WordsLaws.{yes-exists}
-
--- ---- Has
-
-module _ {A : Type 0} {P : A → Type 0} where
-  has-left : {xs : List A} (ys : List A) → Has P xs → Has P (xs ++ ys)
-  has-left ys h =
-      record {
-        before = h .before;
-        element = h .element;
-        after = h .after ++ ys;
-        order = ap (_++ ys) (h .order) ∙ append-assoc (h .before) (h .element ∷ h .after) ys;
-        this = h .this;
-      }
-
-  has-right : (xs : List A) {ys : List A} → Has P ys → Has P (xs ++ ys)
-  has-right xs h =
-      record {
-        before = xs ++ h .before;
-        element = h .element;
-        after = h .after;
-        order = ap (xs ++_) (h .order) ∙ sym (append-assoc xs (h .before) (h .element ∷ h .after));
-        this = h .this;
-      }
-
-  every-has : (Q : A → Type 0) (xs : List A) → Every Q xs → (h : Has P xs) → Q (h .element)
-  unfolding Every
-  every-has Q xs a h = there (h .before) (subst (Every Q) (h .order) a)
-    where
-      there : (before : List A) → Every Q (before ++ h .element ∷ h .after) → Q (h .element)
-      there [] b = b .0
-      there (x ∷ before) b = there before (b .1)
-
-has-map : {A B : Type 0} {P : A → Type 0} {Q : B → Type 0} (f : A → B) → ((x : A) → P x → Q (f x)) → {xs : List A} → Has P xs → Has Q (map f xs)
-has-map f g h =
-    record {
-      before = map f (h .before);
-      element = f (h .element);
-      after = map f (h .after);
-      order = ap (map f) (h .order) ∙ map-append f (h .before) (h .element ∷ h .after);
-      this = g (h .element) (h .this);
-    }
-
--- the element is among those that f makes of an element with P
-has-flatMap : {A B : Type 0} {P : A → Type 0} {Q : B → Type 0} (f : A → List B) → ((x : A) → P x → Has Q (f x)) → {xs : List A} → Has P xs → Has Q (flatMap f xs)
-unfolding flatMap
-has-flatMap {Q = Q} f g h =
-    subst (λ (ys : List _). Has Q (flatMap f ys)) (sym (h .order))
-    (subst (Has Q) (sym (flatMap-append f (h .before) (h .element ∷ h .after))) (has-right (flatMap f (h .before)) (has-left (flatMap f (h .after)) (g (h .element) (h .this)))))
-
-has-range : (a b k : ℕ) → a ≤ k → k ≤ b → Has (λ i. i ≡ k) (fromTo a b)
-unfolding fromTo upFrom
-has-range a b k h l = go (b + 1 - a) a h (omega arith)
-  where
-    go : (n a : ℕ) → a ≤ k → k < a + n → Has (λ i. i ≡ k) (upFrom a n)
-    go zero a h l = absurd (omega arith)
-    go (suc n) a h l = ⊎-elim (λ e. record { before = []; element = a; after = upFrom (a + 1) n; order = refl; this = e }) (λ m. has-right (a ∷ []) (go n (a + 1) (omega arith) (omega arith))) (eq-or-lt-of-le h)
+use Rattle.theorems.proofs.WordsLaws.{has-left, has-right, every-has, has-map, has-flatMap, has-range, yes-exists}
 
 -- ---- every choice
 
@@ -218,17 +161,17 @@ unfolding InOrder upFrom
 rising zero a = tt
 rising (suc n) a = (every-weaker _ _ (λ p h. omega arith) (upFrom (a + 1) n) (every-upFrom (a + 1) n), rising n (a + 1))
 
-module _ (s : Section) (rank : ℕ) (words : List ℕ) where
+module _ (s : Searched) (rank : ℕ) (words : List ℕ) where
   -- where the phrase is found, and the match of a choice of these places
   abbrev places : List ℕ
-  places = keep (standFrom s words) (fromTo 1 (s .tokens))
+  places = keep (standFrom s words) (fromTo 1 (s .section .tokens))
 
   abbrev match : List ℕ → Match
   match ps = joinedAll (map (found rank (length words)) ps)
 
   places-rise : InOrder _<_ places
   unfolding fromTo
-  places-rise = in-order-keep _<_ (standFrom s words) (fromTo 1 (s .tokens)) (rising (s .tokens + 1 - 1) 1)
+  places-rise = in-order-keep _<_ (standFrom s words) (fromTo 1 (s .section .tokens)) (rising (s .section .tokens + 1 - 1) 1)
 
   starts-match : (ps : List ℕ) → starts (match ps) ≡ ps
   unfolding joinedAll

@@ -1,30 +1,31 @@
 -- The first refusal of a table that falls, as a function, is what the calls' definitions come to: each is a chain of refusals, and a chain of chains is
 -- one chain of the rows of all.
-use Prim.Native.Nat.{ℕ}
+use Prim.Native.Nat.{ℕ, _≤_}
 use mathlib.Core.Path.{_≡_, refl, sym, ap, _∙_}
 use mathlib.Core.Bool.{Bool, true, false, _&&_, _||_, cond}
 use mathlib.Core.List.{List, [], _∷_, _++_}
-use mathlib.Core.Logic.{_↔_, inl, inr}
+use mathlib.Core.Logic.{_↔_}
 use mathlib.Core.Option.{Option, some, none, Option·map, Option·none-ne-some, map-eq-none-iff}
 use lib.Dec.{leb, eqb}
 use lib.ListN.{length}
-use borrow.Author.Tests.{leb-true, eqb-true}
+use borrow.Author.Tests.{leb-true, le-leb, eqb-true, eq-eqb}
 use Rattle.model.specs.declared.Quick.the-variants.{Answered}
 use Rattle.model.specs.declared.Refusal.{Refusal}
 use Rattle.model.specs.Answers.{completeList, listingRefusal, walkUnless, quickAnswer}
-use Rattle.model.specs.Checks.{refusal, otherwise, tried, wrongSection, faultyPosition, sectionRefusal, selectionRefusal, roomRefusal, inputRefusal, listingChecks, quickChecks}
+use Rattle.model.specs.Checks.{refusal, otherwise, tried, wrongSection, faultyPosition, wrongFamilies, entryOutOfOrder, sectionRefusal, familiesRefusal, selectionRefusal, roomRefusal, inputRefusal, listingChecks, quickChecks}
+use Rattle.model.specs.Families.{searchedOf}
 use Rattle.model.specs.Lists.{Every, allOf}
 use Rattle.model.specs.Limits.{workLength, bufferLength}
 use Rattle.model.specs.Matches.{isYes}
-use Rattle.model.specs.Section.{sectionOf}
 use Rattle.model.specs.Trees.{Tree, treeOf, parts}
 use Rattle.model.specs.Walk.{firstTooLong, unlessTooLong}
 use Rattle.model.specs.Walked.{walkBuilds, walkReaches}
 use Rattle.model.proofs.ChecksLaws.{otherwise-none}
 use Rattle.model.proofs.ListsLaws.{all-split}
-use Rattle.model.proofs.TestsLaws.{both-true}
+use Rattle.model.proofs.TestsLaws.{both-true, and-join}
 use Rattle.model.proofs.WalkLaws.{walk-is, walkAnswer-complete}
 use Rattle.theorems.specs.Demands.{Row, row, Falls, inputRows, listRows, listingTable, quickTable, FirstToFall, NoneFalls, PassChecks, Numbered}
+use Rattle.theorems.proofs.WordsLaws.{or-exactly}
 
 -- ---- the first that falls
 
@@ -91,34 +92,34 @@ firstFall-some table r = (some-fall table r, back)
 -- ---- numbers
 
 -- input, room and size: the tables of both calls
-abbrev rows : List ℕ → List ℕ → Bool → List Tree → List Row
-rows section selection enough built = inputRows section selection ++ listRows enough section built
+abbrev rows : List ℕ → List ℕ → List ℕ → Bool → List Tree → List Row
+rows section families selection enough built = inputRows section families selection ++ listRows enough section families built
 
 abbrev isNumber : ℕ → Bool
-isNumber n = (leb 1 n && leb n 9) || eqb n 12
+isNumber n = (leb 1 n && leb n 9) || (eqb n 12 || eqb n 13)
 
 abbrev numbered : Row → Bool
 numbered w = isNumber (w .number)
 
 is-number : (r : Refusal) → isNumber (r .number) ≡ true → Numbered r
-is-number r e = at (leb 1 (r .number) && leb (r .number) 9) refl e
-  where
-    at : (b : Bool) → (leb 1 (r .number) && leb (r .number) 9) ≡ b → (b || eqb (r .number) 12) ≡ true → Numbered r
-    at true h e' = let both = both-true (leb 1 (r .number)) (leb (r .number) 9) h in inl (leb-true 1 (r .number) (both .0), leb-true (r .number) 9 (both .1))
-    at false h e' = inr (eqb-true (r .number) 12 e')
+is-number r e =
+    let n = r .number in
+    let within : ((leb 1 n && leb n 9) ≡ true) ↔ ((1 ≤ n) × (n ≤ 9)) =
+    (λ h. let both = both-true (leb 1 n) (leb n 9) h in (leb-true 1 n (both .0), leb-true n 9 (both .1)), λ h. and-join (le-leb 1 n (h .0)) (le-leb n 9 (h .1))) in
+    or-exactly (leb 1 n && leb n 9) (eqb n 12 || eqb n 13) within (or-exactly (eqb n 12) (eqb n 13) (eqb-true n 12, eq-eqb n 12) (eqb-true n 13, eq-eqb n 13)) .0 e
 
-rows-numbers : (section selection : List ℕ) (enough : Bool) (built : List Tree) → allOf numbered (rows section selection enough built) ≡ true
+rows-numbers : (section families selection : List ℕ) (enough : Bool) (built : List Tree) → allOf numbered (rows section families selection enough built) ≡ true
 unfolding allOf
-rows-numbers section selection enough built = refl
+rows-numbers section families selection enough built = refl
 
 -- a refusal of a table has the number of one of its rows
-pub firstFall-number : (section selection : List ℕ) (enough : Bool) (built : List Tree) (r : Refusal)
-    → firstFall (inputRows section selection ++ listRows enough section built) ≡ some r → Numbered r
+pub firstFall-number : (section families selection : List ℕ) (enough : Bool) (built : List Tree) (r : Refusal)
+    → firstFall (inputRows section families selection ++ listRows enough section families built) ≡ some r → Numbered r
 unfolding allOf
-firstFall-number section selection enough built r e =
-    let f = some-fall (rows section selection enough built) r e in
+firstFall-number section families selection enough built r e =
+    let f = some-fall (rows section families selection enough built) r e in
     let falls = row (r .number) (some (r .place)) in
-    let tail = all-split numbered (f .before) (falls ∷ f .after) (sym (ap (allOf numbered) (f .order)) ∙ rows-numbers section selection enough built) .1 in
+    let tail = all-split numbered (f .before) (falls ∷ f .after) (sym (ap (allOf numbered) (f .order)) ∙ rows-numbers section families selection enough built) .1 in
     is-number r (both-true (numbered falls) (allOf numbered (f .after)) tail .0)
 
 -- ---- the calls' tables
@@ -136,23 +137,38 @@ room-and-size none false long = refl
 room-and-size none true none = refl
 room-and-size none true (some c) = refl
 
-module _ (section selection : List ℕ) where
-  input-rows : inputRefusal section selection ≡ firstFall (inputRows section selection)
-  unfolding inputRefusal sectionRefusal selectionRefusal tried firstFall
-  input-rows = two-ahead (Option·map (refusal 1) (wrongSection section)) (Option·map (refusal 2) (faultyPosition section)) _
+module _ (section families selection : List ℕ) where
+  input-rows : inputRefusal section families selection ≡ firstFall (inputRows section families selection)
+  unfolding inputRefusal sectionRefusal familiesRefusal selectionRefusal tried firstFall
+  input-rows =
+      let one = Option·map (refusal 1) (wrongSection section) in
+      let two = Option·map (refusal 2) (faultyPosition section) in
+      let sized = Option·map (refusal 13) (wrongFamilies families) in
+      let ordered = Option·map (refusal 13) (entryOutOfOrder families) in
+      two-ahead one two (otherwise (familiesRefusal families) (selectionRefusal selection))
+      ∙ ap (λ (o : Option Refusal). otherwise one (otherwise two o)) (two-ahead sized ordered (selectionRefusal selection))
 
-  pub pass-none : PassChecks section selection → inputRefusal section selection ≡ none
-  pass-none n = input-rows ∙ fall-none (inputRows section selection) n
+  -- section, table and selection pass each on its own
+  pub input-none : inputRefusal section families selection ≡ none
+      → (sectionRefusal section ≡ none) × (familiesRefusal families ≡ none) × (selectionRefusal selection ≡ none)
+  unfolding inputRefusal
+  input-none e =
+      let first = otherwise-none (sectionRefusal section) (otherwise (familiesRefusal families) (selectionRefusal selection)) e in
+      let rest = otherwise-none (familiesRefusal families) (selectionRefusal selection) (first .1) in
+      (first .0, rest .0, rest .1)
+
+  pub pass-none : PassChecks section families selection → inputRefusal section families selection ≡ none
+  pass-none n = input-rows ∙ fall-none (inputRows section families selection) n
 
   all-rows : (enough : Bool) (built : List Tree)
-      → otherwise (otherwise (inputRefusal section selection) (roomRefusal enough)) (Option·map (refusal 9) (firstTooLong (sectionOf section) built))
-      ≡ firstFall (rows section selection enough built)
+      → otherwise (otherwise (inputRefusal section families selection) (roomRefusal enough)) (Option·map (refusal 9) (firstTooLong (searchedOf section families) built))
+      ≡ firstFall (rows section families selection enough built)
   all-rows enough built =
-      room-and-size (inputRefusal section selection) enough (firstTooLong (sectionOf section) built)
-      ∙ ap (λ (o : Option Refusal). otherwise o (firstFall (listRows enough section built))) input-rows
-      ∙ sym (firstFall-append (inputRows section selection) (listRows enough section built))
+      room-and-size (inputRefusal section families selection) enough (firstTooLong (searchedOf section families) built)
+      ∙ ap (λ (o : Option Refusal). otherwise o (firstFall (listRows enough section families built))) input-rows
+      ∙ sym (firstFall-append (inputRows section families selection) (listRows enough section families built))
 
-  pub listing-table : (work buffer : ℕ) → listingRefusal section selection work buffer ≡ firstFall (listingTable section selection work buffer)
+  pub listing-table : (work buffer : ℕ) → listingRefusal section families selection work buffer ≡ firstFall (listingTable section families selection work buffer)
   unfolding listingRefusal listingChecks
   listing-table work buffer = all-rows (leb workLength work && leb bufferLength buffer) (parts (treeOf selection))
 
@@ -165,13 +181,13 @@ module _ (section selection : List ℕ) where
   -- The quick answer is the first refusal of its table that falls; where none does, whether the complete list has a match without excludes, with
   -- how many codes its walk reaches.
   pub quick-table : (work : ℕ)
-      → quickAnswer section selection work
-      ≡ walkUnless (firstFall (quickTable section selection work)) (Answered (isYes (completeList section selection)) (length (walkReaches (sectionOf section) (treeOf selection))))
+      → quickAnswer section families selection work
+      ≡ walkUnless (firstFall (quickTable section families selection work)) (Answered (isYes (completeList section families selection)) (length (walkReaches (searchedOf section families) (treeOf selection))))
   unfolding quickAnswer quickChecks
   quick-table work =
-      let s = sectionOf section in
+      let s = searchedOf section families in
       let t = treeOf selection in
-      let answered = walkUnless (quickChecks section selection work) in
+      let answered = walkUnless (quickChecks section families selection work) in
       ap answered (walk-is s t ∙ ap (λ (b : Bool). unlessTooLong (firstTooLong s (walkBuilds s t)) b (length (walkReaches s t))) (walkAnswer-complete s t))
-      ∙ walk-unless (quickChecks section selection work) (firstTooLong s (walkBuilds s t)) (isYes (completeList section selection)) (length (walkReaches s t))
-      ∙ ap (λ (o : Option Refusal). walkUnless o (Answered (isYes (completeList section selection)) (length (walkReaches s t)))) (all-rows (leb workLength work) (walkBuilds s t))
+      ∙ walk-unless (quickChecks section families selection work) (firstTooLong s (walkBuilds s t)) (isYes (completeList section families selection)) (length (walkReaches s t))
+      ∙ ap (λ (o : Option Refusal). walkUnless o (Answered (isYes (completeList section families selection)) (length (walkReaches s t)))) (all-rows (leb workLength work) (walkBuilds s t))

@@ -77,17 +77,17 @@ texts text = record {
 
 -- ---- what document 01's calls refuse
 
-listing-number : (section selection : List ℕ) (work : ℕ) (buffer : List ℕ) (r : Refusal) → ListingRefuses (listingAnswer section selection work (length buffer)) r → Numbered r
-listing-number section selection work buffer r e = at (demand-1 section selection work buffer 0 0 .listing-answers) where
-  at : (ListingGiven (listingAnswer section selection work (length buffer))
-      ⊎ ((q : Refusal) × ListingRefuses (listingAnswer section selection work (length buffer)) q × Numbered q)) → Numbered r
+listing-number : (section families selection : List ℕ) (work : ℕ) (buffer : List ℕ) (r : Refusal) → ListingRefuses (listingAnswer section families selection work (length buffer)) r → Numbered r
+listing-number section families selection work buffer r e = at (demand-1 section families selection work buffer 0 0 .listing-answers) where
+  at : (ListingGiven (listingAnswer section families selection work (length buffer))
+      ⊎ ((q : Refusal) × ListingRefuses (listingAnswer section families selection work (length buffer)) q × Numbered q)) → Numbered r
   at (inl (m, s, y, f)) = let z : _≡_ {A = ℕ} 0 1 = cc in absurd (omega arith)
   at (inr (q, f, n)) = let same : q ≡ r = cc in rw same at n
 
-quick-number : (section selection : List ℕ) (work : ℕ) (r : Refusal) → QuickRefuses (quickAnswer section selection work) r → Numbered r
-quick-number section selection work r e = at (demand-1 section selection work [] 0 0 .quick-answers) where
-  at : (QuickGiven (quickAnswer section selection work)
-      ⊎ ((q : Refusal) × QuickRefuses (quickAnswer section selection work) q × Numbered q)) → Numbered r
+quick-number : (section families selection : List ℕ) (work : ℕ) (r : Refusal) → QuickRefuses (quickAnswer section families selection work) r → Numbered r
+quick-number section families selection work r e = at (demand-1 section families selection work [] 0 0 .quick-answers) where
+  at : (QuickGiven (quickAnswer section families selection work)
+      ⊎ ((q : Refusal) × QuickRefuses (quickAnswer section families selection work) q × Numbered q)) → Numbered r
   at (inl (y, (n, f))) = let z : _≡_ {A = ℕ} 0 1 = cc in absurd (omega arith)
   at (inr (q, f, n)) = let same : q ≡ r = cc in rw same at n
 
@@ -97,16 +97,18 @@ quick-number section selection work r e = at (demand-1 section selection work []
 not-text : {A : Type 0} (r : Refusal) → Numbered r → OfText r → A
 not-text r (inl h) (inl e) = absurd (omega arith)
 not-text r (inl h) (inr e) = absurd (omega arith)
-not-text r (inr h) (inl e) = absurd (omega arith)
-not-text r (inr h) (inr e) = absurd (omega arith)
+not-text r (inr (inl h)) (inl e) = absurd (omega arith)
+not-text r (inr (inl h)) (inr e) = absurd (omega arith)
+not-text r (inr (inr h)) (inl e) = absurd (omega arith)
+not-text r (inr (inr h)) (inr e) = absurd (omega arith)
 
-module _ (section text : List ℕ) (work : ℕ) (buffer selection : List ℕ) where
-  listing-error : (a : TextAnswer) → AnswerOf text a → (r : Refusal) → ListingRefuses (typedListing section a work (length buffer)) r → OfText r → HasError text r
-  listing-error (codes cs) h r e n = not-text r (listing-number section (selectionOf cs) work buffer r e) n
+module _ (section families text : List ℕ) (work : ℕ) (buffer selection : List ℕ) where
+  listing-error : (a : TextAnswer) → AnswerOf text a → (r : Refusal) → ListingRefuses (typedListing section families a work (length buffer)) r → OfText r → HasError text r
+  listing-error (codes cs) h r e n = not-text r (listing-number section families (selectionOf cs) work buffer r e) n
   listing-error (error s) h r e n = let same : s ≡ r = cc in fails (rw same at h)
 
-  quick-error : (a : TextAnswer) → AnswerOf text a → (r : Refusal) → QuickRefuses (typedQuick section a work) r → OfText r → HasError text r
-  quick-error (codes cs) h r e n = not-text r (quick-number section (selectionOf cs) work r e) n
+  quick-error : (a : TextAnswer) → AnswerOf text a → (r : Refusal) → QuickRefuses (typedQuick section families a work) r → OfText r → HasError text r
+  quick-error (codes cs) h r e n = not-text r (quick-number section families (selectionOf cs) work r e) n
   quick-error (error s) h r e n = let same : s ≡ r = cc in fails (rw same at h)
 
   -- the reader alone, for codes: by whether they are at most 64, and whether 129 numbers are lent
@@ -161,7 +163,7 @@ module _ (section text : List ℕ) (work : ℕ) (buffer selection : List ℕ) wh
     at none f = let z : _≡_ {A = ℕ} 0 1 = cc in absurd (omega arith)
   unchanged (error q) r e = refl
 
-  calls : (a : TextAnswer) → AnswerOf text a → TypedOf section text a work buffer selection
+  calls : (a : TextAnswer) → AnswerOf text a → TypedOf section families text a work buffer selection
   calls a h = record {
     listing-of-codes = λ cs k. rw (are cs k) (refl, refl);
     quick-of-codes = λ cs k. rw (are cs k);
@@ -192,4 +194,4 @@ module _ (section text : List ℕ) (work : ℕ) (buffer selection : List ℕ) wh
         (omega (arith, length-selection cs, number, f .3, f .4), rw (are cs k) (few cs (omega (arith, number, f .3)) (f .4) .1))
 
 pub typed-searches : TypedSearches
-typed-searches = record { texts = texts; calls = λ section text a work buffer selection h. calls section text work buffer selection a h; examples = examples-hold }
+typed-searches = record { texts = texts; calls = λ section families text a work buffer selection h. calls section families text work buffer selection a h; examples = examples-hold }

@@ -1,17 +1,19 @@
--- What document 02's F-1 to F-5 say, request by request, over the definitions that the calls' contracts name: for the answer of its text a typed call answers
+-- What document 02's F-1 to F-6 say, request by request, over the definitions that the calls' contracts name: for the answer of its text a typed call answers
 -- `typedListing ..`, `typedQuick ..`, `readAnswer ..` (engine/src/lib.rt). F-2 speaks of no call, but of what is read inside them; F-3 of the lists, F-4
--- of the walk, F-5 of refusal 2 and of two filters, which the calls answer by. proofs/ has a proof of each.
+-- of the walk, F-5 of refusal 2 and of two filters, F-6 of refusal 13 and of phrases, which the calls answer by. proofs/ has a proof of each.
 -- Quotation marks enclose document 02's words, or document 01's where it is named. The words are those of Demands.antt.
-use Prim.Native.Nat.{ℕ, suc, _-_, _/_, _%_, _^_, _≤_, _<_}
-use mathlib.Core.Bool.{Bool, true, not, _||_}
+use Prim.Native.Nat.{ℕ, suc, _+_, _*_, _-_, _/_, _%_, _^_, _≤_, _<_}
+use mathlib.Core.Bool.{Bool, true, not, _&&_, _||_}
 use mathlib.Core.List.{List, [], _∷_, _++_, map, Sublistᴰ}
 use mathlib.Core.Logic.{_↔_, _⊎_}
-use mathlib.Core.Option.{Option, some, none}
+use mathlib.Core.Option.{Option, some, none, Option·map}
 use mathlib.Core.Path.{_≡_}
-use lib.ListN.{length, drop}
+use lib.Dec.{leb}
+use lib.ListN.{length, drop, getD}
 use Rattle.model.specs.declared.Code.{Code}
 use Rattle.model.specs.declared.Filter.{Filter}
 use Rattle.model.specs.declared.Filter.the-variants.{SameSentence, DifferentSentence}
+use Rattle.model.specs.declared.Listing.{Listing}
 use Rattle.model.specs.declared.Pair.the-variants.{Or, And, MildNot}
 use Rattle.model.specs.declared.Quick.{Quick}
 use Rattle.model.specs.declared.Quick.the-variants.{Answered}
@@ -19,25 +21,26 @@ use Rattle.model.specs.declared.Reading.the-variants.{Read, Refused as ReadingR
 use Rattle.model.specs.declared.Refusal.{Refusal}
 use Rattle.model.specs.declared.Times.{Times}
 use Rattle.model.specs.declared.Times.the-variants.{FromTo, AtLeast}
-use Rattle.model.specs.Accepted.{LastNonzeroBefore, NotReported}
+use Rattle.model.specs.Accepted.{LastNonzeroBefore, NotReported, RisingStrictly}
 use Rattle.model.specs.AllMatches.{filterMatch, filterList, allMatches}
 use Rattle.model.specs.AllStrings.{AllList}
-use Rattle.model.specs.Answers.{listingAnswer, spanOf, listingBuffer, quickAnswer}
-use Rattle.model.specs.Checks.{refusal, breaksOrder, faultyPosition, wrongSelection}
+use Rattle.model.specs.Answers.{answerUnless, listingAnswer, spanOf, listingNumbers, bufferUnless, listingBuffer, walkUnless, quickAnswer}
+use Rattle.model.specs.Checks.{refusal, otherwise, breaksOrder, faultyPosition, wrongFamilies, entryOutOfOrder, wrongSelection, sectionRefusal, selectionRefusal, roomRefusal}
+use Rattle.model.specs.Families.{wordFits, Searched, searchedOf, equalWords}
 use Rattle.model.specs.Kinds.{negated, filtered, occurring}
-use Rattle.model.specs.Limits.{maxCodes, maxText, radix, selectionLength}
+use Rattle.model.specs.Limits.{maxFamilies, maxCodes, maxText, workLength, bufferLength, radix, selectionLength}
 use Rattle.model.specs.Lists.{Every, isEmpty, first, fromTo}
 use Rattle.model.specs.Matches.{Str, Match}
 use Rattle.model.specs.Productions.{FTSelection}
-use Rattle.model.specs.Rules.{phraseList, joinedAll}
-use Rattle.model.specs.Section.{Section, size, sentenceAt, paragraphAt, sectionOf}
+use Rattle.model.specs.Rules.{found, phraseList, joinedAll}
+use Rattle.model.specs.Section.{Section, size, firstAt, secondAt, wordAt, sentenceAt, paragraphAt, sectionOf}
 use Rattle.model.specs.Selection.{codeAt, upTo}
 use Rattle.model.specs.TextAnswer.{TextAnswer, codes, error, AnswerOf, NotAllowed, TooLarge}
 use Rattle.model.specs.Tokens.{Token, Tokens}
-use Rattle.model.specs.Trees.{Tree, phrase, pair, change, placeOf, parts}
+use Rattle.model.specs.Trees.{Tree, phrase, pair, change, placeOf, treeOf, parts}
 use Rattle.model.specs.Typed.{selectionOf, typedListing, typedBuffer, typedQuick, readAnswer, readSelection}
 use Rattle.model.specs.TypedExamples.{ExamplesHold}
-use Rattle.model.specs.Walk.{build, turned, orWalk, andWalk, walk}
+use Rattle.model.specs.Walk.{firstTooLong, build, turned, orWalk, andWalk, walk}
 use Rattle.theorems.specs.Demands.{Has, FirstWith, ListingRefuses, QuickRefuses, RefusesForSize, WithoutExcludes, PastLimits}
 
 -- ---- document 02's F-1, typed searches
@@ -72,25 +75,25 @@ pub record TextOf (text : List ℕ) : Type 0 where
 abbrev pub OfText : Refusal → Type 0
 OfText r = (r .number ≡ 10) ⊎ (r .number ≡ 11)
 
--- for a section, a text and its answer, working memory's length, the listing buffer and a lent selection: what the typed calls answer
-pub record TypedOf (section text : List ℕ) (a : TextAnswer) (work : ℕ) (buffer selection : List ℕ) : Type 0 where
+-- for a section, a family table, a text and its answer, working memory's length, the listing buffer and a lent selection: what the typed calls answer
+pub record TypedOf (section families text : List ℕ) (a : TextAnswer) (work : ℕ) (buffer selection : List ℕ) : Type 0 where
   -- "What a typed search answers is what its codes answer."
   pub listing-of-codes : (cs : List Code) → HasCodes text cs
-      → (typedListing section a work (length buffer) ≡ listingAnswer section (selectionOf cs) work (length buffer))
-      × (typedBuffer section a work buffer ≡ listingBuffer section (selectionOf cs) work buffer)
-  pub quick-of-codes : (cs : List Code) → HasCodes text cs → typedQuick section a work ≡ quickAnswer section (selectionOf cs) work
-  -- "over 64 codes is refusal 3": so of a typed call, after 1 and 2.
+      → (typedListing section families a work (length buffer) ≡ listingAnswer section families (selectionOf cs) work (length buffer))
+      × (typedBuffer section families a work buffer ≡ listingBuffer section families (selectionOf cs) work buffer)
+  pub quick-of-codes : (cs : List Code) → HasCodes text cs → typedQuick section families a work ≡ quickAnswer section families (selectionOf cs) work
+  -- "over 64 codes is refusal 3": so of a typed call, after 1, 2 and 13.
   pub over-64 : (cs : List Code) → maxCodes < length cs → wrongSelection (selectionOf cs) ≡ some 0
-  -- The text's errors come "all before document 01's refusals": whatever section and memory are, and nothing is written.
+  -- The text's errors come "all before document 01's refusals": whatever section, table and memory are, and nothing is written.
   pub error-first : (r : Refusal) → HasError text r
-      → ListingRefuses (typedListing section a work (length buffer)) r
-      × (typedBuffer section a work buffer ≡ buffer)
-      × QuickRefuses (typedQuick section a work) r
+      → ListingRefuses (typedListing section families a work (length buffer)) r
+      × (typedBuffer section families a work buffer ≡ buffer)
+      × QuickRefuses (typedQuick section families a work) r
       × (readAnswer a (length selection) ≡ ReadingRefused r)
       × (readSelection a selection ≡ selection)
   -- Refusals 10 and 11 are the text's errors, the others those of its codes.
-  pub listing-error-exactly : (r : Refusal) → (ListingRefuses (typedListing section a work (length buffer)) r × OfText r) ↔ HasError text r
-  pub quick-error-exactly : (r : Refusal) → (QuickRefuses (typedQuick section a work) r × OfText r) ↔ HasError text r
+  pub listing-error-exactly : (r : Refusal) → (ListingRefuses (typedListing section families a work (length buffer)) r × OfText r) ↔ HasError text r
+  pub quick-error-exactly : (r : Refusal) → (QuickRefuses (typedQuick section families a work) r × OfText r) ↔ HasError text r
   -- The reader alone reads the grammar and nothing else. It gives the codes of a text exactly where they are at most 64 and 129 numbers are lent,
   pub read-exactly : (m : ℕ) → (readAnswer a (length selection) ≡ Read m)
       ↔ ((cs : List Code) × HasCodes text cs × (length cs ≡ m) × (m ≤ maxCodes) × (selectionLength ≤ length selection))
@@ -106,8 +109,8 @@ pub record TypedOf (section text : List ℕ) (a : TextAnswer) (work : ℕ) (buff
 
 pub record TypedSearches : Type 0 where
   pub texts : (text : List ℕ) → TextOf text
-  pub calls : (section text : List ℕ) (a : TextAnswer) (work : ℕ) (buffer selection : List ℕ) → AnswerOf text a
-      → TypedOf section text a work buffer selection
+  pub calls : (section families text : List ℕ) (a : TextAnswer) (work : ℕ) (buffer selection : List ℕ) → AnswerOf text a
+      → TypedOf section families text a work buffer selection
   -- model/specs/TypedExamples.antt
   pub examples : ExamplesHold
 
@@ -128,7 +131,7 @@ SpansRead = (s : Str) → s .start < radix → s .end < radix → SpanReadOf s
 -- ---- document 02's F-3, occurs
 
 -- the unlimited list of an occurs over a phrase; the places of the two codes are no part of it
-abbrev pub occursOver : Section → Times → ℕ → List ℕ → List Match
+abbrev pub occursOver : Searched → Times → ℕ → List ℕ → List Match
 occursOver s k rank words = allMatches s (change (occurring k) 0 (phrase 0 rank words))
 
 -- every element of a list has R to each later one
@@ -154,8 +157,8 @@ starts m = map (λ i. i .start) (m .includes)
 abbrev pub Sooner : Match → Match → Type 0
 Sooner l m = (length (l .includes) < length (m .includes)) ⊎ ((length (l .includes) ≡ length (m .includes)) × Precedes (starts l) (starts m))
 
--- for a phrase in a section, and its matches
-pub record OccursOf (s : Section) (rank : ℕ) (words : List ℕ) (finds : List Match) : Type 0 where
+-- for a phrase in what is searched, and its matches
+pub record OccursOf (s : Searched) (rank : ℕ) (words : List ℕ) (finds : List Match) : Type 0 where
   -- At least a: "every choice of a or more of the phrase's matches .., each choice joined as and would", and no other match,
   pub every-choice : (a : ℕ) (m : Match) → Has (λ l. l ≡ m) (occursOver s (AtLeast a) rank words)
       ↔ ((chosen : List Match) × Sublistᴰ chosen finds × (a ≤ length chosen) × (m ≡ joinedAll chosen))
@@ -166,12 +169,12 @@ pub record OccursOf (s : Section) (rank : ℕ) (words : List ℕ) (finds : List 
   pub from-to-yes : (a b : ℕ) → Has WithoutExcludes (occursOver s (FromTo a b) rank words) ↔ ((a ≤ length finds) × (length finds ≤ b))
 
 abbrev pub OccursChosen : Type 0
-OccursChosen = (s : Section) (rank : ℕ) (words : List ℕ) → OccursOf s rank words (phraseList s rank words)
+OccursChosen = (s : Searched) (rank : ℕ) (words : List ℕ) → OccursOf s rank words (phraseList s rank words)
 
 -- ---- document 02's F-4, early way out of a filter
 
 -- document 01's walk, with its answer where it reaches a filter left open: of the filter, its place and its operand
-unfoldable pub walkWith : (Filter → ℕ → Tree → Quick) → Section → Tree → Quick
+unfoldable pub walkWith : (Filter → ℕ → Tree → Quick) → Searched → Tree → Quick
 walkWith at-filter s (phrase c rank ws) = Answered (not (isEmpty (phraseList s rank ws))) 1
 walkWith at-filter s (change negated c t) = turned (walkWith at-filter s t)
 walkWith at-filter s (pair Or c t u) = let right = walkWith at-filter s u in orWalk (walkWith at-filter s t) right
@@ -181,37 +184,37 @@ walkWith at-filter s (change (filtered f) c t) = at-filter f c t
 walkWith at-filter s (change (occurring k) c t) = build s (change (occurring k) c t)
 
 -- the walk before F-4: at a filter it builds the whole part, the filter's own list too
-abbrev pub walkBefore : Section → Tree → Quick
+abbrev pub walkBefore : Searched → Tree → Quick
 walkBefore s t = walkWith (λ f c operand. build s (change (filtered f) c operand)) s t
 
 -- the walk that reaches a filter, at a place, over an operand
-abbrev pub walkAtFilter : List ℕ → Filter → ℕ → Tree → Quick
-walkAtFilter section f c operand = walk (sectionOf section) (change (filtered f) c operand)
+abbrev pub walkAtFilter : List ℕ → List ℕ → Filter → ℕ → Tree → Quick
+walkAtFilter section families f c operand = walk (searchedOf section families) (change (filtered f) c operand)
 
--- for a section, and a filter at a place over an operand
-pub record FilterReachedOf (section : List ℕ) (f : Filter) (c : ℕ) (operand : Tree) : Type 0 where
+-- for a section, a family table, and a filter at a place over an operand
+pub record FilterReachedOf (section families : List ℕ) (f : Filter) (c : ℕ) (operand : Tree) : Type 0 where
   -- "it should take the operand's matches one by one and stop at the first that gives a match without excludes." That it reads no match after that one
   -- can't be seen in an answer.
-  pub decided-by-first : (y : Bool) (codes : ℕ) → walkAtFilter section f c operand ≡ Answered y codes
+  pub decided-by-first : (y : Bool) (codes : ℕ) → walkAtFilter section families f c operand ≡ Answered y codes
       → (y ≡ true)
-      ↔ ((m : Match) × FirstWith (λ l. Has WithoutExcludes (filterMatch (sectionOf section) f l)) (allMatches (sectionOf section) operand) m)
+      ↔ ((m : Match) × FirstWith (λ l. Has WithoutExcludes (filterMatch (sectionOf section) f l)) (allMatches (searchedOf section families) operand) m)
   -- "That filter's own list no longer counts for refusal 9; the lists under it still do."
-  pub size-exactly : (place : ℕ) → RefusesForSize (walkAtFilter section f c operand) place
-      ↔ ((code : Tree) × FirstWith (PastLimits section) (parts operand) code × (placeOf code ≡ place))
-  pub size-only : (r : Refusal) → QuickRefuses (walkAtFilter section f c operand) r → r .number ≡ 9
+  pub size-exactly : (place : ℕ) → RefusesForSize (walkAtFilter section families f c operand) place
+      ↔ ((code : Tree) × FirstWith (PastLimits section families) (parts operand) code × (placeOf code ≡ place))
+  pub size-only : (r : Refusal) → QuickRefuses (walkAtFilter section families f c operand) r → r .number ≡ 9
   -- "The yes or no is held, as before, to the complete unlimited list, and the count of codes remains that of the walk."
-  pub held-to-complete : (y : Bool) (codes : ℕ) → walkAtFilter section f c operand ≡ Answered y codes
-      → (y ≡ true) ↔ Has WithoutExcludes (allMatches (sectionOf section) (change (filtered f) c operand))
-  pub counts-part : (y : Bool) (codes : ℕ) → walkAtFilter section f c operand ≡ Answered y codes
+  pub held-to-complete : (y : Bool) (codes : ℕ) → walkAtFilter section families f c operand ≡ Answered y codes
+      → (y ≡ true) ↔ Has WithoutExcludes (allMatches (searchedOf section families) (change (filtered f) c operand))
+  pub counts-part : (y : Bool) (codes : ℕ) → walkAtFilter section families f c operand ≡ Answered y codes
       → codes ≡ length (parts (change (filtered f) c operand))
 
 pub record EarlyWayOut : Type 0 where
-  pub filters : (section : List ℕ) (f : Filter) (c : ℕ) (operand : Tree) → FilterReachedOf section f c operand
+  pub filters : (section families : List ℕ) (f : Filter) (c : ℕ) (operand : Tree) → FilterReachedOf section families f c operand
   -- Everywhere else the walk is document 01's.
-  pub elsewhere : (s : Section) (t : Tree) → walk s t ≡ walkWith (λ f c operand. walk s (change (filtered f) c operand)) s t
+  pub elsewhere : (s : Searched) (t : Tree) → walk s t ≡ walkWith (λ f c operand. walk s (change (filtered f) c operand)) s t
   -- What was answered before is answered so still, count and all; and it refuses only where the walk before refused, though perhaps at a later code.
-  pub answers-as-before : (s : Section) (t : Tree) (y : Bool) (codes : ℕ) → walkBefore s t ≡ Answered y codes → walk s t ≡ Answered y codes
-  pub refused-before : (s : Section) (t : Tree) (r : Refusal) → QuickRefuses (walk s t) r → (q : Refusal) × QuickRefuses (walkBefore s t) q
+  pub answers-as-before : (s : Searched) (t : Tree) (y : Bool) (codes : ℕ) → walkBefore s t ≡ Answered y codes → walk s t ≡ Answered y codes
+  pub refused-before : (s : Searched) (t : Tree) (r : Refusal) → QuickRefuses (walk s t) r → (q : Refusal) × QuickRefuses (walkBefore s t) q
 
 -- ---- document 02's F-5, headings
 
@@ -269,3 +272,87 @@ pub record Headings : Type 0 where
   pub same-sentence : (s : Section) (ms : List Match) → AllList (InSentences s) (filterList s SameSentence ms)
   pub different-sentence : (s : Section) (ms : List Match) → AllList (InSentences s) (filterList s DifferentSentence ms)
   -- "The listing and quick answer hold for these sections": the demands are of every section.
+
+-- ---- document 02's F-6, word families
+
+-- an entry of a table, counted from 1, has a word
+pub record EntryHas (families : List ℕ) (entry word : ℕ) : Type 0 where
+  pub from-one : 1 ≤ entry
+  pub up-to : entry ≤ size families
+  pub is-word : firstAt families entry ≡ word
+
+-- "both are in the table with the same family"
+pub record SameFamilyInTable (families : List ℕ) (token word : ℕ) : Type 0 where
+  pub token-entry : ℕ
+  pub word-entry : ℕ
+  pub token-in : EntryHas families token-entry token
+  pub word-in : EntryHas families word-entry word
+  pub same-family : secondAt families token-entry ≡ secondAt families word-entry
+
+-- "each word equals its token or both are in the table with the same family"
+abbrev pub Fits : List ℕ → ℕ → ℕ → Type 0
+Fits families token word = (token ≡ word) ⊎ SameFamilyInTable families token word
+
+-- From position p on there is a token for each word of a phrase, and the word fits it.
+pub record PhraseFitsFrom (section families words : List ℕ) (p : ℕ) : Type 0 where
+  pub from-one : 1 ≤ p
+  pub up-to : p ≤ size section
+  pub each-word : (i : ℕ) → i < length words → (p + i ≤ size section) × Fits families (wordAt section (p + i)) (getD words i 0)
+
+-- "word numbers rising strictly": an entry is out of order where one before it has the same word, or a higher one
+abbrev pub OutOfOrder : List ℕ → ℕ → Type 0
+OutOfOrder families entry = (before : ℕ) × (1 ≤ before) × (before < entry) × (firstAt families entry ≤ firstAt families before)
+
+-- for a table
+pub record TableOf (families : List ℕ) : Type 0 where
+  -- "Errors: 13 at the first entry out of order, place 0 for a wrong size or length". (That 0 comes before an entry, and 13 after 2, is said by the table of
+  -- refusals, `inputRows`; that no entry is out of order where the words rise, by `words-exactly` of demand 2.)
+  pub entry-exactly : (entry : ℕ) → (entryOutOfOrder families ≡ some entry) ↔ FirstWith (OutOfOrder families) (fromTo 1 (size families)) entry
+  pub sized-exactly : (place : ℕ)
+      → (wrongFamilies families ≡ some place) ↔ ((place ≡ 0) × ((maxFamilies < size families) ⊎ (¬ (length families ≡ 1 + 2 * size families))))
+  -- What fits, in a table whose words rise.
+  pub fits-exactly : RisingStrictly (firstAt families) (size families) → (token word : ℕ) → (wordFits families token word ≡ true) ↔ Fits families token word
+
+-- The calls before F-6: no table, so no refusal 13; and a word fits the tokens that it equals.
+abbrev pub checksBefore : List ℕ → List ℕ → Bool → Option Refusal
+checksBefore section selection enough = otherwise (otherwise (sectionRefusal section) (selectionRefusal selection)) (roomRefusal enough)
+
+abbrev pub listingRefusalBefore : List ℕ → List ℕ → ℕ → ℕ → Option Refusal
+listingRefusalBefore section selection work buffer =
+    otherwise
+    (checksBefore section selection (leb workLength work && leb bufferLength buffer))
+    (Option·map (refusal 9) (firstTooLong (equalWords section) (parts (treeOf selection))))
+
+abbrev pub completeBefore : List ℕ → List ℕ → List Match
+completeBefore section selection = allMatches (equalWords section) (treeOf selection)
+
+abbrev pub listingBefore : List ℕ → List ℕ → ℕ → ℕ → Listing
+listingBefore section selection work buffer = answerUnless (listingRefusalBefore section selection work buffer) (completeBefore section selection)
+
+abbrev pub bufferBefore : List ℕ → List ℕ → ℕ → List ℕ → List ℕ
+bufferBefore section selection work buffer =
+    bufferUnless (listingRefusalBefore section selection work (length buffer)) (listingNumbers (completeBefore section selection)) buffer
+
+abbrev pub quickBefore : List ℕ → List ℕ → ℕ → Quick
+quickBefore section selection work = walkUnless (checksBefore section selection (leb workLength work)) (walk (equalWords section) (treeOf selection))
+
+-- the table of size 0
+abbrev pub emptyTable : List ℕ
+emptyTable = 0 ∷ []
+
+-- for a section, a selection, working memory's length and the listing buffer: "An empty table .. gives the old answers."
+pub record EmptyTableOf (section selection : List ℕ) (work : ℕ) (buffer : List ℕ) : Type 0 where
+  pub listing-as-before : listingAnswer section emptyTable selection work (length buffer) ≡ listingBefore section selection work (length buffer)
+  pub buffer-as-before : listingBuffer section emptyTable selection work buffer ≡ bufferBefore section selection work buffer
+  pub quick-as-before : quickAnswer section emptyTable selection work ≡ quickBefore section selection work
+
+pub record WordFamilies : Type 0 where
+  pub tables : (families : List ℕ) → TableOf families
+  -- "A phrase fits where each word equals its token or both are in the table with the same family": its list has a match for each such place, and no other.
+  pub phrase-exactly : (section families : List ℕ) → RisingStrictly (firstAt families) (size families) → (rank : ℕ) (words : List ℕ) (m : Match)
+      → Has (λ l. l ≡ m) (phraseList (searchedOf section families) rank words)
+      ↔ ((p : ℕ) × PhraseFitsFrom section families words p × (m ≡ found rank (length words) p))
+  -- "'Needle' should find 'needles'": whatever a phrase finds without a table it finds with any, in the same order, perhaps with more between.
+  pub more-finds : (section families : List ℕ) (rank : ℕ) (words : List ℕ)
+      → Sublistᴰ (phraseList (equalWords section) rank words) (phraseList (searchedOf section families) rank words)
+  pub empty-table : (section selection : List ℕ) (work : ℕ) (buffer : List ℕ) → EmptyTableOf section selection work buffer

@@ -9,9 +9,10 @@ use Rattle.theorems.proofs.SpansRead.{spans-read}
 use Rattle.theorems.proofs.OccursChosen.{occurs-chosen}
 use Rattle.theorems.proofs.EarlyWayOut.{early-way-out}
 use Rattle.theorems.proofs.Headings.{headings}
+use Rattle.theorems.proofs.WordFamilies.{word-families}
 
 returns : tie.Need-returns
-returns c = (demand-1, (demand-2, (demand-3, (typed-searches, (spans-read, (occurs-chosen, (early-way-out, headings)))))))
+returns c = (demand-1, (demand-2, (demand-3, (typed-searches, (spans-read, (occurs-chosen, (early-way-out, (headings, word-families))))))))
 
 pub demands-hold-spec : {M : Type 1} → statement M
 demands-hold-spec = tie.close (tie.spec returns)

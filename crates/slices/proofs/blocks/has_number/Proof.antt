@@ -1,4 +1,4 @@
--- Invariant: where nothing is found, the word stands at no offset passed. Measure: the offsets left.
+-- Invariant: where nothing is found, the number stands at no offset passed. Measure: the offsets left.
 use Prim.Native.Nat.{_-_, _≤_}
 use native.Mathlib.Omega.{arith}
 use borrow.Author.Count.{below-more}
@@ -7,15 +7,15 @@ use borrow.Author.Tests.{eqb-false}
 use mathlib.Core.Bool.{false}
 use mathlib.Core.Path.{_≡_}
 use Rattle.model.proofs.TestsLaws.{both-false}
-use Rattle.phrase.specs.Blocks.{Lacks, blockSize}
-use Rattle.phrase.proofs.blocks.has_word.Statement.{statement}
-use Rattle.phrase.proofs.blocks.has_word.Tie as tie
+use Rattle.slices.specs.Blocks.{Lacks, blockSize}
+use Rattle.slices.proofs.blocks.has_number.Statement.{statement}
+use Rattle.slices.proofs.blocks.has_number.Tie as tie
 
 abbrev Inv-loop : tie.InvT-loop
-Inv-loop section at word found₀ i₀ found i = (i ≤ blockSize) × (found ≡ false → Lacks section at word i)
+Inv-loop lent at number found₀ i₀ found i = (i ≤ blockSize) × (found ≡ false → Lacks lent at number i)
 
 abbrev μ-loop : tie.MeasureT-loop
-μ-loop section at word found₀ i₀ found i = blockSize - i
+μ-loop lent at number found₀ i₀ found i = blockSize - i
 
 loop-holds : tie.Need-loop-holds Inv-loop μ-loop
 loop-holds c = (omega arith, λ e k h. absurd (omega arith))
@@ -43,8 +43,8 @@ loop-again c =
 returns : tie.Need-returns Inv-loop μ-loop
 returns c = λ e k h. c .before .loop .inv .1 e k (omega arith)
 
-pub has-word-spec : {M : Type 1} → statement M
-has-word-spec =
+pub has-number-spec : {M : Type 1} → statement M
+has-number-spec =
     tie.close
     (tie.spec
     Inv-loop

@@ -1,0 +1,3 @@
+pub mod OrderLaws
+pub mod EntriesLaws
+pub mod KinLaws

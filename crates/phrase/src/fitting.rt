@@ -1,0 +1,133 @@
+// The first start of a phrase by families: each word equals its token or is of its family. Looked for is one of its words, by all words that fit it, its
+// kin; where these aren't told, every position is tried.
+use super::blocks;
+ghost use mathlib.Core.Bool.{true};
+ghost use mathlib.Core.Path.{_≡_};
+ghost use Prim.Native.Nat.{_+_, _≤_, _<_};
+ghost use lib.Dec.{eqb};
+ghost use lib.ListN.{getD, length};
+ghost use Rattle.model.specs.Accepted.{AcceptedFamilies, AcceptedSection};
+ghost use Rattle.model.specs.Families.{searchedOf, wordFits};
+ghost use Rattle.model.specs.Lists.{anyOf};
+ghost use Rattle.model.specs.Rules.{standFrom};
+ghost use Rattle.model.specs.Section.{size, wordAt};
+ghost use Rattle.families.specs.Kin.{KinOf};
+ghost use Rattle.phrase.specs.Starts.{FirstStart, RowWithin, SearchRange};
+
+// Is a number among some?
+fn is_among(numbers: &[u32], number: u32) -> bool
+    ensures { λ r. ⌜ r ≡ anyOf (eqb number) (now (numbers .entry)) ⌝ }
+{
+    let mut i: usize = 0;
+    while i < numbers.len() {
+        if number == numbers[i] {
+            return true;
+        }
+        i += 1;
+    }
+    false
+}
+
+// Do the words fit in a row from position p on? The word number `known`, if there is one, is known to.
+fn row_fits(section: &[u32], families: &[u32], words: &[u32], p: usize, known: usize) -> bool
+    requires { ⌜ RowWithin (now section) (now words) p ⌝ }
+    requires { ⌜ AcceptedFamilies (now families) ⌝ }
+    requires { ⌜ (known < length (now words) → wordFits (now families) (wordAt (now section) (p + known)) (getD (now words) known 0) ≡ true) ⌝ }
+    ensures { λ r. ⌜ r ≡ standFrom (searchedOf (now (section .entry)) (now (families .entry))) (now (words .entry)) p ⌝ }
+{
+    let mut i: usize = 0;
+    while i < words.len() {
+        if i != known {
+            if !families::fits(families, section[p + i], words[i]) {
+                return false;
+            }
+        }
+        i += 1;
+    }
+    true
+}
+
+// The same, the word number i tried first, by its kin.
+fn fits_by_kin(
+    section: &[u32],
+    families: &[u32],
+    words: &[u32],
+    kin: &[u32],
+    i: usize,
+    p: usize,
+) -> bool
+    requires { ⌜ RowWithin (now section) (now words) p ⌝ }
+    requires { ⌜ AcceptedFamilies (now families) ⌝ }
+    requires { ⌜ i < length (now words) ⌝ }
+    requires { ⌜ KinOf (now families) (getD (now words) i 0) (now kin) ⌝ }
+    ensures { λ r. ⌜ r ≡ standFrom (searchedOf (now (section .entry)) (now (families .entry))) (now (words .entry)) p ⌝ }
+{
+    if kin.len() == 0 {
+        return row_fits(section, families, words, p, words.len());
+    }
+    if !is_among(kin, section[p + i]) {
+        return false;
+    }
+    row_fits(section, families, words, p, i)
+}
+
+// The first start from `from` on and before `to`, or `to`.
+fn first_fitting(
+    section: &[u32],
+    families: &[u32],
+    words: &[u32],
+    kin: &[u32],
+    i: usize,
+    from: usize,
+    to: usize,
+) -> usize
+    requires { ⌜ SearchRange (now section) (now words) from to ⌝ }
+    requires { ⌜ AcceptedFamilies (now families) ⌝ }
+    requires { ⌜ i < length (now words) ⌝ }
+    requires { ⌜ KinOf (now families) (getD (now words) i 0) (now kin) ⌝ }
+    ensures { λ r. ⌜ FirstStart (searchedOf (now (section .entry)) (now (families .entry))) (now (words .entry)) from to r ⌝ }
+{
+    let mut p = from;
+    while p < to {
+        if fits_by_kin(section, families, words, kin, i, p) {
+            return p;
+        }
+        p += 1;
+    }
+    p
+}
+
+// The first start from `from` on, or the position after the last one.
+pub fn next_start(
+    section: &[u32],
+    families: &[u32],
+    words: &[u32],
+    kin: &[u32],
+    i: usize,
+    from: usize,
+) -> usize
+    requires { ⌜ AcceptedSection (now section) ⌝ }
+    requires { ⌜ AcceptedFamilies (now families) ⌝ }
+    requires { ⌜ (from ≤ size (now section) + 1) × (i < length (now words)) ⌝ }
+    requires { ⌜ KinOf (now families) (getD (now words) i 0) (now kin) ⌝ }
+    ensures { λ r.
+        ⌜ FirstStart (searchedOf (now (section .entry)) (now (families .entry))) (now (words .entry)) from (size (now (section .entry)) + 1) r ⌝ }
+{
+    let k = words.len();
+    let n = section[0] as usize;
+    if n + 1 < from + k {
+        return n + 1;
+    }
+    let to = n + 2 - k;
+    let mut p = from;
+    while p < to {
+        let begin = blocks::skip_without_kin(section, kin, p, to, i);
+        let end = blocks::block_end(begin, to);
+        let start = first_fitting(section, families, words, kin, i, begin, end);
+        if start < end {
+            return start;
+        }
+        p = end;
+    }
+    n + 1
+}
