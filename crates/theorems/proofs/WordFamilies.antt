@@ -11,18 +11,19 @@ use mathlib.Core.Logic.{_↔_, _⊎_, inl, inr, ⊎-elim, Iff·trans}
 use mathlib.Core.Option.{Option, some, none, Option·map, Option·none-ne-some}
 use lib.Dec.{leb, eqb}
 use lib.ListN.{length, getD}
-use borrow.Author.Tests.{leb-true, le-leb, leb-false, lt-leb, eqb-true, eq-eqb, ne-eqb, eqb-false}
+use borrow.Author.Tests.{leb-true, le-leb, leb-false, eqb-true, eq-eqb, eqb-false}
 use Rattle.model.specs.declared.Refusal.{Refusal}
 use Rattle.model.specs.Accepted.{RisingStrictly}
 use Rattle.model.specs.AllMatches.{allMatches}
 use Rattle.model.specs.Answers.{answerUnless, listingRefusal, listingAnswer, listingNumbers, bufferUnless, listingBuffer, walkUnless, quickAnswer}
-use Rattle.model.specs.Checks.{refusal, otherwise, tried, wrongFamilies, outOfOrder, entryOutOfOrder, sectionRefusal, familiesRefusal, selectionRefusal, roomRefusal, inputRefusal, listingChecks, quickChecks}
+use Rattle.model.specs.Checks.{refusal, otherwise, tried, wrongFamilies, outOfOrder, entryOutOfOrder, sectionRefusal, familiesRefusal, selectionRefusal, roomRefusal}
+use Rattle.model.specs.Checks.{inputRefusal, listingChecks, quickChecks}
 use Rattle.model.specs.Families.{entryOf, familyOf, sameFamily, wordFits, Searched, searchedOf, equalWords}
 use Rattle.model.specs.Limits.{maxFamilies, workLength, bufferLength}
 use Rattle.model.specs.Lists.{Every, keep, first, upFrom, fromTo}
 use Rattle.model.specs.Matches.{Match}
 use Rattle.model.specs.Rules.{standFrom, found, phraseList}
-use Rattle.model.specs.Section.{size, firstAt, secondAt, wellSized, wordAt}
+use Rattle.model.specs.Section.{size, firstAt, secondAt, wellSized}
 use Rattle.model.specs.Trees.{treeOf, parts}
 use Rattle.model.specs.Walk.{firstTooLong, walk}
 use Rattle.model.proofs.EveryLaws.{every-weaker, every-map, every-kept, every-range}
@@ -124,9 +125,9 @@ module _ (families : List ℕ) where
       Iff·trans (first-exactly (outOfOrder families) NotAbove (λ j. (leb-true _ _, le-leb _ _)) (fromTo 2 (size families)) i)
       (Iff·trans (range-first NotAbove 2 (size families) i (omega arith)) (Iff·trans (first-out i) (range .1, range .0)))
 
-  sized-exactly : (place : ℕ) → (wrongFamilies families ≡ some place) ↔ ((place ≡ 0) × ((maxFamilies < size families) ⊎ (¬ (length families ≡ 1 + 2 * size families))))
+  place-zero-exactly : (place : ℕ) → (wrongFamilies families ≡ some place) ↔ ((place ≡ 0) × ((maxFamilies < size families) ⊎ (¬ (length families ≡ 1 + 2 * size families))))
   unfolding wrongFamilies wellSized
-  sized-exactly place = rw (le-leb 0 (size families) (omega arith)) (at (leb (size families) maxFamilies) refl (eqb (length families) (1 + 2 * size families)) refl)
+  place-zero-exactly place = rw (le-leb 0 (size families) (omega arith)) (at (leb (size families) maxFamilies) refl (eqb (length families) (1 + 2 * size families)) refl)
     where
       Wrong : Type 0
       Wrong = (maxFamilies < size families) ⊎ (¬ (length families ≡ 1 + 2 * size families))
@@ -166,7 +167,7 @@ module _ (families : List ℕ) where
     fits-exactly = or-exactly (eqb token word) (sameFamily (familyOf families token) (familyOf families word)) (eqb-true token word, eq-eqb token word) same-exactly
 
 table-of : (families : List ℕ) → TableOf families
-table-of families = record { entry-exactly = entry-exactly families; sized-exactly = sized-exactly families; fits-exactly = fits-exactly families }
+table-of families = record { entry-exactly = entry-exactly families; place-zero-exactly = place-zero-exactly families; fits-exactly = fits-exactly families }
 
 -- ---- a phrase's finds
 

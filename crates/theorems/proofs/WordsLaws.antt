@@ -1,4 +1,5 @@
--- 'Some element has P' and 'the first that has P' against the tests of the definitions, for a test that passes exactly where P holds.
+-- 'Some element has P', of lists made of others; it and 'the first that has P' against the tests of the definitions, for a test that passes exactly where P
+-- holds.
 use Prim.Native.Nat.{ℕ, zero, suc, _+_, _-_, _≤_, _<_}
 use native.Mathlib.Nat.{eq-or-lt-of-le}
 use native.Mathlib.Omega.{arith}
@@ -98,7 +99,7 @@ has-keep {A} p {x} e h = subst (λ (ys : List A). Has (λ y. y ≡ x) (keep p ys
     go [] = rw passes (record { before = []; element = h .element; after = keep p (h .after); order = refl; this = h .this })
     go (y ∷ before) = at y (before ++ h .element ∷ h .after) (p y) (go before)
 
--- ---- FirstWith
+-- ---- FirstWith and Has, by a test
 
 pub first-has : {A : Type 0} (P : A → Type 0) (xs : List A) (x : A) → FirstWith P xs x → Has P xs
 first-has P xs x f = record { before = f .before; element = x; after = f .after; order = f .order; this = f .this }

@@ -25,7 +25,8 @@ use Rattle.model.specs.Accepted.{LastNonzeroBefore, NotReported, RisingStrictly
 use Rattle.model.specs.AllMatches.{filterMatch, filterList, allMatches}
 use Rattle.model.specs.AllStrings.{AllList}
 use Rattle.model.specs.Answers.{answerUnless, listingAnswer, spanOf, listingNumbers, bufferUnless, listingBuffer, walkUnless, quickAnswer}
-use Rattle.model.specs.Checks.{refusal, otherwise, breaksOrder, faultyPosition, wrongFamilies, entryOutOfOrder, wrongSelection, sectionRefusal, selectionRefusal, roomRefusal}
+use Rattle.model.specs.Checks.{refusal, otherwise, breaksOrder, faultyPosition, wrongFamilies, entryOutOfOrder, wrongSelection}
+use Rattle.model.specs.Checks.{sectionRefusal, selectionRefusal, roomRefusal}
 use Rattle.model.specs.Families.{wordFits, Searched, searchedOf, equalWords}
 use Rattle.model.specs.Kinds.{negated, filtered, occurring}
 use Rattle.model.specs.Limits.{maxFamilies, maxCodes, maxText, workLength, bufferLength, radix, selectionLength}
@@ -305,12 +306,12 @@ OutOfOrder families entry = (before : ℕ) × (1 ≤ before) × (before < entry)
 
 -- for a table
 pub record TableOf (families : List ℕ) : Type 0 where
-  -- "Errors: 13 at the first entry out of order, place 0 for a wrong size or length". (That 0 comes before an entry, and 13 after 2, is said by the table of
-  -- refusals, `inputRows`; that no entry is out of order where the words rise, by `words-exactly` of demand 2.)
+  -- "Errors: 13 at the first entry out of order, place 0 for a wrong size or length, tried after 2." (That place 0 comes before an entry, and 13 after 2, is in
+  -- the table of refusals, `inputRows`. By `words-exactly` of demand 2 no entry is out of order exactly where the words rise strictly.)
   pub entry-exactly : (entry : ℕ) → (entryOutOfOrder families ≡ some entry) ↔ FirstWith (OutOfOrder families) (fromTo 1 (size families)) entry
-  pub sized-exactly : (place : ℕ)
+  pub place-zero-exactly : (place : ℕ)
       → (wrongFamilies families ≡ some place) ↔ ((place ≡ 0) × ((maxFamilies < size families) ⊎ (¬ (length families ≡ 1 + 2 * size families))))
-  -- What fits, in a table whose words rise.
+  -- A word of a phrase fits a token exactly as F-6 says, in a table whose words rise.
   pub fits-exactly : RisingStrictly (firstAt families) (size families) → (token word : ℕ) → (wordFits families token word ≡ true) ↔ Fits families token word
 
 -- The calls before F-6: no table, so no refusal 13; and a word fits the tokens that it equals.
