@@ -69,7 +69,7 @@ kin-none families word = record { among = λ token t. absurd (false≢true t); n
 
 -- ---- gathered
 
-below-or-from : (j k : ℕ) → (j < k) ⊎ (k ≤ j)
+pub below-or-from : (j k : ℕ) → (j < k) ⊎ (k ≤ j)
 below-or-from j k = at (leb k j) refl
   where
     at : (b : Bool) → leb k j ≡ b → (j < k) ⊎ (k ≤ j)

@@ -10,7 +10,7 @@ use lib.Seq.{sets}
 use Rattle.model.specs.Limits.{maxMatches, radix}
 use Rattle.model.specs.Matches.{strings}
 use Rattle.model.specs.Rules.{standFrom, found, phraseList}
-use Rattle.model.specs.Section.{Section}
+use Rattle.model.specs.Families.{Searched}
 use Rattle.model.proofs.RulesLaws.{strings-phrase}
 use Rattle.strings.specs.Strings.{strsOf}
 use Rattle.store.specs.declared.Built.the-variants.{Made, TooLong}
@@ -50,7 +50,7 @@ abbrev pub foundNumbers : ℕ → ℕ → ℕ → List ℕ
 foundNumbers rank k p = matchNumbers (found rank k p)
 
 -- a phrase's list by its starts
-module _ (s : Section) (rank : ℕ) (words : List ℕ) where
+module _ (s : Searched) (rank : ℕ) (words : List ℕ) where
   length-list : length (phraseList s rank words) ≡ length (startsFrom s words 1)
   unfolding phraseList startsFrom
   length-list = length-map (startsFrom s words 1) (found rank (length words))
@@ -60,15 +60,15 @@ module _ (s : Section) (rank : ℕ) (words : List ℕ) where
   list-numbers = matches-map (found rank (length words)) (startsFrom s words 1)
 
 -- before the find at p: memory was mem₀, and the finds before it, so many, are written after the header of the slot at `at`, up to q
-pub record Finding (s : Section) (words : List ℕ) (rank : ℕ) (mem₀ mem : List ℕ) (at q p matches : ℕ) : Type 0 where
+pub record Finding (s : Searched) (words : List ℕ) (rank : ℕ) (mem₀ mem : List ℕ) (at q p matches : ℕ) : Type 0 where
   pub rows : Rows (foundNumbers rank (length words)) (startsFrom s words 1) (startsFrom s words p) mem₀ mem (at + 2) q
   pub count : matches + length (startsFrom s words p) ≡ length (startsFrom s words 1)
   pub q-is : q ≡ at + 2 + 3 * matches
   pub from-one : 1 ≤ p
-  pub up-to : p ≤ s .tokens + 1
-  pub stands : p ≤ s .tokens → standFrom s words p ≡ true
+  pub up-to : p ≤ s .section .tokens + 1
+  pub stands : p ≤ s .section .tokens → standFrom s words p ≡ true
 
-pub find-start : {s : Section} {words : List ℕ} {p : ℕ} (rank : ℕ) (mem : List ℕ) (at : ℕ) → FirstStart s words 1 (s .tokens + 1) p → Finding s words rank mem mem at (at + 2) p 0
+pub find-start : {s : Searched} {words : List ℕ} {p : ℕ} (rank : ℕ) (mem : List ℕ) (at : ℕ) → FirstStart s words 1 (s .section .tokens + 1) p → Finding s words rank mem mem at (at + 2) p 0
 find-start {s} {words} {p} rank mem at n =
     record {
       rows = subst (λ xs. Rows (foundNumbers rank (length words)) (startsFrom s words 1) xs mem mem (at + 2) (at + 2)) (n .skipped .same) rows-start;
@@ -79,8 +79,8 @@ find-start {s} {words} {p} rank mem at n =
       stands = λ h. n .stands (omega arith);
     }
 
-module _ {s : Section} {words : List ℕ} {rank : ℕ} {mem₀ mem : List ℕ} {at q p matches : ℕ} (g : Finding s words rank mem₀ mem at q p matches) where
-  module _ (h : p ≤ s .tokens) where
+module _ {s : Searched} {words : List ℕ} {rank : ℕ} {mem₀ mem : List ℕ} {at q p matches : ℕ} (g : Finding s words rank mem₀ mem at q p matches) where
+  module _ (h : p ≤ s .section .tokens) where
     here : startsFrom s words p ≡ p ∷ startsFrom s words (p + 1)
     here = starts-here s words p h (g .stands h)
 
@@ -88,7 +88,7 @@ module _ {s : Section} {words : List ℕ} {rank : ℕ} {mem₀ mem : List ℕ} {
     pub find-over : {exit : List ℕ} → matches ≡ maxMatches → Outcome (phraseList s rank words) mem₀ exit at TooLong
     find-over e = refused (built-long (phraseList s rank words) (inl (omega (arith, length-list s rank words, g .count, ap length here)))) refl
 
-    pub find-step : {mem' : List ℕ} {q' p' : ℕ} → Put mem mem' q (foundNumbers rank (length words) p) q' → FirstStart s words (p + 1) (s .tokens + 1) p'
+    pub find-step : {mem' : List ℕ} {q' p' : ℕ} → Put mem mem' q (foundNumbers rank (length words) p) q' → FirstStart s words (p + 1) (s .section .tokens + 1) p'
         → Finding s words rank mem₀ mem' at q' p' (matches + 1)
     find-step v n =
         record {
@@ -100,7 +100,7 @@ module _ {s : Section} {words : List ℕ} {rank : ℕ} {mem₀ mem : List ℕ} {
           stands = λ h. n .stands (omega arith);
         }
 
-  pub find-finish : {exit : List ℕ} → s .tokens < p → matches ≤ maxMatches → exit ≡ sets mem at (matches ∷ matches ∷ [])
+  pub find-finish : {exit : List ℕ} → s .section .tokens < p → matches ≤ maxMatches → exit ≡ sets mem at (matches ∷ matches ∷ [])
       → Outcome (phraseList s rank words) mem₀ exit at (Made matches matches)
   find-finish h m e =
       let none = starts-none s words p h in

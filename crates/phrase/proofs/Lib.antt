@@ -2,3 +2,4 @@ pub mod RowsLaws
 pub mod StartsLaws
 pub mod BlocksLaws
 pub mod FindsLaws
+pub mod KinLaws

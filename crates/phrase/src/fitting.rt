@@ -1,7 +1,6 @@
 // The first start of a phrase by families: each word equals its token or is of its family. Looked for is one of its words, by all words that fit it, its
 // kin; where these aren't told, every position is tried.
 use super::blocks;
-ghost use mathlib.Core.Bool.{true};
 ghost use mathlib.Core.Path.{_≡_};
 ghost use Prim.Native.Nat.{_+_, _≤_, _<_};
 ghost use lib.Dec.{eqb};
@@ -12,7 +11,7 @@ ghost use Rattle.model.specs.Lists.{anyOf};
 ghost use Rattle.model.specs.Rules.{standFrom};
 ghost use Rattle.model.specs.Section.{size, wordAt};
 ghost use Rattle.families.specs.Kin.{KinOf};
-ghost use Rattle.phrase.specs.Starts.{FirstStart, RowWithin, SearchRange};
+ghost use Rattle.phrase.specs.Starts.{FirstStart, FitsAt, RowWithin, SearchRange};
 
 // Is a number among some?
 fn is_among(numbers: &[u32], number: u32) -> bool
@@ -28,19 +27,38 @@ fn is_among(numbers: &[u32], number: u32) -> bool
     false
 }
 
-// Do the words fit in a row from position p on? The word number `known`, if there is one, is known to.
+// Does the word number i fit in the row from position p on? The word number `known` is known to.
+fn word_fits(
+    section: &[u32],
+    families: &[u32],
+    words: &[u32],
+    p: usize,
+    i: usize,
+    known: usize,
+) -> bool
+    requires { ⌜ RowWithin (now section) (now words) p ⌝ }
+    requires { ⌜ AcceptedFamilies (now families) ⌝ }
+    requires { ⌜ i < length (now words) ⌝ }
+    requires { ⌜ FitsAt (now section) (now families) (now words) p known ⌝ }
+    ensures { λ r. ⌜ r ≡ wordFits (now (families .entry)) (wordAt (now (section .entry)) (p + i)) (getD (now (words .entry)) i 0) ⌝ }
+{
+    if i == known {
+        return true;
+    }
+    families::fits(families, section[p + i], words[i])
+}
+
+// Do all words fit in the row? The word number `known`, if there is one, is known to.
 fn row_fits(section: &[u32], families: &[u32], words: &[u32], p: usize, known: usize) -> bool
     requires { ⌜ RowWithin (now section) (now words) p ⌝ }
     requires { ⌜ AcceptedFamilies (now families) ⌝ }
-    requires { ⌜ (known < length (now words) → wordFits (now families) (wordAt (now section) (p + known)) (getD (now words) known 0) ≡ true) ⌝ }
+    requires { ⌜ FitsAt (now section) (now families) (now words) p known ⌝ }
     ensures { λ r. ⌜ r ≡ standFrom (searchedOf (now (section .entry)) (now (families .entry))) (now (words .entry)) p ⌝ }
 {
     let mut i: usize = 0;
     while i < words.len() {
-        if i != known {
-            if !families::fits(families, section[p + i], words[i]) {
-                return false;
-            }
+        if !word_fits(section, families, words, p, i, known) {
+            return false;
         }
         i += 1;
     }

@@ -6,7 +6,7 @@ use Rattle.model.specs.AllMatches.{allMatches}
 use Rattle.model.specs.AllStrings.{AllStrs, AllList, Within, Ranked, RanksUpTo}
 use Rattle.model.specs.Limits.{maxTokens}
 use Rattle.model.specs.Matches.{Str, Match}
-use Rattle.model.specs.Section.{Section}
+use Rattle.model.specs.Families.{Searched}
 use Rattle.model.specs.Trees.{Tree}
 use Rattle.model.proofs.AllStringsLaws.{within-matches, ranked-matches}
 use Rattle.model.specs.Accepted.{maxPhrases}
@@ -32,5 +32,5 @@ module _ (n : ℕ) (short : n ≤ maxTokens) where
       (λ m a b. record { includes = valid-strs _ (a .includes) (b .includes); excludes = valid-strs _ (a .excludes) (b .excludes) })
       ms w r
 
-pub valid-matches : (s : Section) (t : Tree) → s .tokens ≤ maxTokens → RanksUpTo maxPhrases t → AllList ValidStr (allMatches s t)
-valid-matches s t h r = valid-list (s .tokens) h (allMatches s t) (within-matches s maxPhrases t r) (ranked-matches s maxPhrases t r)
+pub valid-matches : (s : Searched) (t : Tree) → s .section .tokens ≤ maxTokens → RanksUpTo maxPhrases t → AllList ValidStr (allMatches s t)
+valid-matches s t h r = valid-list (s .section .tokens) h (allMatches s t) (within-matches s maxPhrases t r) (ranked-matches s maxPhrases t r)

@@ -6,17 +6,17 @@ use borrow.Author.Needs.{needs}
 use mathlib.Core.Path.{_≡_, refl}
 use lib.ListN.{length}
 use Rattle.model.specs.Limits.{maxMatches}
-use Rattle.model.specs.Section.{sectionOf}
+use Rattle.model.specs.Families.{searchedOf}
 use Rattle.phrase.proofs.FindsLaws.{Finding, find-start, find-over, find-step, find-finish}
 use Rattle.phrase.proofs.phrase_list.Statement.{statement}
 use Rattle.phrase.proofs.phrase_list.Tie as tie
 
 abbrev Inv-loop : tie.InvT-loop
-Inv-loop section words rank mem₀ at n q₀ matches₀ p₀ mem q matches p =
-    (matches ≤ maxMatches) × (length mem ≡ length mem₀) × Finding (sectionOf section) words rank mem₀ mem at q p matches
+Inv-loop section families words rank mem₀ at n kin search q₀ matches₀ p₀ mem q matches p =
+    (matches ≤ maxMatches) × (length mem ≡ length mem₀) × Finding (searchedOf section families) words rank mem₀ mem at q p matches
 
 abbrev μ-loop : tie.MeasureT-loop
-μ-loop section words rank mem₀ at n q₀ matches₀ p₀ mem q matches p = n + 1 - p
+μ-loop section families words rank mem₀ at n kin search q₀ matches₀ p₀ mem q matches p = n + 1 - p
 
 shared-slice-read-n : tie.Need-shared-slice-read-n Inv-loop μ-loop
 shared-slice-read-n c = search needs
@@ -24,11 +24,23 @@ shared-slice-read-n c = search needs
 cast-n : tie.Need-cast-n Inv-loop μ-loop
 cast-n c = search needs
 
+slice-aggregate-search-for : tie.Need-slice-aggregate-search-for Inv-loop μ-loop
+slice-aggregate-search-for c = search needs
+
+search-for-requires : tie.Need-search-for-requires Inv-loop μ-loop
+search-for-requires c κs = search needs
+
 add-q : tie.Need-add-q Inv-loop μ-loop
 add-q c = search needs
 
+slice-aggregate-next-start : tie.Need-slice-aggregate-next-start Inv-loop μ-loop
+slice-aggregate-next-start c = search needs
+
 next-start-requires : tie.Need-next-start-requires Inv-loop μ-loop
-next-start-requires c κs = search needs
+next-start-requires c κs =
+    let f = c .before .before in
+    let b = f .before .before .before .before .before .before .before in
+    (b .pre .0, (b .pre .1 .0, (omega arith, f .search-for .ensures)))
 
 loop-holds : tie.Need-loop-holds Inv-loop μ-loop
 loop-holds c = (omega arith, refl, find-start _ _ _ (c .next-start .ensures))
@@ -45,18 +57,26 @@ put-found-requires c κs = search needs
 add-matches : tie.Need-add-matches Inv-loop μ-loop
 add-matches c = search needs
 
+slice-aggregate-next-start-2 : tie.Need-slice-aggregate-next-start-2 Inv-loop μ-loop
+slice-aggregate-next-start-2 c = search needs
+
 add-next-start : tie.Need-add-next-start Inv-loop μ-loop
 add-next-start c = search needs
 
 next-start-requires-2 : tie.Need-next-start-requires-2 Inv-loop μ-loop
-next-start-requires-2 c κs = search needs
+next-start-requires-2 c κs =
+    let i = c .before .before .before .before .before .before in
+    let f = i .before .before .before .before .before in
+    let b = f .before .before .before .before .before .before .before in
+    let h = i .loop-test .taken in
+    (b .pre .0, (b .pre .1 .0, (omega (arith, h), f .search-for .ensures)))
 
 loop-less : tie.Need-loop-less Inv-loop μ-loop
 loop-less c = search needs
 
 loop-again : tie.Need-loop-again Inv-loop μ-loop
 loop-again c =
-    let v = c .before .before .before in
+    let v = c .before .before .before .before in
     let i = v .before .before .before in
     (search needs, search needs, find-step (i .before .loop .inv .2) (i .loop-test .taken) (v .put-found .ensures) (c .next-start2 .ensures))
 
@@ -81,13 +101,17 @@ phrase-list-spec =
     μ-loop
     shared-slice-read-n
     cast-n
+    slice-aggregate-search-for
+    search-for-requires
     add-q
+    slice-aggregate-next-start
     next-start-requires
     loop-holds
     same-length
     returns
     put-found-requires
     add-matches
+    slice-aggregate-next-start-2
     add-next-start
     next-start-requires-2
     loop-less

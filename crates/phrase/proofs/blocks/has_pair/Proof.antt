@@ -6,7 +6,8 @@ use borrow.Author.Tests.{eq-eqb}
 use mathlib.Core.Bool.{false, true≢false}
 use mathlib.Core.Path.{_≡_, sym, _∙_}
 use Rattle.model.proofs.TestsLaws.{both-false, and-join}
-use Rattle.phrase.specs.Blocks.{LacksPair, blockSize}
+use Rattle.slices.specs.Blocks.{blockSize}
+use Rattle.phrase.specs.Blocks.{LacksPair}
 use borrow.Author.Needs.{needs}
 use Rattle.phrase.proofs.blocks.has_pair.Statement.{statement}
 use Rattle.phrase.proofs.blocks.has_pair.Tie as tie

@@ -1,6 +1,6 @@
 -- Invariant: no start lies before p. Measure: the positions left.
 use Prim.Native.Nat.{_-_}
-use Rattle.model.specs.Section.{sectionOf}
+use Rattle.model.specs.Families.{equalWords}
 use Rattle.phrase.specs.Starts.{Skipped}
 use Rattle.phrase.proofs.BlocksLaws.{skip-block}
 use Rattle.phrase.proofs.StartsLaws.{skipped-none}
@@ -9,7 +9,7 @@ use Rattle.phrase.proofs.blocks.skip_without_pair.Statement.{statement}
 use Rattle.phrase.proofs.blocks.skip_without_pair.Tie as tie
 
 abbrev Inv-loop : tie.InvT-loop
-Inv-loop section words from to i j one other p₀ p = Skipped (sectionOf section) words from to p
+Inv-loop section words from to i j one other p₀ p = Skipped (equalWords section) words from to p
 
 abbrev μ-loop : tie.MeasureT-loop
 μ-loop section words from to i j one other p₀ p = to - p

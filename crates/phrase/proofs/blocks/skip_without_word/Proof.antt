@@ -1,6 +1,6 @@
 -- Invariant: no start lies before p. Measure: the positions left. A block without the word is one without the word and itself in one row.
 use Prim.Native.Nat.{_-_}
-use Rattle.model.specs.Section.{sectionOf}
+use Rattle.model.specs.Families.{equalWords}
 use Rattle.phrase.specs.Starts.{Skipped}
 use Rattle.phrase.proofs.BlocksLaws.{skip-block}
 use Rattle.phrase.proofs.StartsLaws.{skipped-none}
@@ -9,7 +9,7 @@ use Rattle.phrase.proofs.blocks.skip_without_word.Statement.{statement}
 use Rattle.phrase.proofs.blocks.skip_without_word.Tie as tie
 
 abbrev Inv-loop : tie.InvT-loop
-Inv-loop section words from to i word p₀ p = Skipped (sectionOf section) words from to p
+Inv-loop section words from to i word p₀ p = Skipped (equalWords section) words from to p
 
 abbrev μ-loop : tie.MeasureT-loop
 μ-loop section words from to i word p₀ p = to - p
@@ -26,11 +26,11 @@ loop-holds c = skipped-none (c .before .before .before .pre .0 .in-order)
 add-loop : tie.Need-add-loop Inv-loop μ-loop
 add-loop c = search needs
 
-add-has-word : tie.Need-add-has-word Inv-loop μ-loop
-add-has-word c = search needs
+add-has-number : tie.Need-add-has-number Inv-loop μ-loop
+add-has-number c = search needs
 
-has-word-requires : tie.Need-has-word-requires Inv-loop μ-loop
-has-word-requires c κs = search needs
+has-number-requires : tie.Need-has-number-requires Inv-loop μ-loop
+has-number-requires c κs = search needs
 
 returns : tie.Need-returns Inv-loop μ-loop
 returns c = c .before .before .before .loop .inv
@@ -45,7 +45,7 @@ loop-again : tie.Need-loop-again Inv-loop μ-loop
 loop-again c =
     let l = c .before .before .before in
     let b = l .before .before .before .before in
-    skip-block (b .pre .0) (l .loop .inv) (c .before .before .loop-test .taken) (b .args .i) (b .args .i) (b .pre .1) (b .pre .1) (λ q h e same. c .before .has-word .ensures (c .if1 .left) q h e)
+    skip-block (b .pre .0) (l .loop .inv) (c .before .before .loop-test .taken) (b .args .i) (b .args .i) (b .pre .1) (b .pre .1) (λ q h e same. c .before .has-number .ensures (c .if1 .left) q h e)
 
 returns-2 : tie.Need-returns-2 Inv-loop μ-loop
 returns-2 c = c .before .loop .inv
@@ -60,8 +60,8 @@ skip-without-word-spec =
     shared-slice-read-word
     loop-holds
     add-loop
-    add-has-word
-    has-word-requires
+    add-has-number
+    has-number-requires
     returns
     add-p
     loop-less

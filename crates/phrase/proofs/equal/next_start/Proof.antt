@@ -4,16 +4,16 @@ use native.Mathlib.Nat.{mod-lt}
 use native.Mathlib.Omega.{arith}
 use mathlib.Core.Path.{sym, _∙_}
 use lib.ListN.{length}
-use Rattle.model.specs.Section.{sectionOf}
+use Rattle.model.specs.Families.{equalWords}
 use Rattle.phrase.specs.Starts.{Skipped}
 use Rattle.phrase.proofs.RowsLaws.{stands-some}
 use Rattle.phrase.proofs.StartsLaws.{skipped-none, skipped-on, first-on, first-missed, first-none}
 use borrow.Author.Needs.{needs}
-use Rattle.phrase.proofs.next_start.Statement.{statement}
-use Rattle.phrase.proofs.next_start.Tie as tie
+use Rattle.phrase.proofs.equal.next_start.Statement.{statement}
+use Rattle.phrase.proofs.equal.next_start.Tie as tie
 
 abbrev Inv-loop : tie.InvT-loop
-Inv-loop section words from k n to p₀ i₀ p i = (i < length words) × Skipped (sectionOf section) words from to p
+Inv-loop section words from k n to p₀ i₀ p i = (i < length words) × Skipped (equalWords section) words from to p
 
 abbrev μ-loop : tie.MeasureT-loop
 μ-loop section words from k n to p₀ i₀ p i = to - p

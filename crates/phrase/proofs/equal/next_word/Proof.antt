@@ -1,8 +1,8 @@
 -- The blocks without the word are skipped, and then its first position is looked for.
 use Rattle.phrase.proofs.StartsLaws.{first-on}
 use borrow.Author.Needs.{needs}
-use Rattle.phrase.proofs.next_word.Statement.{statement}
-use Rattle.phrase.proofs.next_word.Tie as tie
+use Rattle.phrase.proofs.equal.next_word.Statement.{statement}
+use Rattle.phrase.proofs.equal.next_word.Tie as tie
 
 shared-slice-read-to : tie.Need-shared-slice-read-to
 shared-slice-read-to c = search needs

@@ -2,7 +2,7 @@
 use Prim.Native.Nat.{_-_}
 use native.Mathlib.Omega.{arith}
 use mathlib.Core.Path.{sym, _∙_}
-use Rattle.model.specs.Section.{sectionOf}
+use Rattle.model.specs.Families.{equalWords}
 use Rattle.phrase.specs.Starts.{Skipped}
 use Rattle.phrase.proofs.StartsLaws.{skipped-none, skipped-next}
 use borrow.Author.Needs.{needs}
@@ -10,7 +10,7 @@ use Rattle.phrase.proofs.rows.first_start.Statement.{statement}
 use Rattle.phrase.proofs.rows.first_start.Tie as tie
 
 abbrev Inv-loop : tie.InvT-loop
-Inv-loop section words from to i p₀ p = Skipped (sectionOf section) words from to p
+Inv-loop section words from to i p₀ p = Skipped (equalWords section) words from to p
 
 abbrev μ-loop : tie.MeasureT-loop
 μ-loop section words from to i p₀ p = to - p

@@ -1,8 +1,9 @@
 -- Where another word stands in its place, the row doesn't stand (stands-without).
 use mathlib.Core.Path.{sym}
-use Rattle.model.specs.Section.{sectionOf}
+use Rattle.model.specs.Families.{equalWords}
 use Rattle.phrase.proofs.RowsLaws.{stands-without}
 use borrow.Author.Needs.{needs}
+use borrow.Author.Tests.{ne-eqb}
 use Rattle.phrase.proofs.rows.stands_by.Statement.{statement}
 use Rattle.phrase.proofs.rows.stands_by.Tie as tie
 
@@ -25,7 +26,7 @@ returns : tie.Need-returns
 returns c =
     let b = c .before .before .before .before .before in
     let a = b .args in
-    sym (stands-without (sectionOf (a .section .now)) (a .words .now) (a .p) (a .i) (b .pre .1) (b .pre .0 .from-p) (c .if1 .taken))
+    sym (stands-without (equalWords (a .section .now)) (a .words .now) (a .p) (a .i) (b .pre .1) (b .pre .0 .from-p) (ne-eqb _ _ (c .if1 .taken)))
 
 stands-requires : tie.Need-stands-requires
 stands-requires c κs = search needs
