@@ -1,5 +1,6 @@
-/* A panel's calls over document 01's six tokens: the listing of '10 and 20, within a window of 3 words', typed and as codes; a typed search with a
- * mistake; the quick answer to 'not 99', which is read once and kept as codes; and the snippet of the listing's first match.
+/* A panel's calls over document 01's six tokens: the listing of '10 and 20, within a window of 3 words', typed, and again with 20 and 40 in one family,
+ * and as codes; a typed search with a mistake; the quick answer to 'not 99', which is read once and kept as codes; and the snippet of the listing's
+ * first match.
  *
  *   rt staticlib jullpinay
  *   cc -Iinclude examples/panel.c target/staticlib/libjullpinay.a -o target/panel && target/panel
@@ -9,12 +10,16 @@
 
 #include "jullpinay.h"
 
-#define COUNT(array) (sizeof(array) / sizeof((array)[0]))
+/* an array's numbers and their count */
+#define SLICE(array) (array), sizeof(array) / sizeof((array)[0])
 /* a text's bytes and their count, without the 0 that ends it */
 #define TEXT(array) (const uint8_t *)(array), sizeof(array) - 1
 
 /* words 10 20 30 10 40 20; sentences 1 1 1 2 2 2; paragraph 1 */
 static const uint32_t section[] = {6, 10, 20, 30, 10, 40, 20, 65537, 65537, 65537, 65538, 65538, 65538};
+/* no word families; and one of two words, 20 and 40: the size, the words, the number of each one's family */
+static const uint32_t no_families[] = {0};
+static const uint32_t families[] = {2, 20, 40, 1, 1};
 /* 10, 20, and, window 3: kinds, then operands */
 static const uint32_t window[] = {6, 0, 1, 0, 1, 3, 7, 10, 1, 20, 1, 0, 3};
 /* the same, typed; a search that ends too soon; and one to keep */
@@ -54,28 +59,33 @@ int main(void)
 {
     uint32_t listed[4], answered[3], read[2];
 
-    if (jullpinay_typed_listing(section, COUNT(section), TEXT(typed), work, COUNT(work), buffer, COUNT(buffer), listed))
+    if (jullpinay_typed_listing(SLICE(section), SLICE(no_families), TEXT(typed), SLICE(work), SLICE(buffer), listed))
         print_refusal("typed listing", listed);
     else
         print_listing("typed listing", listed);
 
-    if (jullpinay_listing(section, COUNT(section), window, COUNT(window), work, COUNT(work), buffer, COUNT(buffer), listed)) {
+    if (jullpinay_typed_listing(SLICE(section), SLICE(families), TEXT(typed), SLICE(work), SLICE(buffer), listed))
+        print_refusal("typed listing, with a family", listed);
+    else
+        print_listing("typed listing, with a family", listed);
+
+    if (jullpinay_listing(SLICE(section), SLICE(no_families), SLICE(window), SLICE(work), SLICE(buffer), listed)) {
         print_refusal("listing", listed);
         return 1;
     }
     print_listing("listing", listed);
 
-    if (jullpinay_typed_quick(section, COUNT(section), TEXT(mistyped), work, COUNT(work), answered))
+    if (jullpinay_typed_quick(SLICE(section), SLICE(no_families), TEXT(mistyped), SLICE(work), answered))
         print_refusal("typed quick, mistyped", answered);
     else
         print_quick("typed quick, mistyped", answered);
 
-    if (jullpinay_read(TEXT(kept), selection, COUNT(selection), read)) {
+    if (jullpinay_read(TEXT(kept), SLICE(selection), read)) {
         print_refusal("read", read);
         return 1;
     }
     printf("read: %" PRIu32 " codes\n", read[1]);
-    if (jullpinay_quick(section, COUNT(section), selection, 1 + 2 * read[1], work, COUNT(work), answered))
+    if (jullpinay_quick(SLICE(section), SLICE(no_families), selection, 1 + 2 * read[1], SLICE(work), answered))
         print_refusal("quick, of what was read", answered);
     else
         print_quick("quick, of what was read", answered);
@@ -84,7 +94,7 @@ int main(void)
         return 0;
     /* the first string of the listing: its span stands after M, S and the M counts */
     uint32_t from = buffer[2 + listed[1]] >> 16, to = buffer[2 + listed[1]] & 65535;
-    size_t words = jullpinay_snippet(section, COUNT(section), from, to);
+    size_t words = jullpinay_snippet(SLICE(section), from, to);
     printf("snippet of %" PRIu32 " to %" PRIu32 ":", from, to);
     for (size_t i = 0; i < words; i++)
         printf(" %" PRIu32, section[from + i]);

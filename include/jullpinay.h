@@ -1,9 +1,9 @@
 /* The engine's calls. Each has an answer for every slice of every length: a result, or one refusal by number and place; the snippet never refuses.
  *
- * A slice is a pointer and a count of numbers, or of bytes for `text`. `section`, `selection` and `buffer` are laid out as docs/REFERENCE.md says, which
- * has the grammar of a typed search too; `work` may hold anything before the call, and after it. Nothing that a call writes, `answer` included, may
- * overlap anything else that is passed. Every pointer is aligned for its numbers, and none is null, also where its count is 0. Nothing is kept between
- * calls, and nothing else is touched.
+ * A slice is a pointer and a count of numbers, or of bytes for `text`. `section`, `families`, `selection` and `buffer` are laid out as docs/REFERENCE.md
+ * says, which has the grammar of a typed search too; `work` may hold anything before the call, and after it. Nothing that a call writes, `answer`
+ * included, may overlap anything else that is passed. Every pointer is aligned for its numbers, and none is null, also where its count is 0. Nothing is
+ * kept between calls, and nothing else is touched.
  *
  * Link with the archive that `rt staticlib jullpinay` writes, target/staticlib/libjullpinay.a. */
 #ifndef JULLPINAY_H
@@ -19,6 +19,12 @@ extern "C" {
 /* How many numbers `work` and `buffer` have at least. */
 #define JULLPINAY_WORK 12800
 #define JULLPINAY_BUFFER 1282
+
+/* How many numbers `families` has at most. It joins words that count as one another, as 'needle' and 'needles': a size m of at most 2,048, then m word
+ * numbers, rising strictly, then the numbers of their families. A word of a search fits the words that equal it, and, if it is in the table, those that
+ * are there with the same family. The one number 0 is the empty table, which joins nothing. Refusal 13 is a table that is wrong: at place 0 in its size
+ * or its count of numbers, else at the first entry, counted from 1, whose word isn't above the one before it. */
+#define JULLPINAY_FAMILIES 4097
 
 /* How many numbers the selection has at least that jullpinay_read writes, and how many bytes a typed search has at most. */
 #define JULLPINAY_SELECTION 129

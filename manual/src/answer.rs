@@ -59,8 +59,9 @@ impl Finds {
 }
 
 impl<'a> Question<'a> {
-    pub fn new(search: &'a Search<'a>) -> Result<Question<'a>, Explained> {
-        let mut engine = Engine::new();
+    /// A search, to be asked with a family table; or why it is refused.
+    pub fn new(search: &'a Search<'a>, families: Vec<u32>) -> Result<Question<'a>, Explained> {
+        let mut engine = Engine::new(families);
         let selection = engine.read(&search.typed).map_err(|refusal| of_text(refusal, search))?;
         let codes = codes(search, &selection);
         // what is wrong with a search is wrong in every section, the empty one too

@@ -13,6 +13,8 @@ usage:
                                sections that say no
       --json                   the answers for programs
       --quiet, -q              nothing but the exit status
+      --families FAMILIES      words that count as one another, as 'needle' and
+                               'needles'; a file, see below
       --color WHEN             colour instead of [..]: always, never or auto,
                                the default: on a terminal without NO_COLOR
   manual words FILE            each word of the manual with its number
@@ -26,7 +28,16 @@ FILE. Markdown headings begin sections; a heading's words belong to its section,
 as a paragraph, and to no sentence. Blank lines part paragraphs; a sentence ends
 at . ! or ? before a blank or a line's end, so after 'approx.' too. A word is a
 run of letters and digits; large and small letters are alike; there are no
-wildcards, and no other forms of a word are found. The file is UTF-8.
+wildcards, and other forms of a word are found by FAMILIES alone. The file is
+UTF-8.
+
+FAMILIES. A line of this file is a family, its words parted by blanks:
+  needle needles
+  bolt bolts screw screws
+Each word of a search finds all words of its family, so "screw" finds 'bolts',
+also where the manual has no 'screw'. Under 'ftnot' they all exclude. A word is
+of one family, and there are at most 2,048 words in all. Blank lines and lines
+that begin with # are passed over. The file is UTF-8.
 
 SEARCH. It stands in single quotes, so that the shell leaves the double ones.
 Its words are those of XQuery Full Text. A and B are searches:
@@ -79,17 +90,19 @@ examples:
   manual search manual.md '"cam" ftand ftnot "cover" same sentence'
   manual search manual.md '"cam" ftand ftnot "cover" distance at most 4 words'
   manual search --all manual.md '("yarn" ftand "break" ordered) ftor "E12"'
+  manual search --families families.txt manual.md '"screw" ftand "cover"'
   manual search --quiet manual.md '"bolt" not in "bolt head"' && echo found
   manual encode manual.md 41 '"cam"' | od -t u4
 
 exit status: 0 if a section says yes, 1 if none does, 2 if the search or the
-answer of a section is refused, the file can't be read or the command is wrong.
+answer of a section is refused, a file can't be read or is wrong, or the command
+is wrong.
 "#;
 
 #[derive(Debug, PartialEq, Eq)]
 pub enum Command {
     Help,
-    Search { file: PathBuf, search: String, output: Output, color: Color },
+    Search { file: PathBuf, families: Option<PathBuf>, search: String, output: Output, color: Color },
     Words { file: PathBuf },
     Encode { file: PathBuf, section: usize, search: Option<String> },
 }
@@ -112,6 +125,7 @@ pub enum Color {
 /// The options that are given; the last one by name.
 struct Options {
     help: bool,
+    families: Option<PathBuf>,
     output: Option<Output>,
     color: Color,
     last: Option<String>,
@@ -120,7 +134,7 @@ struct Options {
 impl Command {
     /// The command that some arguments give, or what is wrong with them.
     pub fn parse(arguments: impl IntoIterator<Item = OsString>) -> Result<Command, String> {
-        let mut options = Options { help: false, output: None, color: Color::Auto, last: None };
+        let mut options = Options { help: false, families: None, output: None, color: Color::Auto, last: None };
         let mut operands = Vec::new();
         let mut arguments = arguments.into_iter();
         while let Some(argument) = arguments.next() {
@@ -147,6 +161,7 @@ impl Command {
         match (name, operands) {
             ("search", [file, search]) => Ok(Command::Search {
                 file: file.into(),
+                families: options.families.clone(),
                 search: utf8(search)?,
                 output: options.output.unwrap_or(Output::Shown(View::Finds)),
                 color: options.color,
@@ -174,11 +189,22 @@ impl Options {
             ("--all", None) => self.set_output(Output::Shown(View::AllMatches))?,
             ("--json", None) => self.set_output(Output::Json)?,
             ("--quiet" | "-q", None) => self.set_output(Output::Quiet)?,
+            ("--families", _) => self.set_families(value.or_else(|| arguments.next()))?,
             ("--color", _) => self.color = color(value.or_else(|| arguments.next()))?,
             _ => return Err(format!("unknown option '{option}'")),
         }
         self.last = Some(name.to_string());
         Ok(())
+    }
+
+    fn set_families(&mut self, file: Option<OsString>) -> Result<(), String> {
+        let Some(file) = file.filter(|file| !file.is_empty()) else {
+            return Err("--families takes a file".to_string());
+        };
+        match self.families.replace(file.into()) {
+            Some(_) => Err("--families can be given only once".to_string()),
+            None => Ok(()),
+        }
     }
 
     fn set_output(&mut self, output: Output) -> Result<(), String> {

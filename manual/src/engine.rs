@@ -30,6 +30,7 @@ impl Refusal {
     pub const TOO_LONG: u32 = 9;
     pub const GRAMMAR: u32 = 10;
     pub const TOO_LARGE: u32 = 11;
+    pub const FAMILIES: u32 = 13;
 }
 
 impl fmt::Display for Refusal {
@@ -59,16 +60,16 @@ pub struct Match {
     pub excludes: Vec<Str>,
 }
 
-/// The calls, with the memory that they are lent.
+/// The calls, with the family table and the memory that they are lent.
 pub struct Engine {
+    families: Vec<u32>,
     work: Vec<u32>,
     buffer: Vec<u32>,
 }
 
-#[allow(clippy::new_without_default)]
 impl Engine {
-    pub fn new() -> Engine {
-        Engine { work: vec![0; WORK], buffer: vec![0; BUFFER] }
+    pub fn new(families: Vec<u32>) -> Engine {
+        Engine { families, work: vec![0; WORK], buffer: vec![0; BUFFER] }
     }
 
     /// The selection that a typed search stands for.
@@ -92,6 +93,8 @@ impl Engine {
             exported::jullpinay_quick(
                 section.as_ptr(),
                 section.len(),
+                self.families.as_ptr(),
+                self.families.len(),
                 selection.as_ptr(),
                 selection.len(),
                 self.work.as_mut_ptr(),
@@ -111,6 +114,8 @@ impl Engine {
             exported::jullpinay_listing(
                 section.as_ptr(),
                 section.len(),
+                self.families.as_ptr(),
+                self.families.len(),
                 selection.as_ptr(),
                 selection.len(),
                 self.work.as_mut_ptr(),

@@ -32,8 +32,12 @@ pub fn of_text(refusal: Refusal, search: &Search) -> Explained {
     Explained { refusal, what, place }
 }
 
-/// A refusal at one of the search's codes; at an occurs, in a section with so many finds of its phrase.
+/// A refusal at one of the search's codes, or of the family table; at an occurs, in a section with so many finds of its
+/// phrase.
 pub fn of_code(refusal: Refusal, codes: &[Code], finds: Option<usize>) -> Explained {
+    if refusal.number == Refusal::FAMILIES {
+        return Explained { refusal, what: of_families(refusal.place), place: None };
+    }
     let code = refusal.place.checked_sub(1).and_then(|index| codes.get(index));
     let what = match (refusal.number, code.map(|code| code.kind)) {
         (Refusal::OPERAND, Some(Code::WINDOW)) => "a window has 1 to 4,096 words".to_string(),
@@ -56,6 +60,14 @@ pub fn of_code(refusal: Refusal, codes: &[Code], finds: Option<usize>) -> Explai
 fn too_long(finds: Option<usize>) -> String {
     let what = finds.map_or("matches".to_string(), |finds| format!("choices among {finds} finds"));
     format!("too many {what}: over 256, or over 512 finds in them")
+}
+
+/// What is wrong with a family table; its place is one of its words, and none of the search.
+fn of_families(place: usize) -> String {
+    match place {
+        0 => "the family table has over 2,048 words, or another length than its size says".to_string(),
+        _ => format!("the words of the family table don't rise at word {place}"),
+    }
 }
 
 fn unexpected(refusal: Refusal) -> String {

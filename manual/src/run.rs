@@ -3,6 +3,7 @@
 use crate::answer::{Answer, Question};
 use crate::command::{Color, Command, Output, HELP};
 use crate::document::{Manual, Section};
+use crate::families::Families;
 use crate::json;
 use crate::refusal::Explained;
 use crate::search::Search;
@@ -45,9 +46,12 @@ pub fn run(command: &Command, has_colors: bool) -> Printed {
         Command::Encode { file, section, search } => {
             read(file).and_then(|manual| encode(&manual, *section, search.as_deref()))
         }
-        Command::Search { file, search: text, output, color } => {
+        Command::Search { file, families, search: text, output, color } => {
             let in_color = *color == Color::Always || *color == Color::Auto && has_colors;
-            read(file).map(|manual| search(&manual, text, *output, in_color))
+            read(file).and_then(|manual| {
+                let words = words_joined(&manual, families.as_deref())?;
+                Ok(search(&manual, &words, text, *output, in_color))
+            })
         }
     };
     let printed = done.unwrap_or_else(|wrong| Printed::trouble(&wrong));
@@ -60,6 +64,25 @@ pub fn run(command: &Command, has_colors: bool) -> Printed {
 /// The manual in a file.
 fn read(file: &Path) -> Result<Manual, String> {
     let name = file.display();
+    let manual = Manual::new(text(file)?);
+    match (manual.text(), manual.has_words()) {
+        ("", _) => Err(format!("{name} is empty")),
+        (_, false) => Err(format!("{name} has no words")),
+        _ => Ok(manual),
+    }
+}
+
+/// The words of a manual, joined by the families in a file.
+fn words_joined(manual: &Manual, families: Option<&Path>) -> Result<Words, String> {
+    let words = Words::of(manual);
+    let Some(file) = families else { return Ok(words) };
+    let families = Families::read(&text(file)?).map_err(|wrong| format!("{}: {wrong}", file.display()))?;
+    Ok(words.joined_by(families))
+}
+
+/// The text in a file.
+fn text(file: &Path) -> Result<String, String> {
+    let name = file.display();
     let bytes = std::fs::read(file).map_err(|error| {
         let hint = if name.to_string().contains('"') { "; the file stands before the search" } else { "" };
         format!("can't read {name}: {error}{hint}")
@@ -71,12 +94,7 @@ fn read(file: &Path) -> Result<Manual, String> {
     })?;
     // a byte order mark, and signs that would steer the terminal
     let text = text.strip_prefix('\u{FEFF}').unwrap_or(&text);
-    let manual = Manual::new(text.replace(|c: char| c.is_control() && !c.is_whitespace(), "\u{FFFD}"));
-    match (manual.text(), manual.has_words()) {
-        ("", _) => Err(format!("{name} is empty")),
-        (_, false) => Err(format!("{name} has no words")),
-        _ => Ok(manual),
-    }
+    Ok(text.replace(|c: char| c.is_control() && !c.is_whitespace(), "\u{FFFD}"))
 }
 
 fn words(manual: &Manual) -> Printed {
@@ -94,7 +112,7 @@ fn encode(manual: &Manual, number: usize, text: Option<&str>) -> Result<Printed,
     let mut errors = split(manual);
     if let Some(text) = text {
         let search = Search::new(text, &words);
-        let question = Question::new(&search).map_err(|why| refused(&why, text))?;
+        let question = Question::new(&search, words.family_table()).map_err(|why| refused(&why, text))?;
         numbers.extend(question.selection);
         errors += &unknown(&search, &words);
     }
@@ -106,16 +124,15 @@ fn refused(why: &Explained, search: &str) -> String {
     format!("the search is refused: {}", explained(why, search))
 }
 
-fn search(manual: &Manual, text: &str, output: Output, in_color: bool) -> Printed {
-    let words = Words::of(manual);
-    let search = Search::new(text, &words);
-    let mut question = match (Question::new(&search), output) {
+fn search(manual: &Manual, words: &Words, text: &str, output: Output, in_color: bool) -> Printed {
+    let search = Search::new(text, words);
+    let mut question = match (Question::new(&search, words.family_table()), output) {
         (Ok(question), _) => question,
         (Err(why), Output::Json) => return Printed { status: TROUBLE, ..Printed::output(json::refused(text, &why)) },
         (Err(why), _) => return Printed::trouble(&refused(&why, text)),
     };
     let all = output == Output::Shown(View::AllMatches);
-    let ask = |section| question.ask(&manual.numbers(section, &words), all);
+    let ask = |section| question.ask(&manual.numbers(section, words), all);
     let answers: Vec<Answer> = manual.sections.iter().map(ask).collect();
     let printed = match output {
         Output::Quiet => Printed::default(),
@@ -123,7 +140,7 @@ fn search(manual: &Manual, text: &str, output: Output, in_color: bool) -> Printe
         Output::Shown(view) => {
             let marks = if in_color { COLORS } else { BRACKETS };
             let page = Page { manual, search: text, marks, view };
-            let errors = split(manual) + &unknown(&search, &words);
+            let errors = split(manual) + &unknown(&search, words);
             Printed { errors, ..Printed::output(page.answers(&answers)) }
         }
     };
@@ -140,7 +157,7 @@ fn status(answers: &[Answer]) -> u8 {
     }
 }
 
-/// Which words of a search the manual does not have.
+/// Which words of a search the manual does not have, nor another one of their families.
 fn unknown(search: &Search, words: &Words) -> String {
     let note = |word: &&str| {
         let near = words.near(word).map_or(String::new(), |near| format!("; is it '{near}'?"));

@@ -1,7 +1,7 @@
 //! A search as a mechanic types it, with words, and as the engine reads it, with numbers.
 
 use crate::tokens::tokens;
-use crate::words::{Words, UNKNOWN};
+use crate::words::Words;
 use std::ops::Range;
 
 pub struct Search<'a> {
@@ -10,7 +10,7 @@ pub struct Search<'a> {
     pub typed: Vec<u8>,
     /// For each byte of it the bytes of `text` that it stands for.
     origins: Vec<Range<usize>>,
-    /// The words that the manual does not have.
+    /// The words that the manual does not have, nor another one of their families.
     pub unknown: Vec<&'a str>,
 }
 
@@ -51,14 +51,13 @@ impl<'a> Search<'a> {
         for token in tokens(&self.text[bytes.clone()]) {
             let origin = bytes.start + token.start..bytes.start + token.end;
             let word = &self.text[origin.clone()];
-            let number = words.number(word);
-            if number == UNKNOWN && !self.unknown.contains(&word) {
+            if !words.has(word) && !self.unknown.contains(&word) {
                 self.unknown.push(word);
             }
             if self.typed.last() != Some(&b'"') {
                 self.push(b" ", origin.start..origin.start);
             }
-            self.push(number.to_string().as_bytes(), origin);
+            self.push(words.number(word).to_string().as_bytes(), origin);
         }
     }
 

@@ -1479,8 +1479,9 @@ fn help() -> String {
 #[test]
 fn help_names_every_command_option_and_filter() {
     let help = help();
-    for name in ["search FILE SEARCH", "words FILE", "encode FILE N", "--all", "--json", "--quiet", "--color", "--help"]
-    {
+    let commands = ["search FILE SEARCH", "words FILE", "encode FILE N", "--help"];
+    let options = ["--all", "--json", "--quiet", "--families FAMILIES", "--color"];
+    for name in commands.iter().chain(&options) {
         assert!(help.contains(name), "{name}\n{help}");
     }
     let operators = ["ftor", "ftand", "not in", "ftnot"];
@@ -1518,7 +1519,7 @@ fn the_searches_of_the_help_text_are_read() {
         assert!(ran.status < 2 && !ran.err.contains("refused"), "{example}\n{ran:?}");
         // the whole line, as a shell runs it
         let quoted = |path: &str| format!("'{path}'");
-        let command = example.replace("manual.md", &quoted(EXAMPLE));
+        let command = example.replace("manual.md", &quoted(EXAMPLE)).replace("families.txt", "examples/families.txt");
         let command = command.replacen("manual", &quoted(env!("CARGO_BIN_EXE_manual")), 1);
         let root = concat!(env!("CARGO_MANIFEST_DIR"), "/..");
         let output = Command::new("bash").args(["-c", &command]).current_dir(root).output().unwrap();

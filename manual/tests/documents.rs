@@ -47,5 +47,5 @@ fn the_projects_readme_shows_what_is_printed() {
 
 #[test]
 fn the_tools_readme_shows_what_is_printed() {
-    holds("README.md", 9);
+    holds("README.md", 11);
 }

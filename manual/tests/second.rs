@@ -1,11 +1,12 @@
 //! The tool's answers to searches of the example manual, held against those of the second engine.
 //!
 //! The second engine is asked in other numbers. The manual and the search are made into numbers here anew, by the rules
-//! and by none of the tool's own functions, and words are numbered as they first appear.
+//! and by none of the tool's own functions, and words are numbered as they first appear. So are the families.
 
 use manual::command::{Color, Command, Output};
 use manual::run::{run, NO, TROUBLE, YES};
 use second_engine::engine::SecondEngine;
+use second_engine::families::{self, Searched};
 use second_engine::gen::Rng;
 use second_engine::json::{self, Json};
 use second_engine::selection::{self, Occurs, Rule, Tree};
@@ -13,8 +14,11 @@ use second_engine::typed::{self, Pair, Reader};
 use second_engine::typed_gen::typed_case;
 use second_engine::{rules, section, Match, Quick, Refusal, Str, BUFFER, WORK};
 use std::collections::{BTreeMap, BTreeSet, HashMap};
+use std::ops::RangeInclusive;
+use std::path::{Path, PathBuf};
 
 const FILE: &str = concat!(env!("CARGO_MANIFEST_DIR"), "/../examples/manual.md");
+const FAMILIES: &str = concat!(env!("CARGO_MANIFEST_DIR"), "/../examples/families.txt");
 
 // The manual, read anew
 
@@ -38,15 +42,18 @@ struct Section {
     paragraph_ended: bool,
 }
 
-/// The example manual, and its words by the order in which they first appear, and by that of their bytes.
+/// The example manual, and its words by the order in which they first appear, and by that of their bytes. After them
+/// come those of families that it does not have.
 #[derive(Default)]
 struct Book {
     sections: Vec<Section>,
     numbers: HashMap<String, u32>,
     sorted: Vec<String>,
+    /// The family table of these numbers.
+    families: Vec<u32>,
 }
 
-/// The number of a word that the manual does not have.
+/// The number of a word that neither the manual nor a family has.
 const NOWHERE: u32 = 4_000_000_000;
 
 fn words(text: &str) -> impl Iterator<Item = &str> {
@@ -118,16 +125,36 @@ impl Book {
         assert!(book.sections.iter().all(|section| section.words.len() <= 4_096));
         book.sorted = book.numbers.keys().cloned().collect();
         book.sorted.sort();
+        book.families = families::EMPTY.to_vec();
         book
+    }
+
+    /// Joins words, by a family in each line that is no comment. A family has the number of its last word.
+    fn join(&mut self, families: &str) {
+        let mut joined = BTreeMap::new();
+        let mut others = BTreeSet::new();
+        for line in families.lines().filter(|line| !line.starts_with('#')) {
+            let family: Vec<String> = line.split(' ').filter(|word| !word.is_empty()).map(str::to_lowercase).collect();
+            others.extend(family.iter().filter(|word| !self.sorted.contains(word)).cloned());
+            for word in &family {
+                let next = self.numbers.len() as u32 + 1;
+                self.numbers.entry(word.clone()).or_insert(next);
+            }
+            joined.extend(family.iter().map(|word| (self.number(word), self.number(&family[family.len() - 1]))));
+        }
+        self.sorted.extend(others);
+        self.families = families::Families(joined).numbers();
     }
 
     fn number(&self, word: &str) -> u32 {
         self.numbers.get(&word.to_lowercase()).copied().unwrap_or(NOWHERE)
     }
 
-    /// The bytes of a search in the tool's numbers, by which words count from 1 in the order of their bytes.
+    /// The bytes of a search in the tool's numbers, by which words count from 1 in the order of their bytes, and after
+    /// those of the manual the other ones of families.
     fn bytes(&self, search: &str) -> usize {
-        let rank = |word: &str| self.sorted.binary_search(&word.to_lowercase()).map_or(0, |index| index + 1);
+        let rank =
+            |word: &str| self.sorted.iter().position(|other| *other == word.to_lowercase()).map_or(0, |at| at + 1);
         let pieces = search.split('"').enumerate().map(|(index, piece)| match index % 2 {
             0 => piece.len(),
             _ => words(piece).map(|word| rank(word).to_string()).collect::<Vec<_>>().join(" ").len(),
@@ -228,19 +255,20 @@ struct Excluded {
     finds: Vec<Str>,
 }
 
-/// What the second engine answers for a section.
-fn expected(search: &str, numbers: &[u32], selection: &[u32], tree: &Tree) -> Answer {
+/// What the second engine answers for a section, with a family table.
+fn expected(search: &str, numbers: &[u32], families: &[u32], selection: &[u32], tree: &Tree) -> Answer {
     let second = SecondEngine::new();
-    match second.quick(numbers, selection, WORK) {
+    match second.quick(numbers, families, selection, WORK) {
         Quick::Refused { number, place } => Answer::Refused(Refusal { number, place }.into()),
         Quick::Answered { yes: false, .. } => Answer::No,
-        Quick::Answered { yes: true, .. } => match second.list(numbers, selection, WORK, BUFFER) {
+        Quick::Answered { yes: true, .. } => match second.list(numbers, families, selection, WORK, BUFFER) {
             Err(refusal) => Answer::Unlisted(refusal.into()),
             Ok(matches) => {
                 let deciding = matches.iter().position(|found| found.excludes.is_empty()).expect("it says yes");
-                let section = section::read(numbers).unwrap();
-                let mut seen =
-                    NotExcluded { search, section: &section, includes: &matches[deciding].includes, list: vec![] };
+                let (section, families) = (section::read(numbers).unwrap(), families::read(families).unwrap());
+                let searched = Searched { section, families };
+                let includes = &matches[deciding].includes;
+                let mut seen = NotExcluded { search, searched: &searched, includes, list: vec![] };
                 seen.look(tree, false, u32::MAX);
                 let not_excluded = seen.list;
                 Answer::Yes(Listed { matches, deciding: deciding + 1, not_excluded })
@@ -252,7 +280,7 @@ fn expected(search: &str, numbers: &[u32], selection: &[u32], tree: &Tree) -> An
 /// The phrases that might exclude a match with these includes.
 struct NotExcluded<'a> {
     search: &'a str,
-    section: &'a section::Section,
+    searched: &'a Searched,
     includes: &'a [Str],
     list: Vec<Excluded>,
 }
@@ -262,7 +290,7 @@ impl NotExcluded<'_> {
     /// allows, with those that aren't included, if there are any.
     fn look(&mut self, tree: &Tree, odd: bool, most: u32) {
         if let Rule::Phrase { words, query } = &tree.rule {
-            let finds = rules::phrase(self.section, words, *query);
+            let finds = rules::phrase(self.searched, words, *query);
             let mut finds: Vec<Str> = finds.into_iter().map(|found| found.includes[0]).collect();
             let too_many = finds.len() > most as usize;
             if too_many {
@@ -290,10 +318,10 @@ fn phrase_typed(search: &str, query: u32) -> String {
     format!("\"{phrase}\"{occurs}")
 }
 
-/// The JSON that the tool prints for a search, and its exit status.
-fn told(search: &str) -> (Json, u8) {
-    let (file, search) = (FILE.into(), search.to_string());
-    let printed = run(&Command::Search { file, search, output: Output::Json, color: Color::Never }, false);
+/// The JSON that the tool prints for a search, with the families of a file, and its exit status.
+fn told(search: &str, families: Option<&Path>) -> (Json, u8) {
+    let (file, families, search) = (FILE.into(), families.map(Path::to_path_buf), search.to_string());
+    let printed = run(&Command::Search { file, families, search, output: Output::Json, color: Color::Never }, false);
     let text = String::from_utf8(printed.output).unwrap();
     (json::read(&unescaped(&text)).unwrap(), printed.status)
 }
@@ -451,6 +479,8 @@ struct Seen {
     found_headings: usize,
     /// Searches to which some sections say yes and some no.
     mixed: usize,
+    /// Sections that would answer otherwise without families.
+    joined: usize,
 }
 
 impl Seen {
@@ -494,6 +524,8 @@ type Read = Result<(Vec<u32>, Tree), Refused>;
 
 struct Comparison {
     book: Book,
+    /// The file of its families.
+    families: Option<PathBuf>,
     /// All sections in numbers.
     sections: Vec<Vec<u32>>,
     /// The second engine's reader, for texts of any length: they are longer or shorter in other numbers.
@@ -506,7 +538,15 @@ impl Comparison {
         let book = Book::example();
         let sections = book.sections.iter().map(Section::numbers).collect();
         let reader = Reader { most_bytes: usize::MAX, ..Reader::paper() };
-        Comparison { book, sections, reader, seen: Seen::default() }
+        Comparison { book, families: None, sections, reader, seen: Seen::default() }
+    }
+
+    /// With the families of a file.
+    fn with_families(file: PathBuf) -> Comparison {
+        let mut comparison = Comparison::new();
+        comparison.book.join(&std::fs::read_to_string(&file).unwrap());
+        comparison.families = Some(file);
+        comparison
     }
 
     /// The codes of a search, if it has some, and what they are read to.
@@ -524,7 +564,7 @@ impl Comparison {
     /// The tool's answers to a search are the second engine's.
     fn check(&mut self, search: &str, name: &str) {
         let _named = Named(name);
-        let (told, status) = told(search);
+        let (told, status) = told(search, self.families.as_deref());
         assert_eq!(told.get("search").text(), search);
         let (codes, read) = self.read(search);
         let asked = Asked { book: &self.book, search, codes: &codes };
@@ -537,7 +577,11 @@ impl Comparison {
                 let answers = asked.answers(&told);
                 assert_eq!(status, expected_status(&answers));
                 for (index, (section, answer)) in self.sections.iter().zip(&answers).enumerate() {
-                    assert_eq!(*answer, expected(search, section, &selection, &tree), "section {}", index + 1);
+                    let families = &self.book.families;
+                    let wanted = expected(search, section, families, &selection, &tree);
+                    assert_eq!(*answer, wanted, "section {}", index + 1);
+                    let alone = || expected(search, section, &families::EMPTY, &selection, &tree);
+                    self.seen.joined += usize::from(self.families.is_some() && wanted != alone());
                     self.seen.see(answer, &self.book.sections[index], &codes);
                 }
                 self.seen.kinds.extend(codes.iter().map(|(kind, _)| kind));
@@ -798,11 +842,10 @@ fn any_word(word: &str, rng: &mut Rng) -> String {
     }
 }
 
-#[test]
-fn random_searches_are_answered_as_by_the_second_engine() {
-    let mut comparison = Comparison::new();
-    for seed in 1..=4 {
-        for index in 0..1_000 {
+/// Compares the tool with the second engine by so many random searches of each seed.
+fn search_at_random(comparison: &mut Comparison, seeds: RangeInclusive<u64>, count: usize) {
+    for seed in seeds {
+        for index in 0..count {
             let mut rng = Rng::new(!seed, index as u64);
             let section = &comparison.book.sections[rng.below(comparison.book.sections.len())];
             let text = typed_case(seed, index).text;
@@ -810,6 +853,12 @@ fn random_searches_are_answered_as_by_the_second_engine() {
             comparison.check(&search, &format!("{index} of seed {seed}: {search}"));
         }
     }
+}
+
+#[test]
+fn random_searches_are_answered_as_by_the_second_engine() {
+    let mut comparison = Comparison::new();
+    search_at_random(&mut comparison, 1..=4, 1_000);
     let seen = &comparison.seen;
     println!("{seen:?}");
     assert!(seen.kinds.iter().copied().eq(0..18), "{seen:?}");
@@ -819,4 +868,73 @@ fn random_searches_are_answered_as_by_the_second_engine() {
     assert!(seen.found > 13_000 && seen.later > 250 && seen.passed > 2_000, "{seen:?}");
     assert!(seen.occurs > 400 && seen.passed_occurs > 150, "{seen:?}");
     assert!(seen.found_headings > 2_000 && seen.passed_headings > 100, "{seen:?}");
+}
+
+// Families
+
+/// Searches for words of the example families, of which the manual has no 'screw'.
+const JOINED: &[&str] = &[
+    r#""needle""#,
+    r#""screw" ftor "SCREWS""#,
+    r#""bent needle""#,
+    r#""broken needle butt" ftor "worn cam""#,
+    r#""bent" ftand "hook" distance at most 1 words"#,
+    r#""screw" ftand "cover" same sentence"#,
+    r#""screw" ftand ftnot "covers""#,
+    r#""screw" ftand ftnot "cam" same sentence"#,
+    r#"ftnot ("screw" ftor "needles")"#,
+    r#""stop" ftand ftnot "sensors" same sentence ordered"#,
+    r#""needle" not in "needle bed""#,
+    r#""bed" not in ("needles bed" ftor "back bed")"#,
+    r#""screw" occurs at least 2 times"#,
+    r#""screw" occurs exactly 2 times same paragraph"#,
+    r#""cam" occurs at least 3 times"#,
+    r#"ftnot "guards" occurs at least 3 times ftand "guard""#,
+    r#""worn" ftand "edge" window 12 words"#,
+    r#""fault" at start"#,
+    r#""covers and guard" ftand "screw" different sentence"#,
+    r#""covers and guard" ftand "screw" different paragraph"#,
+    r#""knit" ftand "xyzzy" ftor ftnot "spring""#,
+    r#""needle" ftand "needles" ftand "needle""#,
+];
+
+#[test]
+fn families_are_found_as_by_the_second_engine() {
+    let mut comparison = Comparison::with_families(FAMILIES.into());
+    for search in JOINED.iter().chain(ANSWERED) {
+        comparison.check(search, search);
+    }
+    let seen = &comparison.seen;
+    println!("{seen:?}");
+    assert_eq!(seen.answered, JOINED.len() + ANSWERED.len());
+    assert!(seen.joined > 400 && seen.yes > 1_200 && seen.no > 3_500 && seen.unlisted > 40, "{seen:?}");
+}
+
+/// Families of the manual's words, each third one in some family, now and then with words that it does not have.
+fn random_families(book: &Book, rng: &mut Rng) -> String {
+    let mut families = vec![vec![]; 40];
+    for word in &book.sorted {
+        let written = if rng.chance(1, 5) { word.to_uppercase() } else { word.clone() };
+        if rng.chance(1, 3) {
+            families[rng.below(40)].push(written);
+        }
+    }
+    families[rng.below(40)].push("xyzzy".to_string());
+    families[rng.below(40)].push("aardvark".to_string());
+    families.into_iter().map(|words| words.join(" ") + "\n").collect()
+}
+
+#[test]
+fn random_families_are_found_as_by_the_second_engine() {
+    let mut joined = 0;
+    for seed in 5..=8 {
+        let families = random_families(&Book::example(), &mut Rng::new(seed, 0));
+        let file = Path::new(env!("CARGO_TARGET_TMPDIR")).join(format!("random-{seed}.txt"));
+        std::fs::write(&file, families).unwrap();
+        let mut comparison = Comparison::with_families(file);
+        search_at_random(&mut comparison, seed..=seed, 250);
+        println!("{:?}", comparison.seen);
+        joined += comparison.seen.joined;
+    }
+    assert!(joined > 2_000, "{joined}");
 }

@@ -746,7 +746,7 @@ fn tokens_stand_with_what_they_are_in_the_search() {
 fn codes_of(text: &str) -> Vec<Code> {
     let words = Words::of(&manual("a b c d e f g h"));
     let search = Search::new(text, &words);
-    codes(&search, &Engine::new().read(&search.typed).unwrap())
+    codes(&search, &Engine::new(vec![0]).read(&search.typed).unwrap())
 }
 
 /// Each search has these codes, in their order: the kind, the byte at which it stands, and its text.
