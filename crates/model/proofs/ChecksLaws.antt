@@ -20,7 +20,7 @@ use Rattle.model.specs.Kinds.{Shape, aWord, aPhrase, aPair, aChange, sha
 use Rattle.model.specs.Trees.{Tree, phrase, pair, change, placeOf, topTree, treeOf, parts}
 use Rattle.model.specs.Parts.{isNotCode, hasWords, postfix, renumbered, wellFormed, PartAt, codesOfTrees, phrasesAll}
 use Rattle.model.specs.Checks.{refusal, otherwise, Check, tried, wrongSection, breaksOrder, lastNonzero, fallsBelow, faultyAt, faultyPosition, sectionRefusal, wrongFamilies, outOfOrder, entryOutOfOrder, familiesRefusal, wrongSelection, unknownKind}
-use Rattle.model.specs.Checks.{operandFits, wrongOperand, wrongShape, occursOverOther, notOverPhrase, isNot, hasNot, mildOverNot, notUnderMildNot, selectionRefusal}
+use Rattle.model.specs.Checks.{operandFits, wrongOperand, wrongShape, occursOverOther, notOverPhrase, isNot, hasNot, mildOverNot, notUnderMildNot, selectionRefusal, inputRefusal}
 use Rattle.model.specs.Accepted.{NonzeroNeverFall, LastNonzeroBefore, ReportedOrNot, AcceptedSection, RisingStrictly, AcceptedFamilies, maxPhrases, AcceptedSelection}
 use Rattle.model.proofs.ListsLaws.{any-append, first-range-none, range-first-none}
 use Rattle.model.proofs.SectionLaws.{WellSized, well-sized}
@@ -353,3 +353,14 @@ accepted-selection sel h =
 unfoldable pub accepted-part : (sel : List ℕ) → AcceptedSelection sel → PartAt (shapeAt sel) (size sel)
 unfolding codesOfTrees shapesOf phrasesAll
 accepted-part sel a = record { tree = treeOf sel; below = []; spells = sym (a .spelt); numbered = a .numbered }
+
+-- ---- inputRefusal
+
+-- where nothing refuses the inputs, nothing refuses the section, the table or the selection
+pub input-none : (section families selection : List ℕ) → inputRefusal section families selection ≡ none
+    → (sectionRefusal section ≡ none) × (familiesRefusal families ≡ none) × (selectionRefusal selection ≡ none)
+unfolding inputRefusal
+input-none section families selection h =
+    let first = otherwise-none (sectionRefusal section) (otherwise (familiesRefusal families) (selectionRefusal selection)) h in
+    let later = otherwise-none (familiesRefusal families) (selectionRefusal selection) (first .1) in
+    (first .0, later .0, later .1)

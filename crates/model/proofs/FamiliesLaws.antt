@@ -3,12 +3,12 @@ use Prim.Native.Nat.{ℕ, _+_, _-_, _≤_, _<_}
 use native.Mathlib.Omega.{arith}
 use mathlib.Core.Path.{_≡_, refl, sym, ap, _∙_, fun-ext}
 use mathlib.Core.Bool.{Bool, false, _||_, or-false}
-use mathlib.Core.List.{List, [], _∷_}
+use mathlib.Core.List.{List}
 use mathlib.Core.Option.{Option, some, none, orElse}
 use lib.Dec.{eqb}
 use borrow.Author.Tests.{eqb-true, eq-eqb, ne-eqb}
 use Rattle.model.specs.Accepted.{RisingStrictly}
-use Rattle.model.specs.Families.{entryOf, familyOf, sameFamily, wordFits, searchedOf, equalWords}
+use Rattle.model.specs.Families.{emptyTable, entryOf, familyOf, sameFamily, wordFits, searchedOf, equalWords}
 use Rattle.model.specs.Lists.{first, upFrom, fromTo}
 use Rattle.model.specs.Section.{size, firstAt, secondAt}
 use Rattle.model.proofs.ListsLaws.{range-append, first-append, first-range-here, range-first-none, first-range-some}
@@ -76,8 +76,8 @@ module _ (families : List ℕ) (token word : ℕ) where
 
 -- ---- the empty table
 
-pub fits-empty : (token word : ℕ) → wordFits (0 ∷ []) token word ≡ eqb token word
-fits-empty token word = fits-out (0 ∷ []) token word (entry-none (0 ∷ []) word (λ i a b. absurd (omega arith)))
+pub fits-empty : (token word : ℕ) → wordFits emptyTable token word ≡ eqb token word
+fits-empty token word = fits-out emptyTable token word (entry-none emptyTable word (λ i a b. absurd (omega arith)))
 
-pub searched-empty : (section : List ℕ) → searchedOf section (0 ∷ []) ≡ equalWords section
+pub searched-empty : (section : List ℕ) → searchedOf section emptyTable ≡ equalWords section
 searched-empty section = ap (λ (f : ℕ → ℕ → Bool). record { section = equalWords section .section; fits = f }) (fun-ext (λ token. fun-ext (λ word. fits-empty token word)))

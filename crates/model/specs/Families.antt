@@ -2,11 +2,15 @@
 -- their family numbers."
 use Prim.Native.Nat.{ℕ}
 use mathlib.Core.Bool.{Bool, false, _||_}
-use mathlib.Core.List.{List}
+use mathlib.Core.List.{List, [], _∷_}
 use mathlib.Core.Option.{Option, some, none, Option·map}
 use lib.Dec.{eqb}
 use Rattle.model.specs.Lists.{first, fromTo}
 use Rattle.model.specs.Section.{Section, size, firstAt, secondAt, sectionOf}
+
+-- "An empty table": the one number 0
+abbrev pub emptyTable : List ℕ
+emptyTable = 0 ∷ []
 
 -- the entry that has a word, counted from 1, and the family there
 unfoldable pub entryOf : List ℕ → ℕ → Option ℕ

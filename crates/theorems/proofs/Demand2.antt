@@ -19,11 +19,11 @@ use Rattle.model.specs.Section.{size}
 use Rattle.model.specs.Trees.{treeOf}
 use Rattle.model.proofs.AllStringsLaws.{within-matches}
 use Rattle.model.proofs.AnswersLaws.{listingRefusal-none, complete-fits, listingAnswer-listed, length-listingNumbers, listingBuffer-listed}
-use Rattle.model.proofs.ChecksLaws.{faultyPosition-none, entryOutOfOrder-none, accepted-section, accepted-selection}
+use Rattle.model.proofs.ChecksLaws.{faultyPosition-none, entryOutOfOrder-none, accepted-section, accepted-selection, input-none}
 use Rattle.model.proofs.EveryLaws.{every-weaker}
 use Rattle.theorems.specs.Demands.{ListingGiven, ListingRefuses, listingTable, EndsBelowRadix, Demand2}
 use Rattle.theorems.proofs.NumbersLaws.{same-list}
-use Rattle.theorems.proofs.TableLaws.{firstFall, firstFall-none, firstFall-some, input-none, listing-table}
+use Rattle.theorems.proofs.TableLaws.{firstFall, firstFall-none, firstFall-some, listing-table}
 use Rattle.theorems.proofs.WordsLaws.{yes-exists}
 
 -- ---- what an answer tells of the table

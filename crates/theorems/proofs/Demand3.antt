@@ -20,11 +20,11 @@ use Rattle.model.specs.Trees.{Tree, treeOf}
 use Rattle.model.specs.Walk.{firstTooLong, unlessTooLong, walk, ownCount}
 use Rattle.model.specs.Walked.{walkBuilds, walkReaches}
 use Rattle.model.proofs.AnswersLaws.{quickAnswer-is, quickAnswer-answered, listingRefusal-none, listingAnswer-listed}
-use Rattle.model.proofs.ChecksLaws.{accepted-selection}
+use Rattle.model.proofs.ChecksLaws.{accepted-selection, input-none}
 use Rattle.model.proofs.PartsLaws.{parts-own}
 use Rattle.model.proofs.WalkLaws.{unlessTooLong-refused, unlessTooLong-nine, unlessTooLong-answered, unlessTooLong-either, walkBuilds-fit, length-walkReaches}
 use Rattle.theorems.specs.Demands.{Has, QuickSays, QuickGiven, QuickRefuses, RefusesForSize, quickTable, PassChecks, Enough, PastLimits, Demand3}
-use Rattle.theorems.proofs.TableLaws.{firstFall, firstFall-none, firstFall-some, input-none, pass-none, quick-table}
+use Rattle.theorems.proofs.TableLaws.{firstFall, firstFall-none, firstFall-some, pass-none, quick-table}
 use Rattle.theorems.proofs.WordsLaws.{yes-exists, no-exists, tooLong-exactly, tooLong-exists}
 
 -- ---- what an answer tells of the table

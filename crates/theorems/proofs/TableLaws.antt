@@ -148,15 +148,6 @@ module _ (section families selection : List ℕ) where
       two-ahead one two (otherwise (familiesRefusal families) (selectionRefusal selection))
       ∙ ap (λ (o : Option Refusal). otherwise one (otherwise two o)) (two-ahead sized ordered (selectionRefusal selection))
 
-  -- section, table and selection pass each on its own
-  pub input-none : inputRefusal section families selection ≡ none
-      → (sectionRefusal section ≡ none) × (familiesRefusal families ≡ none) × (selectionRefusal selection ≡ none)
-  unfolding inputRefusal
-  input-none e =
-      let first = otherwise-none (sectionRefusal section) (otherwise (familiesRefusal families) (selectionRefusal selection)) e in
-      let rest = otherwise-none (familiesRefusal families) (selectionRefusal selection) (first .1) in
-      (first .0, rest .0, rest .1)
-
   pub pass-none : PassChecks section families selection → inputRefusal section families selection ≡ none
   pass-none n = input-rows ∙ fall-none (inputRows section families selection) n
 

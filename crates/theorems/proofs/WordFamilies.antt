@@ -18,7 +18,7 @@ use Rattle.model.specs.AllMatches.{allMatches}
 use Rattle.model.specs.Answers.{answerUnless, listingRefusal, listingAnswer, listingNumbers, bufferUnless, listingBuffer, walkUnless, quickAnswer}
 use Rattle.model.specs.Checks.{refusal, otherwise, tried, wrongFamilies, outOfOrder, entryOutOfOrder, sectionRefusal, familiesRefusal, selectionRefusal, roomRefusal}
 use Rattle.model.specs.Checks.{inputRefusal, listingChecks, quickChecks}
-use Rattle.model.specs.Families.{entryOf, familyOf, sameFamily, wordFits, Searched, searchedOf, equalWords}
+use Rattle.model.specs.Families.{emptyTable, entryOf, familyOf, sameFamily, wordFits, Searched, searchedOf, equalWords}
 use Rattle.model.specs.Limits.{maxFamilies, workLength, bufferLength}
 use Rattle.model.specs.Lists.{Every, keep, first, upFrom, fromTo}
 use Rattle.model.specs.Matches.{Match}
@@ -31,7 +31,7 @@ use Rattle.model.proofs.FamiliesLaws.{entry-some, entry-at, searched-empty}
 use Rattle.model.proofs.ListsLaws.{range-cons, range-append}
 use Rattle.model.proofs.TestsLaws.{false-true, both-true, and-join}
 use Rattle.theorems.specs.Demands.{Has, FirstWith}
-use Rattle.theorems.specs.Requests.{EntryHas, SameFamilyInTable, Fits, PhraseFitsFrom, OutOfOrder, TableOf, checksBefore, listingRefusalBefore, emptyTable, EmptyTableOf, WordFamilies}
+use Rattle.theorems.specs.Requests.{EntryHas, SameFamilyInTable, Fits, PhraseFitsFrom, OutOfOrder, TableOf, checksBefore, listingRefusalBefore, EmptyTableOf, WordFamilies}
 use Rattle.theorems.proofs.WordsLaws.{or-exactly, every-has, has-map, has-range, has-keep, first-exactly}
 
 -- ---- refusal 13

@@ -27,7 +27,7 @@ use Rattle.model.specs.AllStrings.{AllList}
 use Rattle.model.specs.Answers.{answerUnless, listingAnswer, spanOf, listingNumbers, bufferUnless, listingBuffer, walkUnless, quickAnswer}
 use Rattle.model.specs.Checks.{refusal, otherwise, breaksOrder, faultyPosition, wrongFamilies, entryOutOfOrder, wrongSelection}
 use Rattle.model.specs.Checks.{sectionRefusal, selectionRefusal, roomRefusal}
-use Rattle.model.specs.Families.{wordFits, Searched, searchedOf, equalWords}
+use Rattle.model.specs.Families.{emptyTable, wordFits, Searched, searchedOf, equalWords}
 use Rattle.model.specs.Kinds.{negated, filtered, occurring}
 use Rattle.model.specs.Limits.{maxFamilies, maxCodes, maxText, workLength, bufferLength, radix, selectionLength}
 use Rattle.model.specs.Lists.{Every, isEmpty, first, fromTo}
@@ -336,10 +336,6 @@ bufferBefore section selection work buffer =
 
 abbrev pub quickBefore : List ℕ → List ℕ → ℕ → Quick
 quickBefore section selection work = walkUnless (checksBefore section selection (leb workLength work)) (walk (equalWords section) (treeOf selection))
-
--- the table of size 0
-abbrev pub emptyTable : List ℕ
-emptyTable = 0 ∷ []
 
 -- for a section, a selection, working memory's length and the listing buffer: "An empty table .. gives the old answers."
 pub record EmptyTableOf (section selection : List ℕ) (work : ℕ) (buffer : List ℕ) : Type 0 where
