@@ -13,8 +13,15 @@ use std::sync::OnceLock;
 
 /// An engine that is to agree with document 01. Memory is lent as the paper says; a snippet is a part of the section.
 pub trait Engine {
-    fn listing(&self, section: &[u32], selection: &[u32], work: &mut [u32], buffer: &mut [u32]) -> Listing;
-    fn quick(&self, section: &[u32], selection: &[u32], work: &mut [u32]) -> Quick;
+    fn listing(
+        &self,
+        section: &[u32],
+        families: &[u32],
+        selection: &[u32],
+        work: &mut [u32],
+        buffer: &mut [u32],
+    ) -> Listing;
+    fn quick(&self, section: &[u32], families: &[u32], selection: &[u32], work: &mut [u32]) -> Quick;
     fn snippet<'a>(&self, section: &'a [u32], from: u32, to: u32) -> &'a [u32];
 
     /// Reads a typed search into a lent selection, and answers the number of its codes.
@@ -23,19 +30,26 @@ pub trait Engine {
     }
 
     /// The full listing of a typed search.
-    fn typed_listing(&self, _section: &[u32], _text: &[u8], _work: &mut [u32], _buffer: &mut [u32]) -> Listing {
+    fn typed_listing(
+        &self,
+        _section: &[u32],
+        _families: &[u32],
+        _text: &[u8],
+        _work: &mut [u32],
+        _buffer: &mut [u32],
+    ) -> Listing {
         unimplemented!("this engine reads no typed searches")
     }
 
     /// The quick answer of a typed search.
-    fn typed_quick(&self, _section: &[u32], _text: &[u8], _work: &mut [u32]) -> Quick {
+    fn typed_quick(&self, _section: &[u32], _families: &[u32], _text: &[u8], _work: &mut [u32]) -> Quick {
         unimplemented!("this engine reads no typed searches")
     }
 }
 
 /// Compares an engine with the second engine on one case: the listing's result and place, its whole buffer, the quick
 /// answer with its count, the snippets; and holds the engine's answers to the unlimited lists. What the two calls must not
-/// touch (section, selection, memory beside the lent slices) is looked at, too. The error says what went wrong.
+/// touch (section, table, selection, memory beside the lent slices) is looked at, too. The error says what went wrong.
 pub fn compare(engine: &dyn Engine, case: &Case) -> Result<(), String> {
     let listing = compare_listing(engine, case)?;
     let quick = compare_quick(engine, case)?;
@@ -62,6 +76,11 @@ pub fn hunt_filters(engine: &dyn Engine, seed: u64, count: usize) -> Result<(), 
     hunt_in(engine, gen::filter_cases(seed, count), &format!("seed {seed}, filter case"))
 }
 
+/// And on the first cases of a seed that are made with a family table.
+pub fn hunt_families(engine: &dyn Engine, seed: u64, count: usize) -> Result<(), String> {
+    hunt_in(engine, gen::family_cases(seed, count), &format!("seed {seed}, family case"))
+}
+
 /// And on the first cases of a seed whose sections have headings.
 pub fn hunt_headings(engine: &dyn Engine, seed: u64, count: usize) -> Result<(), String> {
     hunt_in(engine, gen::heading_cases(seed, count), &format!("seed {seed}, heading case"))
@@ -81,12 +100,12 @@ fn hunt_in(engine: &dyn Engine, cases: impl Iterator<Item = Case>, name: &str) -
 
 fn compare_listing(engine: &dyn Engine, case: &Case) -> Result<Listing, String> {
     let mut wanted_buffer = case.buffer.clone();
-    let wanted = engine::listing(&case.section, &case.selection, case.work_len, &mut wanted_buffer);
+    let wanted = engine::listing(&case.section, &case.families, &case.selection, case.work_len, &mut wanted_buffer);
 
     let inputs = Inputs::of(case);
     let mut work = Lent::noise(case, 1);
     let mut buffer = Lent::copy(&case.buffer);
-    let got = engine.listing(&inputs.section, &inputs.selection, work.slice(), buffer.slice());
+    let got = engine.listing(&inputs.section, &inputs.families, &inputs.selection, work.slice(), buffer.slice());
     if got != wanted {
         return Err(format!("listing: {got:?}, but {wanted:?} is right"));
     }
@@ -101,11 +120,11 @@ fn compare_listing(engine: &dyn Engine, case: &Case) -> Result<Listing, String> 
 }
 
 fn compare_quick(engine: &dyn Engine, case: &Case) -> Result<Quick, String> {
-    let wanted = engine::quick(&case.section, &case.selection, case.work_len);
+    let wanted = engine::quick(&case.section, &case.families, &case.selection, case.work_len);
 
     let inputs = Inputs::of(case);
     let mut work = Lent::noise(case, 2);
-    let got = engine.quick(&inputs.section, &inputs.selection, work.slice());
+    let got = engine.quick(&inputs.section, &inputs.families, &inputs.selection, work.slice());
     if got != wanted {
         return Err(format!("quick: {got:?}, but {wanted:?} is right"));
     }
@@ -117,7 +136,8 @@ fn compare_quick(engine: &dyn Engine, case: &Case) -> Result<Quick, String> {
 /// What must hold of the two answers beside the second engine's own: "Demand 3 holds this call to the unlimited lists and
 /// to the listing".
 fn compare_with_unlimited(case: &Case, listing: Listing, quick: Quick) -> Result<(), String> {
-    let lists = engine::unlimited_lists_within(sizes::COMPARED, &case.section, &case.selection);
+    let (section, families, selection) = (&case.section, &case.families, &case.selection);
+    let lists = engine::unlimited_lists_within(sizes::COMPARED, section, families, selection);
     let Some(lists) = lists else { return Ok(()) };
     let work_enough = case.work_len >= WORK;
     let buffer_enough = case.buffer.len() >= BUFFER;
@@ -168,7 +188,7 @@ fn compare_with_unlimited(case: &Case, listing: Listing, quick: Quick) -> Result
         }
         Quick::Refused { number, place } => {
             if work_enough || (number, place) != (8, 0) {
-                return Err(format!("{quick:?}, though section and selection pass the checks"));
+                return Err(format!("{quick:?}, though section, table and selection pass the checks"));
             }
         }
     }
@@ -251,12 +271,12 @@ pub fn compare_read(engine: &dyn Engine, text: &[u8], selection: &[u32]) -> Resu
 
 fn compare_typed_listing(engine: &dyn Engine, case: &TypedCase) -> Result<(), String> {
     let mut wanted_buffer = case.buffer.clone();
-    let wanted = typed::typed_listing(&case.section, &case.text, case.work_len, &mut wanted_buffer);
+    let wanted = typed::typed_listing(&case.section, &case.families, &case.text, case.work_len, &mut wanted_buffer);
 
-    let (text, section) = (LentText::of(&case.text), case.section.clone());
+    let (text, section, families) = (LentText::of(&case.text), case.section.clone(), case.families.clone());
     let mut work = Lent::some_noise(case.text.len() + 3, case.work_len);
     let mut buffer = Lent::copy(&case.buffer);
-    let got = engine.typed_listing(&section, text.slice(), work.slice(), buffer.slice());
+    let got = engine.typed_listing(&section, &families, text.slice(), work.slice(), buffer.slice());
     if got != wanted {
         return Err(format!("typed listing: {got:?}, but {wanted:?} is right"));
     }
@@ -265,14 +285,14 @@ fn compare_typed_listing(engine: &dyn Engine, case: &TypedCase) -> Result<(), St
         return Err(format!("typed listing: {got:?} is right, but buffer[{at}] is {number} where {right} is right"));
     }
     text.unchanged(&case.text)?;
-    section_unchanged(&section, case)?;
+    inputs_unchanged(&section, &families, case)?;
     work.untouched_around("typed listing: working memory")?;
     buffer.untouched_around("typed listing: buffer")?;
 
     // "What a typed search answers is what its codes answer."
     let Ok(codes) = typed::read(&case.text) else { return Ok(()) };
     let mut by_codes = Lent::copy(&case.buffer);
-    let answer = engine.listing(&section, &typed::numbers(&codes), work.slice(), by_codes.slice());
+    let answer = engine.listing(&section, &families, &typed::numbers(&codes), work.slice(), by_codes.slice());
     if answer != got || by_codes.slice() != buffer.slice() {
         return Err(format!("typed listing: {got:?}, but its codes answer {answer:?}, or another buffer"));
     }
@@ -280,29 +300,29 @@ fn compare_typed_listing(engine: &dyn Engine, case: &TypedCase) -> Result<(), St
 }
 
 fn compare_typed_quick(engine: &dyn Engine, case: &TypedCase) -> Result<(), String> {
-    let wanted = typed::typed_quick(&case.section, &case.text, case.work_len);
+    let wanted = typed::typed_quick(&case.section, &case.families, &case.text, case.work_len);
 
-    let (text, section) = (LentText::of(&case.text), case.section.clone());
+    let (text, section, families) = (LentText::of(&case.text), case.section.clone(), case.families.clone());
     let mut work = Lent::some_noise(case.text.len() + 5, case.work_len);
-    let got = engine.typed_quick(&section, text.slice(), work.slice());
+    let got = engine.typed_quick(&section, &families, text.slice(), work.slice());
     if got != wanted {
         return Err(format!("typed quick: {got:?}, but {wanted:?} is right"));
     }
     text.unchanged(&case.text)?;
-    section_unchanged(&section, case)?;
+    inputs_unchanged(&section, &families, case)?;
     work.untouched_around("typed quick: working memory")?;
 
     let Ok(codes) = typed::read(&case.text) else { return Ok(()) };
-    let answer = engine.quick(&section, &typed::numbers(&codes), work.slice());
+    let answer = engine.quick(&section, &families, &typed::numbers(&codes), work.slice());
     if answer != got {
         return Err(format!("typed quick: {got:?}, but its codes answer {answer:?}"));
     }
     Ok(())
 }
 
-fn section_unchanged(section: &[u32], case: &TypedCase) -> Result<(), String> {
-    if section != case.section {
-        return Err("the section was written on".to_string());
+fn inputs_unchanged(section: &[u32], families: &[u32], case: &TypedCase) -> Result<(), String> {
+    if section != case.section || families != case.families {
+        return Err("the section or the table was written on".to_string());
     }
     Ok(())
 }
@@ -363,17 +383,20 @@ fn snippet_bounds(section: &[u32]) -> Vec<(u32, u32)> {
 /// Copies of what is lent to be read, to see that it is only read.
 struct Inputs {
     section: Vec<u32>,
+    families: Vec<u32>,
     selection: Vec<u32>,
 }
 
 impl Inputs {
     fn of(case: &Case) -> Inputs {
-        Inputs { section: case.section.clone(), selection: case.selection.clone() }
+        let (section, families) = (case.section.clone(), case.families.clone());
+        Inputs { section, families, selection: case.selection.clone() }
     }
 
     fn unchanged(&self, case: &Case) -> Result<(), String> {
-        if self.section != case.section || self.selection != case.selection {
-            return Err("the section or the selection was written on".to_string());
+        let Inputs { section, families, selection } = self;
+        if (section, families, selection) != (&case.section, &case.families, &case.selection) {
+            return Err("the section, the table or the selection was written on".to_string());
         }
         Ok(())
     }
@@ -447,9 +470,12 @@ mod tests {
     #[test]
     fn what_is_written_on_the_inputs_is_seen() {
         let case = gen::case(1, 1);
-        let mut inputs = Inputs::of(&case);
-        assert!(inputs.unchanged(&case).is_ok());
-        inputs.selection[0] += 1;
-        assert!(inputs.unchanged(&case).is_err());
+        let inputs = || Inputs::of(&case);
+        assert!(inputs().unchanged(&case).is_ok());
+        let (mut one, mut other) = (inputs(), inputs());
+        one.selection[0] += 1;
+        assert!(one.unchanged(&case).is_err());
+        other.families[0] += 1;
+        assert!(other.unchanged(&case).is_err());
     }
 }

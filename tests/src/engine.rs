@@ -1,6 +1,7 @@
 //! The calls: the full listing, the quick answer, the snippet; and the unlimited lists they are held to.
 
 use crate::agreement::Engine;
+use crate::families::{self, Searched};
 use crate::rules::{self, AllMatches, Match};
 use crate::section::{self, Section};
 use crate::selection::{self, Filter, Occurs, Rule, Tree, Unit};
@@ -27,7 +28,7 @@ pub enum Quick {
 /// rule in them, to see that the comparison finds it.
 #[derive(Clone, Copy)]
 pub struct RuleBook {
-    pub phrase: fn(&Section, &[u32], u32) -> AllMatches,
+    pub phrase: fn(&Searched, &[u32], u32) -> AllMatches,
     pub or: fn(&[Match], &[Match]) -> AllMatches,
     pub and: fn(&[Match], &[Match]) -> AllMatches,
     pub not: fn(&[Match]) -> AllMatches,
@@ -51,7 +52,7 @@ pub struct RuleBook {
 }
 
 impl RuleBook {
-    /// The rules of document 01 and of request F-3.
+    /// The rules of document 01 and of requests F-3 and F-6.
     pub fn paper() -> RuleBook {
         RuleBook {
             phrase: rules::phrase,
@@ -77,7 +78,7 @@ impl RuleBook {
     }
 
     /// The list of a code, from the lists of its sides.
-    fn list(&self, section: &Section, rule: &Rule, below: &[&[Match]]) -> AllMatches {
+    fn list(&self, section: &Searched, rule: &Rule, below: &[&[Match]]) -> AllMatches {
         match (rule, below) {
             (Rule::Phrase { words, query }, []) => (self.phrase)(section, words, *query),
             (Rule::Or, [left, right]) => (self.or)(left, right),
@@ -102,7 +103,7 @@ impl RuleBook {
 
     /// The size of a code's list before it is made, for the rules whose list can be larger than those below. The other
     /// filters and the mild not only leave matches and strings out, so their lists are made at once.
-    pub fn forecast(&self, section: &Section, rule: &Rule, below: &[&[Match]]) -> Option<Size> {
+    pub fn forecast(&self, section: &Searched, rule: &Rule, below: &[&[Match]]) -> Option<Size> {
         match (rule, below) {
             (Rule::Phrase { words, .. }, []) => Some(sizes::phrase(section, words)),
             (Rule::Or, [left, right]) => Some(sizes::or(left, right)),
@@ -120,7 +121,7 @@ impl RuleBook {
     pub fn list_within(
         &self,
         limits: Limits,
-        section: &Section,
+        section: &Searched,
         rule: &Rule,
         below: &[&[Match]],
     ) -> Result<AllMatches, Size> {
@@ -145,7 +146,7 @@ impl RuleBook {
 
     /// The list of a whole part, built within the limits: "Building makes one list for each code of the part but kind 0,
     /// in postfix order". The first code whose list is over them is refused.
-    pub fn build(&self, section: &Section, tree: &Tree) -> Result<AllMatches, Refusal> {
+    pub fn build(&self, section: &Searched, tree: &Tree) -> Result<AllMatches, Refusal> {
         let mut below = vec![];
         for side in &tree.below {
             below.push(self.build(section, side)?);
@@ -155,7 +156,7 @@ impl RuleBook {
     }
 
     /// The quick answer's walk: yes or no, and how many codes it walked or built. "The walk ends at its first refusal."
-    pub fn walk(&self, section: &Section, tree: &Tree) -> Result<(bool, usize), Refusal> {
+    pub fn walk(&self, section: &Searched, tree: &Tree) -> Result<(bool, usize), Refusal> {
         match (&tree.rule, &tree.below[..]) {
             // "a phrase is yes if its list isn't empty"
             (Rule::Phrase { words, query }, _) => Ok((!(self.phrase)(section, words, *query).is_empty(), 1)),
@@ -197,21 +198,23 @@ impl RuleBook {
     }
 }
 
-/// Refusals 1 to 8 and 12: "tried in this order, each over the whole input before the next", 12 after 6. No buffer length is
-/// given where no buffer is lent.
+/// Refusals 1 to 8, 12 and 13: "tried in this order, each over the whole input before the next", 12 after 6 and 13 after 2.
+/// No buffer length is given where no buffer is lent.
 pub fn check(
     section: &[u32],
+    families: &[u32],
     selection: &[u32],
     work_len: usize,
     buffer_len: Option<usize>,
-) -> Result<(Section, Tree), Refusal> {
+) -> Result<(Searched, Tree), Refusal> {
     let section = section::read(section)?;
+    let families = families::read(families)?;
     let tree = selection::read(selection)?;
     // "8, place 0: a lent buffer too short"
     if work_len < WORK || buffer_len.is_some_and(|length| length < BUFFER) {
         return Err(Refusal::new(8, 0));
     }
-    Ok((section, tree))
+    Ok((Searched { section, families }, tree))
 }
 
 /// What the buffer holds at its front: "M, S, the M string counts, then two parallel arrays of S: spans (start × 65,536 +
@@ -248,17 +251,25 @@ impl SecondEngine {
     pub fn list(
         &self,
         section: &[u32],
+        families: &[u32],
         selection: &[u32],
         work_len: usize,
         buffer_len: usize,
     ) -> Result<AllMatches, Refusal> {
-        let (section, tree) = check(section, selection, work_len, Some(buffer_len))?;
+        let (section, tree) = check(section, families, selection, work_len, Some(buffer_len))?;
         self.book.build(&section, &tree)
     }
 
     /// The full listing. A refusal leaves the buffer unchanged, and so does a listing all of it behind its numbers.
-    pub fn listing(&self, section: &[u32], selection: &[u32], work_len: usize, buffer: &mut [u32]) -> Listing {
-        match self.list(section, selection, work_len, buffer.len()) {
+    pub fn listing(
+        &self,
+        section: &[u32],
+        families: &[u32],
+        selection: &[u32],
+        work_len: usize,
+        buffer: &mut [u32],
+    ) -> Listing {
+        match self.list(section, families, selection, work_len, buffer.len()) {
             Err(Refusal { number, place }) => Listing::Refused { number, place },
             Ok(list) => {
                 let numbers = encode(&list);
@@ -269,9 +280,9 @@ impl SecondEngine {
     }
 
     /// The quick answer.
-    pub fn quick(&self, section: &[u32], selection: &[u32], work_len: usize) -> Quick {
-        let walked =
-            check(section, selection, work_len, None).and_then(|(section, tree)| self.book.walk(&section, &tree));
+    pub fn quick(&self, section: &[u32], families: &[u32], selection: &[u32], work_len: usize) -> Quick {
+        let checked = check(section, families, selection, work_len, None);
+        let walked = checked.and_then(|(section, tree)| self.book.walk(&section, &tree));
         match walked {
             Err(Refusal { number, place }) => Quick::Refused { number, place },
             Ok((yes, codes)) => Quick::Answered { yes, codes: codes as u32 },
@@ -286,12 +297,19 @@ impl Default for SecondEngine {
 }
 
 impl Engine for SecondEngine {
-    fn listing(&self, section: &[u32], selection: &[u32], work: &mut [u32], buffer: &mut [u32]) -> Listing {
-        SecondEngine::listing(self, section, selection, work.len(), buffer)
+    fn listing(
+        &self,
+        section: &[u32],
+        families: &[u32],
+        selection: &[u32],
+        work: &mut [u32],
+        buffer: &mut [u32],
+    ) -> Listing {
+        SecondEngine::listing(self, section, families, selection, work.len(), buffer)
     }
 
-    fn quick(&self, section: &[u32], selection: &[u32], work: &mut [u32]) -> Quick {
-        SecondEngine::quick(self, section, selection, work.len())
+    fn quick(&self, section: &[u32], families: &[u32], selection: &[u32], work: &mut [u32]) -> Quick {
+        SecondEngine::quick(self, section, families, selection, work.len())
     }
 
     fn snippet<'a>(&self, section: &'a [u32], from: u32, to: u32) -> &'a [u32] {
@@ -302,24 +320,32 @@ impl Engine for SecondEngine {
         typed::read_selection(text, selection)
     }
 
-    fn typed_listing(&self, section: &[u32], text: &[u8], work: &mut [u32], buffer: &mut [u32]) -> Listing {
-        typed::typed_listing(section, text, work.len(), buffer)
+    fn typed_listing(
+        &self,
+        section: &[u32],
+        families: &[u32],
+        text: &[u8],
+        work: &mut [u32],
+        buffer: &mut [u32],
+    ) -> Listing {
+        typed::typed_listing(section, families, text, work.len(), buffer)
     }
 
-    fn typed_quick(&self, section: &[u32], text: &[u8], work: &mut [u32]) -> Quick {
-        typed::typed_quick(section, text, work.len())
+    fn typed_quick(&self, section: &[u32], families: &[u32], text: &[u8], work: &mut [u32]) -> Quick {
+        typed::typed_quick(section, families, text, work.len())
     }
 }
 
 /// The full listing: "takes section, selection, working memory (at least 12,800 u32) and a listing buffer (at least 1,282
 /// u32). It answers M, S and yes or no, or a refusal with its place." Only the length of the working memory is asked for.
-pub fn listing(section: &[u32], selection: &[u32], work_len: usize, buffer: &mut [u32]) -> Listing {
-    SecondEngine::new().listing(section, selection, work_len, buffer)
+/// Request F-6: "All calls that find phrases take the table", directly after the section.
+pub fn listing(section: &[u32], families: &[u32], selection: &[u32], work_len: usize, buffer: &mut [u32]) -> Listing {
+    SecondEngine::new().listing(section, families, selection, work_len, buffer)
 }
 
-/// The quick answer: "takes section, selection and working memory (at least 12,800 u32)."
-pub fn quick(section: &[u32], selection: &[u32], work_len: usize) -> Quick {
-    SecondEngine::new().quick(section, selection, work_len)
+/// The quick answer: "takes section, selection and working memory (at least 12,800 u32)", and the table.
+pub fn quick(section: &[u32], families: &[u32], selection: &[u32], work_len: usize) -> Quick {
+    SecondEngine::new().quick(section, families, selection, work_len)
 }
 
 /// "Section, from, to: the word numbers of those positions, as a part of the lent section. An empty part if the section
@@ -351,20 +377,32 @@ pub struct CodeList {
 
 /// "The unlimited lists are those of the rules above for every code but kind 0, unread ones too, with no limit on matches
 /// or strings; the complete AllMatches of a selection is that of its last code." By request F-3 this "gains both kinds" of
-/// occurs. In postfix order. `None` if section or selection don't pass the checks.
-pub fn unlimited_lists(section: &[u32], selection: &[u32]) -> Option<Vec<CodeList>> {
-    unlimited_lists_within(sizes::GUARD, section, selection)
+/// occurs, and by request F-6 their "meaning is over" the table. In postfix order. `None` if section, table or selection
+/// don't pass the checks.
+pub fn unlimited_lists(section: &[u32], families: &[u32], selection: &[u32]) -> Option<Vec<CodeList>> {
+    unlimited_lists_within(sizes::GUARD, section, families, selection)
 }
 
 /// The unlimited lists, those made that stay within a guard.
-pub fn unlimited_lists_within(guard: Limits, section: &[u32], selection: &[u32]) -> Option<Vec<CodeList>> {
-    let (section, tree) = check(section, selection, WORK, None).ok()?;
+pub fn unlimited_lists_within(
+    guard: Limits,
+    section: &[u32],
+    families: &[u32],
+    selection: &[u32],
+) -> Option<Vec<CodeList>> {
+    let (section, tree) = check(section, families, selection, WORK, None).ok()?;
     let mut lists = vec![];
     add_unlimited(guard, &section, &tree, false, &mut lists);
     Some(lists)
 }
 
-fn add_unlimited(guard: Limits, section: &Section, tree: &Tree, under_built: bool, lists: &mut Vec<CodeList>) -> usize {
+fn add_unlimited(
+    guard: Limits,
+    section: &Searched,
+    tree: &Tree,
+    under_built: bool,
+    lists: &mut Vec<CodeList>,
+) -> usize {
     let measured = under_built || tree.rule.is_built_whole();
     let below_built = under_built || tree.rule.ends_the_walk();
     let sides: Vec<usize> =
@@ -386,8 +424,8 @@ fn add_unlimited(guard: Limits, section: &Section, tree: &Tree, under_built: boo
     lists.len() - 1
 }
 
-/// The complete AllMatches of a selection, with no limit. `None` if section or selection don't pass the checks, or if a
-/// list in it is too large for the memory (see [`sizes::GUARD`]).
-pub fn unlimited(section: &[u32], selection: &[u32]) -> Option<Vec<Match>> {
-    unlimited_lists(section, selection)?.pop()?.list
+/// The complete AllMatches of a selection, with no limit. `None` if section, table or selection don't pass the checks, or if
+/// a list in it is too large for the memory (see [`sizes::GUARD`]).
+pub fn unlimited(section: &[u32], families: &[u32], selection: &[u32]) -> Option<Vec<Match>> {
+    unlimited_lists(section, families, selection)?.pop()?.list
 }

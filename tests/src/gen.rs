@@ -8,9 +8,11 @@
 //! About a quarter of the cases have an occurs. [`occurs_cases`] are all made with one, in every place where it may stand;
 //! damage may take it away again. [`filter_cases`] are made for the early way out of a filter that the quick answer's walk
 //! reaches, and a few of the cases are such. About a third of the sections whose sentences are reported have headings;
-//! [`heading_cases`] are all made with some, and again damage may take them away.
+//! [`heading_cases`] are all made with some, and again damage may take them away. About a third of all cases have a small
+//! family table over their words; [`family_cases`] are made with one that their phrases are found by.
 
 use crate::engine::RuleBook;
+use crate::families::{self, Families, Searched, EMPTY, MOST_ENTRIES};
 use crate::rules::{self, AllMatches, Match};
 use crate::section::{self, Section, MOST_TOKENS};
 use crate::selection::{self, Code, Filter, Occurs, Rule, Unit, MOST_CODES, MOST_WAITING, MOST_WORDS};
@@ -22,6 +24,7 @@ use std::slice::from_ref;
 #[derive(Clone, Debug, PartialEq, Eq)]
 pub struct Case {
     pub section: Vec<u32>,
+    pub families: Vec<u32>,
     pub selection: Vec<u32>,
     pub work_len: usize,
     pub buffer: Vec<u32>,
@@ -61,6 +64,7 @@ pub fn case(seed: u64, index: usize) -> Case {
         }
     };
     lend(&mut rng, &mut made);
+    lend_families(&mut rng, &mut made);
     made
 }
 
@@ -85,6 +89,7 @@ pub fn occurs_case(seed: u64, index: usize) -> Case {
         _ => {}
     }
     lend(&mut rng, &mut made);
+    lend_families(&mut rng, &mut made);
     made
 }
 
@@ -101,6 +106,7 @@ pub fn filter_case(seed: u64, index: usize) -> Case {
         damage(&mut rng, &mut made);
     }
     lend(&mut rng, &mut made);
+    lend_families(&mut rng, &mut made);
     made
 }
 
@@ -117,6 +123,31 @@ pub fn heading_case(seed: u64, index: usize) -> Case {
     match rng.below(20) {
         0..=4 => damage_units(&mut rng, &mut made.section),
         5 => damage(&mut rng, &mut made),
+        _ => {}
+    }
+    lend(&mut rng, &mut made);
+    lend_families(&mut rng, &mut made);
+    made
+}
+
+/// The first cases of a seed that are made with a family table.
+pub fn family_cases(seed: u64, count: usize) -> impl Iterator<Item = Case> {
+    (0..count).map(move |index| family_case(seed, index))
+}
+
+/// One case of a seed whose phrases are found by a family table, under filters and nots; or at times a damaged one, mostly in
+/// its table.
+pub fn family_case(seed: u64, index: usize) -> Case {
+    let mut rng = Rng::new(seed.rotate_left(56), index as u64);
+    let mut made = among_families(&mut rng);
+    match rng.below(20) {
+        0..=2 => damage_families(&mut rng, &mut made.families),
+        // which of two refusals comes first?
+        3 => {
+            damage_families(&mut rng, &mut made.families);
+            damage(&mut rng, &mut made);
+        }
+        4 => damage(&mut rng, &mut made),
         _ => {}
     }
     lend(&mut rng, &mut made);
@@ -316,8 +347,8 @@ struct Waiting {
 }
 
 /// A selection in the making, over a section.
-struct Builder<'a> {
-    section: &'a Section,
+struct Builder {
+    section: Searched,
     codes: Vec<Code>,
     waiting: Vec<Waiting>,
     phrases: u32,
@@ -326,8 +357,12 @@ struct Builder<'a> {
     book: RuleBook,
 }
 
-impl<'a> Builder<'a> {
-    fn new(section: &'a Section) -> Builder<'a> {
+impl Builder {
+    fn new(section: &Section) -> Builder {
+        Builder::over(Searched::alone(section))
+    }
+
+    fn over(section: Searched) -> Builder {
         let anchor = section.words.len() / 3;
         Builder { section, codes: vec![], waiting: vec![], phrases: 0, anchor, book: RuleBook::paper() }
     }
@@ -346,9 +381,9 @@ impl<'a> Builder<'a> {
     fn outcome(&self, rule: &Rule) -> Waiting {
         let sides = &self.waiting[self.waiting.len() - rule.sides()..];
         let below: Option<Vec<&[Match]>> = sides.iter().map(|side| side.list.as_deref()).collect();
-        let list = below.and_then(|below| self.book.list_within(sizes::PAPER, self.section, rule, &below).ok());
+        let list = below.and_then(|below| self.book.list_within(sizes::PAPER, &self.section, rule, &below).ok());
         let finds = match rule {
-            Rule::Phrase { words, .. } => Some(sizes::phrase(self.section, words).matches as usize),
+            Rule::Phrase { words, .. } => Some(sizes::phrase(&self.section, words).matches as usize),
             _ => None,
         };
         Waiting { has_not: rule.is_a_not() || sides.iter().any(|side| side.has_not), list, finds }
@@ -465,8 +500,18 @@ impl<'a> Builder<'a> {
         Occurs::FromTo(tight(rng, b, &|a| sizes::from_to(finds, a, b)), b)
     }
 
-    /// Mostly one word or a row of the section.
+    /// Mostly one word or a row of the section; where there is a table, with other words of the same families in it.
     fn random_words(&self, rng: &mut Rng) -> Vec<u32> {
+        let words = self.words_alone(rng);
+        let of_families = |word: u32| other_of_its_family(rng, &self.section.families, word);
+        if self.section.families.0.is_empty() {
+            words
+        } else {
+            words.into_iter().map(of_families).collect()
+        }
+    }
+
+    fn words_alone(&self, rng: &mut Rng) -> Vec<u32> {
         let words = &self.section.words;
         let length = rng.pick(&[1, 1, 1, 1, 1, 1, 2, 2, 3, 8]).min(rng.from_to(1, MOST_WORDS));
         if rng.chance(1, 12) || words.is_empty() {
@@ -482,7 +527,16 @@ impl<'a> Builder<'a> {
                 start = rng.below(words.len());
             }
         }
+        if !self.section.families.0.is_empty() {
+            start = self.no_filler_from(start);
+        }
         words[start..words.len().min(start + length)].to_vec()
+    }
+
+    /// The first token from here on, or else from the start on, that isn't filler.
+    fn no_filler_from(&self, start: usize) -> usize {
+        let words = &self.section.words;
+        (start..words.len()).chain(0..start).find(|at| words[*at] != FILLER).unwrap_or(start)
     }
 
     fn random_filter(&self, rng: &mut Rng) -> Filter {
@@ -585,7 +639,8 @@ impl Taste {
 }
 
 fn case_of(section: &Section, selection: Vec<u32>) -> Case {
-    Case { section: section.numbers(), selection, work_len: WORK, buffer: vec![0; BUFFER] }
+    let families = EMPTY.to_vec();
+    Case { section: section.numbers(), families, selection, work_len: WORK, buffer: vec![0; BUFFER] }
 }
 
 /// A small section, a short selection.
@@ -846,7 +901,7 @@ fn placed_occurs(rng: &mut Rng) -> Case {
     case_of(&section, builder.selection())
 }
 
-impl Builder<'_> {
+impl Builder {
     /// A phrase of word 1, mostly of it alone, and an occurs over it.
     fn some_occurs(&mut self, rng: &mut Rng) {
         match rng.below(8) {
@@ -929,7 +984,7 @@ fn early_way_out(rng: &mut Rng) -> Case {
     }
 }
 
-impl Builder<'_> {
+impl Builder {
     /// At times a left side, which waits for what follows, and the rule that is to combine the two: mostly such that the walk
     /// goes on to the right.
     fn left_side(&mut self, rng: &mut Rng) -> Option<Rule> {
@@ -1184,7 +1239,7 @@ impl Gap {
     }
 }
 
-impl Builder<'_> {
+impl Builder {
     /// And not the excluded words, in nots over one or several of them, each within the limits.
     fn one_word_excludes(&mut self, rng: &mut Rng, words: usize) {
         let count = |word: u32| self.section.words.iter().filter(|other| **other == word).count();
@@ -1316,7 +1371,7 @@ fn telling_section(rng: &mut Rng) -> Section {
     section
 }
 
-impl Builder<'_> {
+impl Builder {
     /// An or of two to four parts: phrases or the whole section, alone or two together, with an exclude or without.
     fn some_parts(&mut self, rng: &mut Rng) {
         for part in 0..rng.from_to(2, 4) {
@@ -1365,7 +1420,7 @@ impl Builder<'_> {
         let Some(Waiting { list: Some(list), .. }) = self.waiting.last() else { return false };
         let rule = Rule::Filter(*filter);
         let gives_a_yes = |m: &Match| {
-            let given = self.book.list_within(sizes::GUARD, self.section, &rule, &[from_ref(m)]);
+            let given = self.book.list_within(sizes::GUARD, &self.section, &rule, &[from_ref(m)]);
             given.is_ok_and(|given| rules::is_yes(&given))
         };
         let yeses: Vec<usize> = (0..list.len()).filter(|&at| gives_a_yes(&list[at])).collect();
@@ -1474,7 +1529,7 @@ fn row_of_tokens(rng: &mut Rng, last: u32) -> Vec<u32> {
     row
 }
 
-impl Builder<'_> {
+impl Builder {
     /// The not of one to three phrases joined by or: one match without includes.
     fn nots_alone(&mut self, rng: &mut Rng) {
         for phrase in 0..rng.from_to(1, 3) {
@@ -1509,6 +1564,196 @@ impl Builder<'_> {
     }
 }
 
+// Families
+
+/// Up to three filters above each other or none, over phrases and nots of phrases that a table's families are found by.
+fn among_families(rng: &mut Rng) -> Case {
+    let searched = searched_by_families(rng);
+    let mut builder = Builder::over(searched);
+    match rng.below(8) {
+        0 => builder.some_parts(rng),
+        1 => builder.nots_alone(rng),
+        2 => builder.one_phrase(rng),
+        3 => {
+            builder.one_phrase(rng);
+            builder.occurs_or_mild_not(rng);
+        }
+        4 | 5 => builder.two_and_not_a_third(rng),
+        _ => builder.part_of_phrases(rng),
+    }
+    for level in 0..rng.pick(&[0, 1, 1, 1, 2, 2]) {
+        if level > 0 {
+            builder.between_filters(rng);
+        }
+        let sort = rng.pick(&[0, 1, 2, 3, 4, 5, 5, 6, 6, 7, 8, 9]);
+        let filter = if rng.chance(1, 3) { builder.random_filter(rng) } else { builder.filter_of_sort(rng, sort) };
+        builder.force(Rule::Filter(filter));
+    }
+    builder.lead_to(rng, None);
+    let families = builder.section.families.numbers();
+    Case { families, ..case_of(&builder.section, builder.selection()) }
+}
+
+/// A section and a table: few words of few families; a family of many words, of which the section has few; or as large a
+/// table as there may be, or nearly.
+fn searched_by_families(rng: &mut Rng) -> Searched {
+    let (families, vocabulary) = match rng.below(16) {
+        0 | 1 => large_table(rng),
+        2..=5 => family_of_many(rng),
+        _ => small_families(rng),
+    };
+    let n = match rng.below(60) {
+        0 => MOST_TOKENS - rng.below(2),
+        1 => rng.from_to(64, MOST_TOKENS),
+        2..=6 => rng.pick(&[15, 16, 17, 31, 32, 33, 40]),
+        _ => rng.from_to(1, 12),
+    };
+    // in a long section few tokens are of the vocabulary
+    let often = if n > 40 { rng.pick(&[3, 8, 20]) } else { n };
+    let words = (0..n).map(|_| if rng.chance(often, n) { rng.pick(&vocabulary) } else { FILLER }).collect();
+    Searched { section: section_of(rng, words), families }
+}
+
+/// Some words as a table, each with a family.
+fn table(words: impl IntoIterator<Item = u32>, mut family: impl FnMut(usize) -> u32) -> Families {
+    let mut words: Vec<u32> = words.into_iter().collect();
+    words.sort();
+    words.dedup();
+    Families(words.into_iter().enumerate().map(|(at, word)| (word, family(at))).collect())
+}
+
+/// Family numbers: small ones, the first and the last, or such as are words, too.
+fn family_numbers(rng: &mut Rng, words: &[u32]) -> Vec<u32> {
+    match rng.below(4) {
+        0 => vec![0, u32::MAX, 1 << 31],
+        1 => vec![rng.pick(words), rng.pick(words), rng.pick(words)],
+        _ => vec![1, 2, 3],
+    }
+}
+
+/// Two to six words, most of them in the table, in one family or several; and a few words that the section doesn't have.
+fn small_families(rng: &mut Rng) -> (Families, Vec<u32>) {
+    let mut pool = match rng.below(4) {
+        0 => vec![0, 1, 2, 1 << 16, (1 << 31) - 1, 1 << 31, u32::MAX - 1, u32::MAX],
+        _ => (0..9).collect(),
+    };
+    rng.shuffle(&mut pool);
+    let vocabulary = pool[..rng.from_to(2, 6)].to_vec();
+    let numbers = family_numbers(rng, &pool);
+    let several = rng.from_to(1, numbers.len());
+    let mut words: Vec<u32> = vocabulary.iter().copied().filter(|_| rng.chance(3, 4)).collect();
+    words.extend(pool[6..].iter().filter(|_| rng.chance(1, 2)));
+    (table(words, |_| numbers[rng.below(several)]), vocabulary)
+}
+
+/// A family of up to 40 words and one or two others, mostly as large, in a row or mixed; the section has two or three of the
+/// first family, mostly such as stand at an edge of 16.
+fn family_of_many(rng: &mut Rng) -> (Families, Vec<u32>) {
+    let members = rng.pick(&[2, 3, 15, 16, 17, 18, 31, 32, 33, 40]);
+    let others = rng.pick(&[0, 1, 1, 2]);
+    let size = members * (1 + others);
+    let (first, step) = (rng.pick(&[0, 1, 100]), rng.pick(&[1, 1, 2, 1 << 16]));
+    let words: Vec<u32> = (0..size as u32).map(|at| first + at * step).collect();
+    let numbers = family_numbers(rng, &words);
+    let mixed = rng.chance(1, 2);
+    let family = |at: usize| if mixed { at % (1 + others) } else { at / members };
+    let families = table(words.clone(), |at| numbers[family(at)]);
+    let of_first: Vec<u32> = (0..size).filter(|&at| family(at) == 0).map(|at| words[at]).collect();
+    let mut vocabulary = vec![rng.pick(&words), first + size as u32 * step, FILLER];
+    for _ in 0..rng.from_to(1, 3) {
+        vocabulary.push(of_first[edge_of(rng, members)]);
+    }
+    (families, vocabulary)
+}
+
+/// Any index below a length: often the first, the last, or one at an edge of 16.
+fn edge_of(rng: &mut Rng, length: usize) -> usize {
+    let any = rng.below(length);
+    match rng.below(6) {
+        0 => 0,
+        1 => length - 1,
+        2 | 3 => (any - any % 16 + rng.pick(&[0, 15, 16])).min(length - 1),
+        _ => any,
+    }
+}
+
+/// 2,048 entries, or about as many: each a family of its own, all in one, or families of as many members, in rows or mixed.
+fn large_table(rng: &mut Rng) -> (Families, Vec<u32>) {
+    let size = MOST_ENTRIES - rng.pick(&[0, 0, 1, 1, 2, 900]);
+    let (first, step) = rng.pick(&[(0, 1), (1, 2), (1_000, 3), (u32::MAX - 2_047, 1), (0, 2_098_176)]);
+    let words: Vec<u32> = (0..size as u32).map(|at| first + at * step).collect();
+    let members = rng.pick(&[1, 2, 3, 16, 17, 40, 100, 1_024, size]);
+    let families = size.div_ceil(members);
+    let mixed = rng.chance(1, 2);
+    let number = rng.pick(&[0, 1, 1 << 31, u32::MAX - 2_047]);
+    let family = |at: usize| number + if mixed { at % families } else { at / members } as u32;
+    let mut vocabulary = vec![FILLER, FILLER, words[0].saturating_sub(1), words[size - 1].saturating_add(1)];
+    for _ in 0..rng.from_to(1, 3) {
+        vocabulary.push(words[edge_of(rng, size)]);
+    }
+    (table(words, family), vocabulary)
+}
+
+/// Mostly another word of the same family, where there is one; at times the word itself, one of any family, or one beside it.
+fn other_of_its_family(rng: &mut Rng, families: &Families, word: u32) -> u32 {
+    match rng.below(12) {
+        0 => *families.0.keys().nth(rng.below(families.0.len())).expect("an entry"),
+        1 => rng.pick(&[word.saturating_sub(1), word.saturating_add(1)]),
+        2..=4 => word,
+        _ => any_of_its_family(rng, families, word),
+    }
+}
+
+/// Any word of the same family, or the word itself where it is in none.
+fn any_of_its_family(rng: &mut Rng, families: &Families, word: u32) -> u32 {
+    let family = families.of(word);
+    let same: Vec<u32> = families.0.iter().filter(|(_, of)| family == Some(**of)).map(|(word, _)| *word).collect();
+    match same.len() {
+        0 => word,
+        length => same[edge_of(rng, length)],
+    }
+}
+
+impl Builder {
+    /// One phrase of one to eight words: a row of the section, its words by others of their families; at times by any.
+    fn one_phrase(&mut self, rng: &mut Rng) {
+        let tokens = &self.section.words;
+        let start = self.no_filler_from(rng.below(tokens.len()));
+        let length = rng.pick(&[1, 2, 3, 4, 5, 6, 7, MOST_WORDS, MOST_WORDS]);
+        let row = tokens[start..tokens.len().min(start + length)].to_vec();
+        let families = &self.section.families;
+        let odd = !families.0.is_empty() && rng.chance(1, 3);
+        let other = if odd { other_of_its_family } else { any_of_its_family };
+        let words: Vec<u32> = row.into_iter().map(|word| other(rng, families, word)).collect();
+        self.phrase(&words);
+    }
+
+    /// Two phrases in one match, and not a third.
+    fn two_and_not_a_third(&mut self, rng: &mut Rng) {
+        for phrase in 0..3 {
+            let words = self.random_words(rng);
+            self.phrase(&words);
+            if phrase == 2 {
+                self.force(Rule::Not);
+            }
+            if phrase > 0 {
+                self.force(Rule::And);
+            }
+        }
+    }
+
+    /// An occurs over the phrase that waits, or a mild not of it and another, in either order.
+    fn occurs_or_mild_not(&mut self, rng: &mut Rng) {
+        if rng.chance(1, 2) {
+            let occurs = self.random_occurs(rng);
+            self.force(Rule::Occurs(occurs));
+        } else {
+            self.one_phrase(rng);
+            self.force(Rule::MildNot);
+        }
+    }
+}
+
 // Damage
 
 /// Breaks one thing. (Now and then nothing is broken by it: the comparison doesn't mind.)
@@ -1531,7 +1776,38 @@ fn damage(rng: &mut Rng, case: &mut Case) {
     }
 }
 
-/// Refusals 1 and 3 are about a size and a length alike: both are wrong in the same ways.
+/// Refusal 13: a wrong size or length, an entry out of order, or two.
+fn damage_families(rng: &mut Rng, numbers: &mut Vec<u32>) {
+    match rng.below(6) {
+        0 => damage_size(rng, numbers),
+        // 2,048 to 2,050 entries, with their length
+        1 if rng.chance(1, 4) => {
+            let size = MOST_ENTRIES as u32 + rng.below(3) as u32;
+            *numbers = [size].into_iter().chain(0..size).chain((0..size).map(|at| at / 2)).collect();
+        }
+        _ => {
+            for _ in 0..rng.pick(&[1, 1, 1, 2, 3]) {
+                put_out_of_order(rng, numbers);
+            }
+        }
+    }
+}
+
+/// An entry whose word is that of the one before it, below it or exchanged with it.
+fn put_out_of_order(rng: &mut Rng, numbers: &mut [u32]) {
+    let Ok((words, _)) = families::read_sized(numbers) else { return };
+    if words.len() < 2 {
+        return;
+    }
+    let at = 2 + edge_of(rng, words.len() - 1);
+    match rng.below(4) {
+        0 | 1 => numbers[at] = numbers[at - 1],
+        2 => numbers.swap(at, at - 1),
+        _ => numbers[at] = rng.pick(&[0, numbers[at - 1].saturating_sub(1)]),
+    }
+}
+
+/// Refusals 1, 3 and 13 are about a size and a length alike: all are wrong in the same ways.
 fn damage_size(rng: &mut Rng, numbers: &mut Vec<u32>) {
     let size = numbers.first().copied().unwrap_or(0);
     match rng.below(8) {
@@ -1796,6 +2072,27 @@ fn damage_occurs(rng: &mut Rng, case: &mut Case) {
 }
 
 // What is lent
+
+/// A table for a case that was made without one: mostly the empty one, else a few words that the case uses, in one family or
+/// several; now and then a damaged one.
+fn lend_families(rng: &mut Rng, case: &mut Case) {
+    let roll = rng.below(36);
+    if roll > 12 {
+        return;
+    }
+    let mut words: Vec<u32> = section::read_sized(&case.section).map_or(vec![], |section| section.words);
+    words.extend(codes_of(&case.selection).iter().filter(|code| code.kind == 0).map(|code| code.operand));
+    words.sort();
+    words.dedup();
+    words.retain(|word| *word != FILLER && rng.chance(3, 4));
+    words.extend([rng.below(9) as u32, rng.pick(&[0, 5, FILLER, 1 << 16, u32::MAX])]);
+    let numbers = family_numbers(rng, &words);
+    let several = rng.from_to(1, numbers.len());
+    case.families = table(words, |_| numbers[rng.below(several)]).numbers();
+    if roll > 11 {
+        damage_families(rng, &mut case.families);
+    }
+}
 
 /// Lengths of both memories, mostly right, and the noise in the buffer.
 fn lend(rng: &mut Rng, case: &mut Case) {

@@ -1,8 +1,9 @@
-//! "The lists": every rule of the paper, and request F-3's occurs, as a function from lists to a list, with no limit on
-//! anything.
+//! "The lists": every rule of the paper, request F-3's occurs and F-6's families, as a function from lists to a list, with no
+//! limit on anything.
 //!
 //! "L is the left list, R the right."
 
+use crate::families::Searched;
 use crate::section::Section;
 use crate::selection::Unit;
 
@@ -48,19 +49,25 @@ pub fn is_yes(list: &[Match]) -> bool {
 }
 
 /// "Phrase: one match per start where the k words stand in a row, ascending, holding one contiguous include. Its query
-/// position is its rank among the kind-1 codes, from 1."
-pub fn phrase(section: &Section, words: &[u32], query: u32) -> AllMatches {
+/// position is its rank among the kind-1 codes, from 1." Since request F-6 "a phrase fits where each word equals its token
+/// or both are in the table with the same family."
+pub fn phrase(searched: &Searched, words: &[u32], query: u32) -> AllMatches {
     let length = words.len() as u32;
-    section
+    searched
         .words
         .windows(words.len())
         .zip(1..)
-        .filter(|(row, _)| *row == words)
+        .filter(|(row, _)| fits(searched, words, row))
         .map(|(_, start)| Match {
             includes: vec![Str { start, end: start + length - 1, query, contiguous: true }],
             excludes: vec![],
         })
         .collect()
+}
+
+/// Does each word of a phrase fit the token in its place?
+pub fn fits(searched: &Searched, words: &[u32], row: &[u32]) -> bool {
+    words.iter().zip(row).all(|(word, token)| searched.families.fits(*word, *token))
 }
 
 /// "Or: L's matches, then R's."

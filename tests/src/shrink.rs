@@ -1,5 +1,6 @@
 //! A failing case made smaller, and printed as a test.
 
+use crate::families::{self, Families, EMPTY};
 use crate::gen::Case;
 use crate::section::{self, Section};
 use crate::selection::{self, Code, Filter, Occurs, Rule, Tree};
@@ -32,10 +33,12 @@ pub fn shrink(case: &Case, fails: &dyn Fn(&Case) -> bool) -> Case {
 /// What is to fall: the length of all, then how odd the lent memory is, then the tokens in headings, then the numbers
 /// themselves.
 fn measure(case: &Case) -> (usize, usize, usize, usize, u128) {
-    let numbers = case.section.iter().chain(&case.selection).map(|&number| u128::from(number)).sum();
+    let lent = [&case.section, &case.families, &case.selection];
+    let numbers = lent.iter().flat_map(|list| list.iter()).map(|&number| u128::from(number)).sum();
+    let length = lent.iter().map(|list| list.len()).sum();
     let odd_lengths = case.work_len.abs_diff(WORK) + case.buffer.len().abs_diff(BUFFER);
     let noise = case.buffer.iter().filter(|&&number| number != 0).count();
-    (case.section.len() + case.selection.len(), odd_lengths, noise, in_headings(&case.section), numbers)
+    (length, odd_lengths, noise, in_headings(&case.section), numbers)
 }
 
 /// How many tokens have no sentence where others have one.
@@ -51,6 +54,7 @@ fn in_headings(section: &[u32]) -> usize {
 fn changes(case: &Case) -> impl Iterator<Item = Case> + '_ {
     let lent = changed_memory(case).into_iter();
     let with_section = |section| Case { section, ..case.clone() };
+    let with_families = |families| Case { families, ..case.clone() };
     let with_selection = |selection| Case { selection, ..case.clone() };
     let sections: Box<dyn Iterator<Item = Vec<u32>>> = match section::read(&case.section) {
         Ok(section) => Box::new(changed_sections(section)),
@@ -63,7 +67,8 @@ fn changes(case: &Case) -> impl Iterator<Item = Case> + '_ {
         Err(_) => Box::new(without_pairs(&case.selection).chain(changed_numbers(&case.selection))),
     };
     let renamed = renamed_words(case).into_iter();
-    lent.chain(selections.map(with_selection)).chain(sections.map(with_section)).chain(renamed)
+    let tables = changed_tables(&case.families).map(with_families);
+    lent.chain(tables).chain(selections.map(with_selection)).chain(sections.map(with_section)).chain(renamed)
 }
 
 fn changed_memory(case: &Case) -> Vec<Case> {
@@ -154,6 +159,32 @@ fn filled_headings(sentences: &[u32], row: std::ops::Range<usize>) -> Option<Vec
     (changed != sentences).then_some(changed)
 }
 
+/// The empty table; fewer entries; then lower family numbers, or of a table that is refused any lower numbers.
+fn changed_tables(numbers: &[u32]) -> impl Iterator<Item = Vec<u32>> + '_ {
+    let lower: Box<dyn Iterator<Item = Vec<u32>>> = match families::read(numbers) {
+        Ok(table) => Box::new(lower_families(&table).into_iter().map(|table| table.numbers())),
+        Err(_) => Box::new(changed_numbers(numbers)),
+    };
+    [EMPTY.to_vec()].into_iter().chain(without_pairs(numbers)).chain(lower)
+}
+
+/// The families numbered from 0 on; one entry in a family of a lower number.
+fn lower_families(table: &Families) -> Vec<Families> {
+    let mut numbers: Vec<u32> = table.0.values().copied().collect();
+    numbers.sort();
+    numbers.dedup();
+    let rank = |family: &u32| numbers.binary_search(family).expect("a family of the table") as u32;
+    let mut list = vec![Families(table.0.iter().map(|(word, family)| (*word, rank(family))).collect())];
+    for (word, family) in &table.0 {
+        list.extend(lower(*family).into_iter().map(|family| {
+            let mut changed = table.clone();
+            changed.0.insert(*word, family);
+            changed
+        }));
+    }
+    list
+}
+
 /// Every part of a tree but the whole of it.
 fn parts(tree: &Tree) -> Vec<Tree> {
     let below = tree.below.iter().flat_map(parts);
@@ -208,14 +239,17 @@ fn lower(number: u32) -> Vec<u32> {
     list
 }
 
-/// Every word number by a smaller one, in section and selection alike.
+/// Every word number by a smaller one, in section, table and selection alike.
 fn renamed_words(case: &Case) -> Vec<Case> {
-    let (Ok(section), Ok(tree)) = (section::read_sized(&case.section), selection::read(&case.selection)) else {
+    let (Ok(section), Ok(table), Ok(tree)) =
+        (section::read_sized(&case.section), families::read(&case.families), selection::read(&case.selection))
+    else {
         return vec![];
     };
     let codes = tree.codes();
     let of_selection = codes.iter().filter(|code| code.kind == 0).map(|code| code.operand);
-    let mut words: Vec<u32> = section.words.iter().copied().chain(of_selection).collect();
+    let others = of_selection.chain(table.0.keys().copied());
+    let mut words: Vec<u32> = section.words.iter().copied().chain(others).collect();
     words.sort();
     words.dedup();
     let mut list = vec![];
@@ -228,14 +262,16 @@ fn renamed_words(case: &Case) -> Vec<Case> {
                 .iter()
                 .map(|code| if code.kind == 0 { Code { operand: rename(code.operand), ..*code } } else { *code })
                 .collect();
-            list.push(Case { section: renamed.numbers(), selection: selection::numbers(&codes), ..case.clone() });
+            let families = Families(table.0.iter().map(|(&word, &family)| (rename(word), family)).collect()).numbers();
+            let selection = selection::numbers(&codes);
+            list.push(Case { section: renamed.numbers(), families, selection, ..case.clone() });
         }
     }
     list
 }
 
-/// A section or a selection that fails the checks, with some tokens or codes fewer, if its length is right: both are "a
-/// size first, then two parallel arrays."
+/// A section, a table or a selection with some tokens, entries or codes fewer, if its length is right: each is "a size first,
+/// then two parallel arrays."
 fn without_pairs(numbers: &[u32]) -> impl Iterator<Item = Vec<u32>> + '_ {
     let size = numbers.first().map_or(0, |&size| size as usize);
     let size = if numbers.len() == 1 + 2 * size { size } else { 0 };
@@ -272,6 +308,7 @@ pub fn as_rust(case: &Case, name: &str) -> String {
         Ok(tree) => tree.to_string(),
         Err(refusal) => format!("{refusal:?}"),
     };
+    let families = as_table(&case.families);
     let buffer = match case.buffer.iter().find(|&&number| number != 0) {
         None => format!("vec![0; {}]", case.buffer.len()),
         Some(_) => format!("vec!{:?}", case.buffer),
@@ -280,9 +317,11 @@ pub fn as_rust(case: &Case, name: &str) -> String {
         "#[test]
 fn {name}() {{
     // section: {section}
+    // families: {families}
     // selection: {selection}
     let case = Case {{
         section: vec!{:?},
+        families: vec!{:?},
         selection: vec!{:?},
         work_len: {},
         buffer: {buffer},
@@ -290,8 +329,16 @@ fn {name}() {{
     compare(&engine(), &case).unwrap();
 }}
 ",
-        case.section, case.selection, case.work_len
+        case.section, case.families, case.selection, case.work_len
     )
+}
+
+/// For people: the families of the words.
+fn as_table(numbers: &[u32]) -> String {
+    match families::read(numbers) {
+        Ok(table) => format!("{:?}", table.0),
+        Err(refusal) => format!("{refusal:?}"),
+    }
 }
 
 // Typed cases
@@ -314,15 +361,22 @@ pub fn shrink_typed(case: &TypedCase, fails: &dyn Fn(&TypedCase) -> bool) -> Typ
     }
 }
 
-/// What is to fall: the text's length, the section's, how odd the lent memory is, the noise in it, the tokens in headings,
+/// What is to fall: the text's length, the section's and the table's, how odd the lent memory is, the noise in it, the tokens in headings,
 /// what a byte is.
 fn measure_typed(case: &TypedCase) -> (usize, usize, usize, usize, usize, u128) {
     let odd_lengths =
         case.work_len.abs_diff(WORK) + case.buffer.len().abs_diff(BUFFER) + case.selection.len().abs_diff(SELECTION);
     let noise = case.buffer.iter().chain(&case.selection).filter(|&&number| number != 0).count();
     let bytes: u128 = case.text.iter().map(|&byte| u128::from(oddness(byte))).sum();
-    let numbers: u128 = case.section.iter().map(|&number| u128::from(number)).sum();
-    (case.text.len(), case.section.len(), odd_lengths, noise, in_headings(&case.section), bytes + numbers)
+    let numbers: u128 = case.section.iter().chain(&case.families).map(|&number| u128::from(number)).sum();
+    (
+        case.text.len(),
+        case.section.len() + case.families.len(),
+        odd_lengths,
+        noise,
+        in_headings(&case.section),
+        bytes + numbers,
+    )
 }
 
 /// Digits are the plainest bytes, 1 of them the plainest; then those that a text may have.
@@ -338,6 +392,7 @@ fn oddness(byte: u8) -> u32 {
 fn typed_changes(case: &TypedCase) -> impl Iterator<Item = TypedCase> + '_ {
     let with_text = |text| TypedCase { text, ..case.clone() };
     let with_section = |section| TypedCase { section, ..case.clone() };
+    let with_families = |families| TypedCase { families, ..case.clone() };
     let sections: Box<dyn Iterator<Item = Vec<u32>>> = match section::read(&case.section) {
         Ok(section) => Box::new([vec![0]].into_iter().chain(changed_sections(section))),
         Err(_) => {
@@ -352,7 +407,8 @@ fn typed_changes(case: &TypedCase) -> impl Iterator<Item = TypedCase> + '_ {
         TypedCase { selection: vec![0; case.selection.len()], ..case.clone() },
     ];
     let lent = lent.into_iter();
-    lent.chain(changed_texts(&case.text).map(with_text)).chain(sections.map(with_section))
+    let tables = changed_tables(&case.families).map(with_families);
+    lent.chain(tables).chain(changed_texts(&case.text).map(with_text)).chain(sections.map(with_section))
 }
 
 /// Fewer tokens, fewer bytes, parentheses or what they hold left out, plainer bytes.
@@ -427,9 +483,11 @@ pub fn typed_as_rust(case: &TypedCase, name: &str) -> String {
         "#[test]
 fn {name}() {{
     // the text is read as {read}
+    // families: {}
     let case = TypedCase {{
         text: {},
         section: vec!{:?},
+        families: vec!{:?},
         work_len: {},
         buffer: {},
         selection: {},
@@ -437,8 +495,10 @@ fn {name}() {{
     compare_typed(&engine(), &case).unwrap();
 }}
 ",
+        as_table(&case.families),
         byte_string(&case.text),
         case.section,
+        case.families,
         case.work_len,
         memory(&case.buffer),
         memory(&case.selection)

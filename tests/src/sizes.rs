@@ -4,8 +4,8 @@
 //! Nothing here says what a list holds: that is in [`crate::rules`], and the tests hold these numbers to the lists made
 //! there. All arithmetic stops at the top of u128, far above every limit; a zero factor still gives zero.
 
+use crate::families::Searched;
 use crate::rules::{self, Match, Str};
-use crate::section::Section;
 
 /// The size of a list: its matches, and the strings of them all.
 #[derive(Clone, Copy, Debug, PartialEq, Eq)]
@@ -42,8 +42,9 @@ impl Size {
 }
 
 /// A phrase: one match of one string per start.
-pub fn phrase(section: &Section, words: &[u32]) -> Size {
-    let starts = section.words.windows(words.len()).filter(|row| *row == words).count() as u128;
+pub fn phrase(searched: &Searched, words: &[u32]) -> Size {
+    let rows = searched.words.windows(words.len());
+    let starts = rows.filter(|row| rules::fits(searched, words, row)).count() as u128;
     Size { matches: starts, strings: starts }
 }
 
@@ -161,10 +162,12 @@ pub fn from_to(finds: usize, a: u32, b: u32) -> Size {
 #[cfg(test)]
 mod tests {
     use super::*;
-    use crate::engine::RuleBook;
+    use crate::engine::{self, RuleBook};
     use crate::gen::{self, Rng};
     use crate::rules::AllMatches;
+    use crate::section::Section;
     use crate::selection::{self, Tree};
+    use crate::WORK;
 
     /// Any list, also such that no selection gives.
     fn random_list(rng: &mut Rng, matches: usize, strings: usize) -> AllMatches {
@@ -331,7 +334,7 @@ mod tests {
     }
 
     /// Every list of a selection, as far as it can be made, against what was counted before.
-    fn check_tree(section: &Section, tree: &Tree, checked: &mut usize) -> Option<AllMatches> {
+    fn check_tree(section: &Searched, tree: &Tree, checked: &mut usize) -> Option<AllMatches> {
         let below: Option<Vec<AllMatches>> = tree.below.iter().map(|side| check_tree(section, side, checked)).collect();
         let below = below?;
         let below: Vec<&[Match]> = below.iter().map(Vec::as_slice).collect();
@@ -348,7 +351,7 @@ mod tests {
     fn counted_as_made_in_random_cases() {
         let mut checked = 0;
         for case in gen::cases(13, 2_000) {
-            if let (Ok(section), Ok(tree)) = (crate::section::read(&case.section), selection::read(&case.selection)) {
+            if let Ok((section, tree)) = engine::check(&case.section, &case.families, &case.selection, WORK, None) {
                 check_tree(&section, &tree, &mut checked);
             }
         }

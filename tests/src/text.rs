@@ -1,6 +1,7 @@
 //! What the program `ftlist` prints, from the bytes it reads.
 
 use crate::engine::SecondEngine;
+use crate::families::EMPTY;
 use crate::rules::{self, Match, Str};
 use crate::sizes::Size;
 use crate::{Refusal, BUFFER, WORK};
@@ -11,7 +12,7 @@ pub const MOST_BYTES: usize = 65_536;
 /// "Program `ftlist` reads little-endian u32 from standard input, the section's 1 + 2n numbers (all, if fewer) and then
 /// the selection. Over 65,536 bytes, or a count not divisible by 4, prints `refused 1 0`; any refusal prints `refused`,
 /// number, place." (Readings: the count is of bytes; n is the first number whatever its size; each line ends with a
-/// newline.)
+/// newline.) Request F-6: "An empty table (`ftlist` lends one)".
 pub fn ftlist(input: &[u8]) -> String {
     match list(input) {
         Err(Refusal { number, place }) => format!("refused {number} {place}\n"),
@@ -30,7 +31,7 @@ fn list(input: &[u8]) -> Result<Vec<Match>, Refusal> {
         Some(&n) => numbers.len().min(1 + 2 * n as usize),
     };
     let (section, selection) = numbers.split_at(length);
-    SecondEngine::new().list(section, selection, WORK, BUFFER)
+    SecondEngine::new().list(section, &EMPTY, selection, WORK, BUFFER)
 }
 
 /// "First the answer, M, S; then a line a match: + include or ! exclude, span, query position, c contiguous or n not,

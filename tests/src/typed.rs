@@ -352,18 +352,25 @@ impl Reader {
 
     /// "What a typed search answers is what its codes answer", the errors of the text "all before document 01's
     /// refusals".
-    pub fn listing(&self, section: &[u32], text: &[u8], work_len: usize, buffer: &mut [u32]) -> Listing {
+    pub fn listing(
+        &self,
+        section: &[u32],
+        families: &[u32],
+        text: &[u8],
+        work_len: usize,
+        buffer: &mut [u32],
+    ) -> Listing {
         match self.read(text) {
             Err(Refusal { number, place }) => Listing::Refused { number, place },
-            Ok(codes) => SecondEngine::new().listing(section, &numbers(&codes), work_len, buffer),
+            Ok(codes) => SecondEngine::new().listing(section, families, &numbers(&codes), work_len, buffer),
         }
     }
 
     /// The quick answer of a typed search.
-    pub fn quick(&self, section: &[u32], text: &[u8], work_len: usize) -> Quick {
+    pub fn quick(&self, section: &[u32], families: &[u32], text: &[u8], work_len: usize) -> Quick {
         match self.read(text) {
             Err(Refusal { number, place }) => Quick::Refused { number, place },
-            Ok(codes) => SecondEngine::new().quick(section, &numbers(&codes), work_len),
+            Ok(codes) => SecondEngine::new().quick(section, families, &numbers(&codes), work_len),
         }
     }
 }
@@ -489,13 +496,13 @@ pub fn read_selection(text: &[u8], selection: &mut [u32]) -> Result<u32, Refusal
 }
 
 /// The full listing of a typed search.
-pub fn typed_listing(section: &[u32], text: &[u8], work_len: usize, buffer: &mut [u32]) -> Listing {
-    paper().listing(section, text, work_len, buffer)
+pub fn typed_listing(section: &[u32], families: &[u32], text: &[u8], work_len: usize, buffer: &mut [u32]) -> Listing {
+    paper().listing(section, families, text, work_len, buffer)
 }
 
 /// The quick answer of a typed search.
-pub fn typed_quick(section: &[u32], text: &[u8], work_len: usize) -> Quick {
-    paper().quick(section, text, work_len)
+pub fn typed_quick(section: &[u32], families: &[u32], text: &[u8], work_len: usize) -> Quick {
+    paper().quick(section, families, text, work_len)
 }
 
 /// Do these tokens begin some selection? Whatever is wrong with the text is then that it ends here.

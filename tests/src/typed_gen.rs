@@ -14,6 +14,7 @@ use crate::typed::{self, Form, MOST_BYTES, SELECTION};
 pub struct TypedCase {
     pub text: Vec<u8>,
     pub section: Vec<u32>,
+    pub families: Vec<u32>,
     pub work_len: usize,
     pub buffer: Vec<u32>,
     pub selection: Vec<u32>,
@@ -26,13 +27,13 @@ pub fn typed_cases(seed: u64, count: usize) -> impl Iterator<Item = TypedCase> {
 
 /// One typed case of a seed.
 pub fn typed_case(seed: u64, index: usize) -> TypedCase {
-    let gen::Case { section, selection, work_len, buffer } = gen::case(seed, index);
+    let gen::Case { section, families, selection, work_len, buffer } = gen::case(seed, index);
     let mut rng = Rng::new(seed.rotate_left(32), index as u64);
     let tree = selection::read_shape(&selection).ok();
     let text = any_text(&mut rng, tree.as_ref());
     let lent = rng.pick(&[SELECTION, SELECTION, SELECTION, SELECTION + 1, SELECTION - 1, 200, 5, 0]);
     let selection = (0..lent).map(|_| rng.number()).collect();
-    TypedCase { text, section, work_len, buffer, selection }
+    TypedCase { text, section, families, work_len, buffer, selection }
 }
 
 fn any_text(rng: &mut Rng, tree: Option<&Tree>) -> Vec<u8> {

@@ -8,7 +8,7 @@ mod proved;
 mod words;
 
 use proved::Proved;
-use second_engine::{hunt, hunt_filters, hunt_headings, hunt_occurs, Engine, Hunt};
+use second_engine::{hunt, hunt_families, hunt_filters, hunt_headings, hunt_occurs, Engine, Hunt};
 use std::time::Instant;
 
 fn engine() -> impl Engine {
@@ -18,6 +18,7 @@ fn engine() -> impl Engine {
 const OCCURS: u64 = 212_000;
 const FILTERS: u64 = 6_000;
 const HEADINGS: u64 = 40_000;
+const FAMILIES: u64 = 40_000;
 
 /// One half of a seed's cases, on which the engines have to agree: so many in release, fewer without optimisation; or as the environment says:
 /// `CASES=1000000 SEED=7 cargo test ...`.
@@ -75,4 +76,15 @@ fn random_cases_with_headings() {
 #[test]
 fn more_random_cases_with_headings() {
     agree(hunt_headings, "cases made with headings", HEADINGS, 1);
+}
+
+/// Family tables by which the phrases are found, in most of them under filters and nots; some are damaged.
+#[test]
+fn random_cases_with_families() {
+    agree(hunt_families, "cases made with families", FAMILIES, 0);
+}
+
+#[test]
+fn more_random_cases_with_families() {
+    agree(hunt_families, "cases made with families", FAMILIES, 1);
 }

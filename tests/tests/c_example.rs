@@ -9,6 +9,13 @@ typed listing: yes, 4 matches, 4 strings
   at 1 to 2
   at 2 to 4
   at 4 to 6
+typed listing, with a family: yes, 6 matches, 6 strings
+  at 1 to 2
+  at 1 to 2
+  at 2 to 4
+  at 4 to 5
+  at 4 to 5
+  at 4 to 6
 listing: yes, 4 matches, 4 strings
   at 1 to 2
   at 1 to 2

@@ -2,7 +2,10 @@
 //!
 //! `cargo test --release --test mutants -- --nocapture` prints how many cases each took, and the smallest case found.
 
+mod wrong_families;
+
 use second_engine::engine::{check, RuleBook};
+use second_engine::families;
 use second_engine::rules::{self, agree, join, span_distance, units, Str};
 use second_engine::section::{self, Section};
 use second_engine::selection::{self, Code, Filter, Occurs, Rule, Tree, Unit};
@@ -10,8 +13,9 @@ use second_engine::shrink::{as_rust, shrink, shrink_typed, typed_as_rust};
 use second_engine::sizes::{self, Limits, Size};
 use second_engine::typed::{self, Act, Form, Move, Operator, Pair, Reader, Sign, Sort, State, Token};
 use second_engine::{
-    cases, compare, compare_typed, engine, filter_cases, heading_cases, hunt_typed, occurs_cases, typed_cases,
-    AllMatches, Case, Engine, Listing, Match, Quick, Refusal, SecondEngine, TypedCase, BUFFER, WORK,
+    cases, compare, compare_typed, engine, family_cases, filter_cases, heading_cases, hunt_typed, occurs_cases,
+    typed_cases, AllMatches, Case, Engine, Listing, Match, Quick, Refusal, Searched, SecondEngine, TypedCase, BUFFER,
+    EMPTY, WORK,
 };
 use std::slice::from_ref;
 
@@ -26,6 +30,9 @@ const MOST_FILTERS: usize = 1_000;
 
 /// And within how many whose sections have headings each mistake about those.
 const MOST_HEADINGS: usize = 2_000;
+
+/// And within how many made with a family table each mistake about those.
+const MOST_FAMILIES: usize = 4_000;
 
 #[test]
 fn every_mistake_is_found() {
@@ -49,6 +56,12 @@ fn every_mistake_about_filters_is_found() {
 fn every_mistake_about_headings_is_found() {
     println!("cases with headings  mistake");
     all_are_found(all_about_headings(), || heading_cases(1, MOST_HEADINGS));
+}
+
+#[test]
+fn every_mistake_about_families_is_found() {
+    println!("cases with families  mistake");
+    all_are_found(wrong_families::all(), || family_cases(1, MOST_FAMILIES));
 }
 
 /// Some case finds each of the mistakes.
@@ -79,7 +92,8 @@ fn found_cases_shrink() {
         let small = shrink(&case, &fails);
         assert!(fails(&small), "{name}");
         compare(&right, &small).unwrap();
-        let (before, after) = (case.section.len() + case.selection.len(), small.section.len() + small.selection.len());
+        let length = |case: &Case| case.section.len() + case.families.len() + case.selection.len();
+        let (before, after) = (length(&case), length(&small));
         assert!(after <= before);
         println!("{name}: {before} numbers, then {after}; {}", compare(&*mutant, &small).unwrap_err());
         let test = as_rust(&small, "found");
@@ -170,6 +184,28 @@ fn shrunk_headings_are_small() {
     assert_eq!(neighbour.selection, [3, 0, 1, 9, 0, 1, 0]);
 }
 
+/// So are those of families.
+#[test]
+fn shrunk_families_are_small() {
+    let shrunk = |wanted: &str| {
+        let (_, mutant) = wrong_families::all().into_iter().find(|(name, _)| *name == wanted).unwrap();
+        let fails = |case: &Case| compare(&*mutant, case).is_err();
+        let case = family_cases(5, MOST_FAMILIES).find(|case| fails(case)).unwrap();
+        shrink(&case, &fails)
+    };
+    // one token, and another word of its family
+    let by_words = shrunk("families: only equal words fit");
+    assert!([[1, 0, 0], [1, 1, 0]].contains(&by_words.section[..].try_into().unwrap()));
+    assert_eq!(by_words.families, [2, 0, 1, 0, 0]);
+    assert_eq!(by_words.selection, [2, 0, 1, 1 - by_words.section[1], 1]);
+    // two entries of one word
+    let equal = shrunk("table: equal words accepted");
+    assert_eq!((&equal.section[..], &equal.families[..]), (&[0][..], &[2, 0, 0, 0, 0][..]));
+    // no entry at all
+    assert_eq!(shrunk("table: of no entries refused").families, [0]);
+    assert_eq!(shrunk("table: of no numbers accepted").families, [0; 0]);
+}
+
 /// Engines with one mistake each, by name.
 struct Mutants(Vec<(&'static str, Box<dyn Engine>)>);
 
@@ -184,6 +220,7 @@ fn all() -> Vec<(&'static str, Box<dyn Engine>)> {
     mutants_of_the_way_out(&mut list);
     mutants_of_freed_lists(&mut list);
     mutants_of_faults(&mut list);
+    wrong_families::mutants_of_searches(&mut list);
     list.0
 }
 
@@ -221,6 +258,11 @@ impl Mutants {
     /// The second engine with one other rule.
     fn book(&mut self, name: &'static str, change: impl Fn(&mut RuleBook)) {
         self.engine(name, with(change));
+    }
+
+    /// The second engine with another rule for phrases.
+    fn phrase(&mut self, name: &'static str, phrase: PhraseRule) {
+        self.book(name, |book| book.phrase = phrase);
     }
 
     fn listing(&mut self, name: &'static str, listing: ListingCall) {
@@ -264,10 +306,17 @@ impl Mutants {
         self.engine(name, Checks { repair_section, ..right_checks() });
     }
 
+    fn repairing_families(&mut self, name: &'static str, repair_families: Repair) {
+        self.engine(name, Checks { repair_families, ..right_checks() });
+    }
+
     fn repairing_selection(&mut self, name: &'static str, repair_selection: Repair) {
         self.engine(name, Checks { repair_selection, ..right_checks() });
     }
 }
+
+/// The finds of some words, at a query position.
+type PhraseRule = fn(&Searched, &[u32], u32) -> AllMatches;
 
 fn with(change: impl Fn(&mut RuleBook)) -> SecondEngine {
     let mut book = RuleBook::paper();
@@ -316,7 +365,8 @@ fn mutants_of_rules(list: &mut Mutants) {
     list.book("phrase: words compared by 16 bits", |book| {
         book.phrase = |section, words, query| {
             let low = |words: &[u32]| words.iter().map(|word| word & 0xFFFF).collect::<Vec<u32>>();
-            rules::phrase(&Section { words: low(&section.words), ..section.clone() }, &low(words), query)
+            let low_section = Section { words: low(&section.words), ..section.section.clone() };
+            rules::phrase(&section.with(low_section), &low(words), query)
         }
     });
     list.book("or: right before left", |book| book.or = |left, right| rules::or(right, left));
@@ -1031,7 +1081,7 @@ fn mutants_of_from_to(list: &mut Mutants) {
 type Walked = Result<(bool, usize), Refusal>;
 
 /// The right walk down to where it ends, and there another.
-fn walk_down(end: &dyn Fn(&Section, &Tree) -> Walked, section: &Section, tree: &Tree) -> Walked {
+fn walk_down(end: &dyn Fn(&Searched, &Tree) -> Walked, section: &Searched, tree: &Tree) -> Walked {
     let decisive = tree.rule == Rule::Or;
     match (&tree.rule, &tree.below[..]) {
         (Rule::Not, [side]) => walk_down(end, section, side).map(|(yes, codes)| (!yes, 1 + codes)),
@@ -1044,10 +1094,10 @@ fn walk_down(end: &dyn Fn(&Section, &Tree) -> Walked, section: &Section, tree: &
 }
 
 /// What a walk does with an occurs itself, and the right one with all else.
-type WalkOccurs = fn(&Section, &Tree, Occurs) -> Walked;
+type WalkOccurs = fn(&Searched, &Tree, Occurs) -> Walked;
 
-fn walk_occurs(at: WalkOccurs, section: &Section, tree: &Tree) -> Walked {
-    let end = |section: &Section, tree: &Tree| match tree.rule {
+fn walk_occurs(at: WalkOccurs, section: &Searched, tree: &Tree) -> Walked {
+    let end = |section: &Searched, tree: &Tree| match tree.rule {
         Rule::Occurs(occurs) => at(section, tree, occurs),
         _ => RuleBook::paper().walk(section, tree),
     };
@@ -1055,13 +1105,13 @@ fn walk_occurs(at: WalkOccurs, section: &Section, tree: &Tree) -> Walked {
 }
 
 /// How many finds the phrase under an occurs has.
-fn finds(section: &Section, occurs: &Tree) -> usize {
+fn finds(section: &Searched, occurs: &Tree) -> usize {
     let Rule::Phrase { words, query } = &occurs.below[0].rule else { panic!("an occurs is over a phrase") };
     rules::phrase(section, words, *query).len()
 }
 
 /// Yes or no by the number of finds alone.
-fn by_counting(section: &Section, tree: &Tree, occurs: Occurs) -> bool {
+fn by_counting(section: &Searched, tree: &Tree, occurs: Occurs) -> bool {
     let finds = finds(section, tree) as u32;
     match occurs {
         Occurs::AtLeast(a) => finds >= a,
@@ -1070,13 +1120,13 @@ fn by_counting(section: &Section, tree: &Tree, occurs: Occurs) -> bool {
 }
 
 fn mutants_of_occurs_calls(list: &mut Mutants) {
-    list.quick("quick: an occurs by counting, nothing measured", |section, selection, work| {
-        walked(section, selection, work, |section, tree| {
+    list.quick("quick: an occurs by counting, nothing measured", |section, families, selection, work| {
+        walked(section, families, selection, work, |section, tree| {
             walk_occurs(|section, tree, occurs| Ok((by_counting(section, tree, occurs), 2)), section, tree)
         })
     });
-    list.quick("quick: an occurs by counting, the phrase measured", |section, selection, work| {
-        walked(section, selection, work, |section, tree| {
+    list.quick("quick: an occurs by counting, the phrase measured", |section, families, selection, work| {
+        walked(section, families, selection, work, |section, tree| {
             let counted: WalkOccurs = |section, tree, occurs| {
                 RuleBook::paper().build(section, &tree.below[0])?;
                 Ok((by_counting(section, tree, occurs), 2))
@@ -1084,8 +1134,8 @@ fn mutants_of_occurs_calls(list: &mut Mutants) {
             walk_occurs(counted, section, tree)
         })
     });
-    list.quick("quick: the phrase of an occurs isn't measured", |section, selection, work| {
-        walked(section, selection, work, |section, tree| {
+    list.quick("quick: the phrase of an occurs isn't measured", |section, families, selection, work| {
+        walked(section, families, selection, work, |section, tree| {
             let at_the_occurs: WalkOccurs = |section, tree, _| match finds(section, tree) {
                 0..=256 => RuleBook::paper().walk(section, tree),
                 _ => Err(Refusal::new(9, tree.place)),
@@ -1093,20 +1143,20 @@ fn mutants_of_occurs_calls(list: &mut Mutants) {
             walk_occurs(at_the_occurs, section, tree)
         })
     });
-    list.quick("quick: the phrase of an occurs isn't counted", |section, selection, work| {
-        walked(section, selection, work, |section, tree| {
+    list.quick("quick: the phrase of an occurs isn't counted", |section, families, selection, work| {
+        walked(section, families, selection, work, |section, tree| {
             let one: WalkOccurs = |section, tree, _| Ok((RuleBook::paper().walk(section, tree)?.0, 1));
             walk_occurs(one, section, tree)
         })
     });
-    list.quick("quick: an occurs is yes if its list isn't empty", |section, selection, work| {
-        walked(section, selection, work, |section, tree| {
+    list.quick("quick: an occurs is yes if its list isn't empty", |section, families, selection, work| {
+        walked(section, families, selection, work, |section, tree| {
             let filled: WalkOccurs = |section, tree, _| Ok((!RuleBook::paper().build(section, tree)?.is_empty(), 2));
             walk_occurs(filled, section, tree)
         })
     });
-    list.listing("listing: the phrase of an occurs isn't measured", |section, selection, work, buffer| {
-        match engine::listing(section, selection, work, buffer) {
+    list.listing("listing: the phrase of an occurs isn't measured", |section, families, selection, work, buffer| {
+        match engine::listing(section, families, selection, work, buffer) {
             Listing::Refused { number: 9, place } => {
                 let above = kinds_and_operands(selection).find(|(at, _, _)| *at == place as usize + 1);
                 let below = selection[place as usize] == 1 && above.is_some_and(|(_, kind, _)| is_occurs(kind));
@@ -1149,8 +1199,12 @@ fn not_over_a_phrase(selection: &[u32]) -> Vec<usize> {
 }
 
 fn mutants_of_occurs_checks(list: &mut Mutants) {
-    list.refusing("checks: kind 16 unknown", |section, selection, _, _| unknown(section, selection, 16));
-    list.refusing("checks: kind 17 unknown", |section, selection, _, _| unknown(section, selection, 17));
+    list.refusing("checks: kind 16 unknown", |section, families, selection, _, _| {
+        unknown(section, families, selection, 16)
+    });
+    list.refusing("checks: kind 17 unknown", |section, families, selection, _, _| {
+        unknown(section, families, selection, 17)
+    });
     list.repairing_selection("checks: kind 18 known", |selection| {
         with_codes(selection, |code, _| if code.kind == 18 { Code { kind: 6, operand: 0 } } else { code })
     });
@@ -1160,11 +1214,11 @@ fn mutants_of_occurs_checks(list: &mut Mutants) {
             _ => code,
         })
     });
-    list.refusing("checks: at least 4,095 refused", |section, selection, _, _| {
-        refused_operand(section, selection, |kind, operand| kind == 17 && operand == 4_095)
+    list.refusing("checks: at least 4,095 refused", |section, families, selection, _, _| {
+        refused_operand(section, families, selection, |kind, operand| kind == 17 && operand == 4_095)
     });
-    list.refusing("checks: at least 0 refused", |section, selection, _, _| {
-        refused_operand(section, selection, |kind, operand| kind == 17 && operand == 0)
+    list.refusing("checks: at least 0 refused", |section, families, selection, _, _| {
+        refused_operand(section, families, selection, |kind, operand| kind == 17 && operand == 0)
     });
     list.repairing_selection("checks: at least by 16 bits", |selection| {
         with_codes(selection, |code, _| match code.kind {
@@ -1178,8 +1232,8 @@ fn mutants_of_occurs_checks(list: &mut Mutants) {
             _ => code,
         })
     });
-    list.refusing("checks: occurs to 4,095 refused", |section, selection, _, _| {
-        refused_operand(section, selection, |kind, operand| kind == 16 && operand & 0xFFFF == 4_095)
+    list.refusing("checks: occurs to 4,095 refused", |section, families, selection, _, _| {
+        refused_operand(section, families, selection, |kind, operand| kind == 16 && operand & 0xFFFF == 4_095)
     });
     list.repairing_selection("checks: occurs a > b accepted", |selection| {
         with_codes(selection, |code, _| match (code.kind, code.operand >> 16, code.operand & 0xFFFF) {
@@ -1187,8 +1241,8 @@ fn mutants_of_occurs_checks(list: &mut Mutants) {
             _ => code,
         })
     });
-    list.refusing("checks: occurs a = b refused", |section, selection, _, _| {
-        refused_operand(section, selection, |kind, operand| kind == 16 && operand >> 16 == operand & 0xFFFF)
+    list.refusing("checks: occurs a = b refused", |section, families, selection, _, _| {
+        refused_operand(section, families, selection, |kind, operand| kind == 16 && operand >> 16 == operand & 0xFFFF)
     });
     list.repairing_selection("checks: 12 not found", |selection| match selection::read(selection) {
         Err(Refusal { number: 12, .. }) => without_twelve(selection),
@@ -1206,39 +1260,51 @@ fn mutants_of_occurs_checks(list: &mut Mutants) {
             _ => code,
         })
     });
-    list.refusing("checks: an occurs over a phrase of one word only", |section, selection, _, _| {
-        if let Some((1..=6 | 12, _)) = refusal(section, selection) {
+    list.refusing("checks: an occurs over a phrase of one word only", |section, families, selection, _, _| {
+        if let Some((1..=6 | 12 | 13, _)) = refusal(section, families, selection) {
             return None;
         }
         let m = selection[0] as usize;
         let long = |at: usize| selection[at - 1] == 1 && selection[at - 1 + m] > 1;
         kinds_and_operands(selection).find(|(at, kind, _)| is_occurs(*kind) && long(*at)).map(|(at, _, _)| (12, at))
     });
-    list.refusing("checks: 12 at the last such code", |section, selection, _, _| match refusal(section, selection) {
-        Some((12, _)) => not_over_a_phrase(selection).last().map(|at| (12, *at)),
-        _ => None,
-    });
-    list.refusing("checks: 12 at the code below", |section, selection, _, _| match refusal(section, selection) {
-        Some((12, place)) => Some((12, place - 1)),
-        _ => None,
-    });
-    list.refusing("checks: 12 tried after 7", |section, selection, _, _| match refusal(section, selection) {
-        Some((12, _)) => refusal(section, &without_twelve(selection)).filter(|(number, _)| *number == 7),
-        _ => None,
-    });
-    list.refusing("checks: 12 tried after 8", |section, selection, work, buffer| match refusal(section, selection) {
-        Some((12, _)) if refusal(section, &without_twelve(selection)).is_none() => {
-            (work < WORK || buffer.is_some_and(|length| length < BUFFER)).then_some((8, 0))
+    list.refusing("checks: 12 at the last such code", |section, families, selection, _, _| {
+        match refusal(section, families, selection) {
+            Some((12, _)) => not_over_a_phrase(selection).last().map(|at| (12, *at)),
+            _ => None,
         }
-        _ => None,
     });
-    list.refusing("checks: 12 tried before 6", |section, selection, _, _| match refusal(section, selection) {
-        Some((6, _)) => not_over_a_phrase(selection).first().map(|at| (12, *at)),
-        _ => None,
+    list.refusing("checks: 12 at the code below", |section, families, selection, _, _| {
+        match refusal(section, families, selection) {
+            Some((12, place)) => Some((12, place - 1)),
+            _ => None,
+        }
     });
-    list.refusing("checks: 12 tried before 5", |section, selection, _, _| match refusal(section, selection) {
-        Some((5, _)) => not_over_a_phrase(selection).first().map(|at| (12, *at)),
-        _ => None,
+    list.refusing("checks: 12 tried after 7", |section, families, selection, _, _| {
+        match refusal(section, families, selection) {
+            Some((12, _)) => refusal(section, families, &without_twelve(selection)).filter(|(number, _)| *number == 7),
+            _ => None,
+        }
+    });
+    list.refusing("checks: 12 tried after 8", |section, families, selection, work, buffer| {
+        match refusal(section, families, selection) {
+            Some((12, _)) if refusal(section, families, &without_twelve(selection)).is_none() => {
+                (work < WORK || buffer.is_some_and(|length| length < BUFFER)).then_some((8, 0))
+            }
+            _ => None,
+        }
+    });
+    list.refusing("checks: 12 tried before 6", |section, families, selection, _, _| {
+        match refusal(section, families, selection) {
+            Some((6, _)) => not_over_a_phrase(selection).first().map(|at| (12, *at)),
+            _ => None,
+        }
+    });
+    list.refusing("checks: 12 tried before 5", |section, families, selection, _, _| {
+        match refusal(section, families, selection) {
+            Some((5, _)) => not_over_a_phrase(selection).first().map(|at| (12, *at)),
+            _ => None,
+        }
     });
     list.repairing_selection("checks: kind 16 is no not", |selection| match selection::read(selection) {
         Err(Refusal { number: 7, .. }) => with_codes(selection, |code, _| match code.kind {
@@ -1247,29 +1313,34 @@ fn mutants_of_occurs_checks(list: &mut Mutants) {
         }),
         _ => selection.to_vec(),
     });
-    list.refusing("checks: kind 17 is a not", |section, selection, _, _| {
+    list.refusing("checks: kind 17 is a not", |section, families, selection, _, _| {
         let as_a_range = |code: Code, _| if code.kind == 17 { Code { kind: 16, operand: 4_095 } } else { code };
-        match refusal(section, selection) {
-            None => refusal(section, &with_codes(selection, as_a_range)),
+        match refusal(section, families, selection) {
+            None => refusal(section, families, &with_codes(selection, as_a_range)),
             _ => None,
         }
     });
 }
 
 /// Refusal 4 of a kind, if no other comes before it.
-fn unknown(section: &[u32], selection: &[u32], unknown: u32) -> Option<(u32, usize)> {
+fn unknown(section: &[u32], families: &[u32], selection: &[u32], unknown: u32) -> Option<(u32, usize)> {
     let found = |kind: u32| kind == unknown || kind >= 18;
-    match refusal(section, selection) {
-        Some((1..=3, _)) => None,
+    match refusal(section, families, selection) {
+        Some((1..=3 | 13, _)) => None,
         _ => kinds_and_operands(selection).find(|(_, kind, _)| found(*kind)).map(|(at, _, _)| (4, at)),
     }
 }
 
 /// Refusal 5 of an operand that the table has, if no other comes before it.
-fn refused_operand(section: &[u32], selection: &[u32], of: fn(u32, u32) -> bool) -> Option<(u32, usize)> {
+fn refused_operand(
+    section: &[u32],
+    families: &[u32],
+    selection: &[u32],
+    of: fn(u32, u32) -> bool,
+) -> Option<(u32, usize)> {
     let wrong = |kind, operand| of(kind, operand) || !selection::operand_in_table(Code { kind, operand });
-    match refusal(section, selection) {
-        Some((1..=4, _)) => None,
+    match refusal(section, families, selection) {
+        Some((1..=4 | 13, _)) => None,
         _ => kinds_and_operands(selection).find(|(_, kind, operand)| wrong(*kind, *operand)).map(|(at, _, _)| (5, at)),
     }
 }
@@ -1277,22 +1348,29 @@ fn refused_operand(section: &[u32], selection: &[u32], of: fn(u32, u32) -> bool)
 // The early way out of a filter
 
 /// What the walk does with a filter that it reaches.
-type AtFilter = fn(&Section, &Tree) -> Walked;
+type AtFilter = fn(&Searched, &Tree) -> Walked;
 
 /// An engine whose walk does something else there.
 struct AtFilters(AtFilter);
 
 impl Engine for AtFilters {
-    fn listing(&self, section: &[u32], selection: &[u32], work: &mut [u32], buffer: &mut [u32]) -> Listing {
-        engine::listing(section, selection, work.len(), buffer)
+    fn listing(
+        &self,
+        section: &[u32],
+        families: &[u32],
+        selection: &[u32],
+        work: &mut [u32],
+        buffer: &mut [u32],
+    ) -> Listing {
+        engine::listing(section, families, selection, work.len(), buffer)
     }
 
-    fn quick(&self, section: &[u32], selection: &[u32], work: &mut [u32]) -> Quick {
-        let end = |section: &Section, tree: &Tree| match tree.rule {
+    fn quick(&self, section: &[u32], families: &[u32], selection: &[u32], work: &mut [u32]) -> Quick {
+        let end = |section: &Searched, tree: &Tree| match tree.rule {
             Rule::Filter(_) => (self.0)(section, tree),
             _ => RuleBook::paper().walk(section, tree),
         };
-        walked(section, selection, work.len(), |section, tree| walk_down(&end, section, tree))
+        walked(section, families, selection, work.len(), |section, tree| walk_down(&end, section, tree))
     }
 
     fn snippet<'a>(&self, section: &'a [u32], from: u32, to: u32) -> &'a [u32] {
@@ -1307,24 +1385,31 @@ type IsFree = fn(&Match, (i64, i64), &[(i64, i64)]) -> bool;
 struct AtWindows(IsFree);
 
 impl Engine for AtWindows {
-    fn listing(&self, section: &[u32], selection: &[u32], work: &mut [u32], buffer: &mut [u32]) -> Listing {
-        engine::listing(section, selection, work.len(), buffer)
+    fn listing(
+        &self,
+        section: &[u32],
+        families: &[u32],
+        selection: &[u32],
+        work: &mut [u32],
+        buffer: &mut [u32],
+    ) -> Listing {
+        engine::listing(section, families, selection, work.len(), buffer)
     }
 
-    fn quick(&self, section: &[u32], selection: &[u32], work: &mut [u32]) -> Quick {
+    fn quick(&self, section: &[u32], families: &[u32], selection: &[u32], work: &mut [u32]) -> Quick {
         let some_free = |m: &Match, size: u32| {
             let joined = join(&m.includes);
             let windows: Vec<(i64, i64)> = joined.iter().flat_map(|joined| rules::windows(joined, size)).collect();
             windows.iter().any(|window| (self.0)(m, *window, &windows))
         };
-        let end = |section: &Section, tree: &Tree| match tree.rule {
+        let end = |section: &Searched, tree: &Tree| match tree.rule {
             Rule::Filter(Filter::Window(size)) => {
                 let operand = RuleBook::paper().build(section, &tree.below[0])?;
                 Ok((operand.iter().any(|m| some_free(m, size)), tree.count()))
             }
             _ => RuleBook::paper().walk(section, tree),
         };
-        walked(section, selection, work.len(), |section, tree| walk_down(&end, section, tree))
+        walked(section, families, selection, work.len(), |section, tree| walk_down(&end, section, tree))
     }
 
     fn snippet<'a>(&self, section: &'a [u32], from: u32, to: u32) -> &'a [u32] {
@@ -1336,18 +1421,18 @@ impl Engine for AtWindows {
 const FREED: Limits = Limits { matches: 20_000, strings: 100_000 };
 
 /// What one match gives to a filter, whatever its size.
-fn given(section: &Section, filter: &Tree, m: &Match) -> AllMatches {
+fn given(section: &Searched, filter: &Tree, m: &Match) -> AllMatches {
     let any = Limits { matches: u128::MAX, strings: u128::MAX };
     RuleBook::paper().list_within(any, section, &filter.rule, &[from_ref(m)]).expect("no limit")
 }
 
 /// The right way out, but of some of the operand's matches alone.
-fn way_out_of<'a>(section: &Section, filter: &Tree, matches: impl IntoIterator<Item = &'a Match>) -> Walked {
+fn way_out_of<'a>(section: &Searched, filter: &Tree, matches: impl IntoIterator<Item = &'a Match>) -> Walked {
     Ok((matches.into_iter().any(|m| rules::is_yes(&given(section, filter, m))), filter.count()))
 }
 
 /// The operand's list, as it is built.
-fn operand(section: &Section, filter: &Tree) -> Result<AllMatches, Refusal> {
+fn operand(section: &Searched, filter: &Tree) -> Result<AllMatches, Refusal> {
     RuleBook::paper().build(section, &filter.below[0])
 }
 
@@ -1484,7 +1569,7 @@ fn mutants_of_free_windows(list: &mut Mutants) {
 }
 
 /// Builds a part in which some lists aren't measured.
-fn build_freed(section: &Section, tree: &Tree, freed: &dyn Fn(&Tree) -> bool) -> Result<AllMatches, Refusal> {
+fn build_freed(section: &Searched, tree: &Tree, freed: &dyn Fn(&Tree) -> bool) -> Result<AllMatches, Refusal> {
     let book = RuleBook::paper();
     let below: Vec<AllMatches> =
         tree.below.iter().map(|side| build_freed(section, side, freed)).collect::<Result<_, _>>()?;
@@ -1553,25 +1638,25 @@ fn mutants_of_freed_lists(list: &mut Mutants) {
         RuleBook::paper().walk(section, filter).map_err(|_| Refusal::new(9, filter.place))
     });
     // a mild not's own list is never larger than its left side's: freed like a filter means its sides
-    list.quick("quick: the sides of a mild not freed", |section, selection, work| {
-        let end = |section: &Section, tree: &Tree| match tree.rule {
+    list.quick("quick: the sides of a mild not freed", |section, families, selection, work| {
+        let end = |section: &Searched, tree: &Tree| match tree.rule {
             Rule::MildNot => {
                 let side = |part: &Tree| tree.below.iter().any(|side| side.place == part.place);
                 Ok((rules::is_yes(&build_freed(section, tree, &side)?), tree.count()))
             }
             _ => RuleBook::paper().walk(section, tree),
         };
-        walked(section, selection, work, |section, tree| walk_down(&end, section, tree))
+        walked(section, families, selection, work, |section, tree| walk_down(&end, section, tree))
     });
-    list.quick("quick: filters in a mild not freed", |section, selection, work| {
-        let end = |section: &Section, tree: &Tree| match tree.rule {
+    list.quick("quick: filters in a mild not freed", |section, families, selection, work| {
+        let end = |section: &Searched, tree: &Tree| match tree.rule {
             Rule::MildNot => Ok((rules::is_yes(&build_freed(section, tree, &is_a_filter)?), tree.count())),
             _ => RuleBook::paper().walk(section, tree),
         };
-        walked(section, selection, work, |section, tree| walk_down(&end, section, tree))
+        walked(section, families, selection, work, |section, tree| walk_down(&end, section, tree))
     });
-    list.quick("quick: kind 17 freed", |section, selection, work| {
-        walked(section, selection, work, |section, tree| {
+    list.quick("quick: kind 17 freed", |section, families, selection, work| {
+        walked(section, families, selection, work, |section, tree| {
             let freed: WalkOccurs = |section, tree, occurs| match occurs {
                 Occurs::AtLeast(_) => {
                     RuleBook::paper().build(section, &tree.below[0])?;
@@ -1582,8 +1667,8 @@ fn mutants_of_freed_lists(list: &mut Mutants) {
             walk_occurs(freed, section, tree)
         })
     });
-    list.quick("quick: kind 16 freed", |section, selection, work| {
-        walked(section, selection, work, |section, tree| {
+    list.quick("quick: kind 16 freed", |section, families, selection, work| {
+        walked(section, families, selection, work, |section, tree| {
             let freed: WalkOccurs = |section, tree, occurs| match occurs {
                 Occurs::FromTo(..) => {
                     RuleBook::paper().build(section, &tree.below[0])?;
@@ -1616,32 +1701,45 @@ impl Units {
     fn check(
         &self,
         section: &[u32],
+        families: &[u32],
         selection: &[u32],
         work: usize,
         buffer: Option<usize>,
-    ) -> Result<(Section, Tree), Refusal> {
+    ) -> Result<(Searched, Tree), Refusal> {
         let section = self.read(section)?;
         // a section of no tokens is never refused, so this is what is tried after the section
-        let (_, tree) = check(&[0], selection, work, buffer)?;
-        Ok((section, tree))
+        let (empty, tree) = check(&[0], families, selection, work, buffer)?;
+        Ok((empty.with(section), tree))
+    }
+}
+
+/// A listing in its buffer, or its refusal.
+fn listed(list: Result<AllMatches, Refusal>, buffer: &mut [u32]) -> Listing {
+    match list {
+        Err(Refusal { number, place }) => Listing::Refused { number, place },
+        Ok(list) => {
+            let numbers = engine::encode(&list);
+            buffer[..numbers.len()].copy_from_slice(&numbers);
+            Listing::Listed { matches: numbers[0], strings: numbers[1], yes: rules::is_yes(&list) }
+        }
     }
 }
 
 impl Engine for Units {
-    fn listing(&self, section: &[u32], selection: &[u32], work: &mut [u32], buffer: &mut [u32]) -> Listing {
-        let checked = self.check(section, selection, work.len(), Some(buffer.len()));
-        match checked.and_then(|(section, tree)| RuleBook::paper().build(&section, &tree)) {
-            Err(Refusal { number, place }) => Listing::Refused { number, place },
-            Ok(list) => {
-                let numbers = engine::encode(&list);
-                buffer[..numbers.len()].copy_from_slice(&numbers);
-                Listing::Listed { matches: numbers[0], strings: numbers[1], yes: rules::is_yes(&list) }
-            }
-        }
+    fn listing(
+        &self,
+        section: &[u32],
+        families: &[u32],
+        selection: &[u32],
+        work: &mut [u32],
+        buffer: &mut [u32],
+    ) -> Listing {
+        let checked = self.check(section, families, selection, work.len(), Some(buffer.len()));
+        listed(checked.and_then(|(section, tree)| RuleBook::paper().build(&section, &tree)), buffer)
     }
 
-    fn quick(&self, section: &[u32], selection: &[u32], work: &mut [u32]) -> Quick {
-        let checked = self.check(section, selection, work.len(), None);
+    fn quick(&self, section: &[u32], families: &[u32], selection: &[u32], work: &mut [u32]) -> Quick {
+        let checked = self.check(section, families, selection, work.len(), None);
         match checked.and_then(|(section, tree)| RuleBook::paper().walk(&section, &tree)) {
             Err(Refusal { number, place }) => Quick::Refused { number, place },
             Ok((yes, codes)) => Quick::Answered { yes, codes: codes as u32 },
@@ -1861,21 +1959,33 @@ fn with_sentences(rule: UnitRule) -> Units {
 
 /// One call alone has another rule.
 fn mutants_of_one_call(list: &mut Mutants) {
-    list.listing("headings: document 01's rule in the listing alone", |section, selection, work, buffer| {
-        with_sentences(steps_wrongly).listing(section, selection, &mut vec![0; work], buffer)
+    list.listing("headings: document 01's rule in the listing alone", |section, families, selection, work, buffer| {
+        with_sentences(steps_wrongly).listing(section, families, selection, &mut vec![0; work], buffer)
     });
-    list.quick("headings: document 01's rule in the quick answer alone", |section, selection, work| {
-        with_sentences(steps_wrongly).quick(section, selection, &mut vec![0; work])
+    list.quick("headings: document 01's rule in the quick answer alone", |section, families, selection, work| {
+        with_sentences(steps_wrongly).quick(section, families, selection, &mut vec![0; work])
     });
     list.snippet("headings: document 01's rule in the snippet alone", |section, from, to| {
         with_sentences(steps_wrongly).snippet(section, from, to)
     });
-    list.listing("headings: a fall after zeros accepted in the listing alone", |section, selection, work, buffer| {
-        with_sentences(|numbers| falls_within(numbers, 1)).listing(section, selection, &mut vec![0; work], buffer)
-    });
-    list.quick("headings: a fall after zeros accepted in the quick answer alone", |section, selection, work| {
-        with_sentences(|numbers| falls_within(numbers, 1)).quick(section, selection, &mut vec![0; work])
-    });
+    list.listing(
+        "headings: a fall after zeros accepted in the listing alone",
+        |section, families, selection, work, buffer| {
+            with_sentences(|numbers| falls_within(numbers, 1)).listing(
+                section,
+                families,
+                selection,
+                &mut vec![0; work],
+                buffer,
+            )
+        },
+    );
+    list.quick(
+        "headings: a fall after zeros accepted in the quick answer alone",
+        |section, families, selection, work| {
+            with_sentences(|numbers| falls_within(numbers, 1)).quick(section, families, selection, &mut vec![0; work])
+        },
+    );
     list.snippet("headings: a fall after zeros accepted in the snippet alone", |section, from, to| {
         with_sentences(|numbers| falls_within(numbers, 1)).snippet(section, from, to)
     });
@@ -1967,7 +2077,7 @@ fn is_in_one(section: &Section, s: &Str) -> bool {
 
 fn mutants_of_same_with_headings(list: &mut Mutants) {
     list.at_filters("headings: at the way out, a heading is in the sentence before it", |section, filter| {
-        RuleBook::paper().walk(&with_the_sentence_before(section), filter)
+        RuleBook::paper().walk(&section.with(with_the_sentence_before(section)), filter)
     });
     list.book("headings: same, a heading is in the sentence before it", |book| {
         book.same = |section, unit, list| rules::same(&with_the_sentence_before(section), unit, list)
@@ -2137,8 +2247,8 @@ fn mutants_of_heading_words(list: &mut Mutants) {
 
 // The calls
 
-type ListingCall = fn(&[u32], &[u32], usize, &mut [u32]) -> Listing;
-type QuickCall = fn(&[u32], &[u32], usize) -> Quick;
+type ListingCall = fn(&[u32], &[u32], &[u32], usize, &mut [u32]) -> Listing;
+type QuickCall = fn(&[u32], &[u32], &[u32], usize) -> Quick;
 type SnippetCall = for<'a> fn(&'a [u32], u32, u32) -> &'a [u32];
 
 /// An engine of three calls, each the right one unless another is put in.
@@ -2149,12 +2259,19 @@ struct Calls {
 }
 
 impl Engine for Calls {
-    fn listing(&self, section: &[u32], selection: &[u32], work: &mut [u32], buffer: &mut [u32]) -> Listing {
-        (self.listing)(section, selection, work.len(), buffer)
+    fn listing(
+        &self,
+        section: &[u32],
+        families: &[u32],
+        selection: &[u32],
+        work: &mut [u32],
+        buffer: &mut [u32],
+    ) -> Listing {
+        (self.listing)(section, families, selection, work.len(), buffer)
     }
 
-    fn quick(&self, section: &[u32], selection: &[u32], work: &mut [u32]) -> Quick {
-        (self.quick)(section, selection, work.len())
+    fn quick(&self, section: &[u32], families: &[u32], selection: &[u32], work: &mut [u32]) -> Quick {
+        (self.quick)(section, families, selection, work.len())
     }
 
     fn snippet<'a>(&self, section: &'a [u32], from: u32, to: u32) -> &'a [u32] {
@@ -2167,8 +2284,14 @@ fn right_calls() -> Calls {
 }
 
 /// The quick answer by another walk.
-fn walked(section: &[u32], selection: &[u32], work_len: usize, walk: impl Fn(&Section, &Tree) -> Walked) -> Quick {
-    match check(section, selection, work_len, None).and_then(|(section, tree)| walk(&section, &tree)) {
+fn walked(
+    section: &[u32],
+    families: &[u32],
+    selection: &[u32],
+    work_len: usize,
+    walk: impl Fn(&Searched, &Tree) -> Walked,
+) -> Quick {
+    match check(section, families, selection, work_len, None).and_then(|(section, tree)| walk(&section, &tree)) {
         Ok((yes, codes)) => Quick::Answered { yes, codes: codes as u32 },
         Err(Refusal { number, place }) => Quick::Refused { number, place },
     }
@@ -2187,7 +2310,7 @@ enum Walk {
     YesIfNotEmpty,
 }
 
-fn walk(mistake: Walk, section: &Section, tree: &Tree) -> Walked {
+fn walk(mistake: Walk, section: &Searched, tree: &Tree) -> Walked {
     let book = RuleBook::paper();
     match (&tree.rule, &tree.below[..]) {
         (Rule::Phrase { words, query }, _) => {
@@ -2225,47 +2348,49 @@ fn walk(mistake: Walk, section: &Section, tree: &Tree) -> Walked {
 }
 
 fn mutants_of_calls(list: &mut Mutants) {
-    list.quick("quick: 9 for a long phrase list", |section, selection, work| {
-        walked(section, selection, work, |section, tree| walk(Walk::MeasuresPhrases, section, tree))
+    list.quick("quick: 9 for a long phrase list", |section, families, selection, work| {
+        walked(section, families, selection, work, |section, tree| walk(Walk::MeasuresPhrases, section, tree))
     });
-    list.quick("quick: both sides of an or", |section, selection, work| {
-        walked(section, selection, work, |section, tree| walk(Walk::BothSidesOfOr, section, tree))
+    list.quick("quick: both sides of an or", |section, families, selection, work| {
+        walked(section, families, selection, work, |section, tree| walk(Walk::BothSidesOfOr, section, tree))
     });
-    list.quick("quick: both sides of an and", |section, selection, work| {
-        walked(section, selection, work, |section, tree| walk(Walk::BothSidesOfAnd, section, tree))
+    list.quick("quick: both sides of an and", |section, families, selection, work| {
+        walked(section, families, selection, work, |section, tree| walk(Walk::BothSidesOfAnd, section, tree))
     });
-    list.quick("quick: right side first", |section, selection, work| {
-        walked(section, selection, work, |section, tree| walk(Walk::RightFirst, section, tree))
+    list.quick("quick: right side first", |section, families, selection, work| {
+        walked(section, families, selection, work, |section, tree| walk(Walk::RightFirst, section, tree))
     });
-    list.quick("quick: a built part counts one", |section, selection, work| {
-        walked(section, selection, work, |section, tree| walk(Walk::BuiltPartCountsOne, section, tree))
+    list.quick("quick: a built part counts one", |section, families, selection, work| {
+        walked(section, families, selection, work, |section, tree| walk(Walk::BuiltPartCountsOne, section, tree))
     });
-    list.quick("quick: a not isn't counted", |section, selection, work| {
-        walked(section, selection, work, |section, tree| walk(Walk::NotUncounted, section, tree))
+    list.quick("quick: a not isn't counted", |section, families, selection, work| {
+        walked(section, families, selection, work, |section, tree| walk(Walk::NotUncounted, section, tree))
     });
-    list.quick("quick: a not is built", |section, selection, work| {
-        walked(section, selection, work, |section, tree| walk(Walk::NotBuilds, section, tree))
+    list.quick("quick: a not is built", |section, families, selection, work| {
+        walked(section, families, selection, work, |section, tree| walk(Walk::NotBuilds, section, tree))
     });
-    list.quick("quick: a built list is yes if it isn't empty", |section, selection, work| {
-        walked(section, selection, work, |section, tree| walk(Walk::YesIfNotEmpty, section, tree))
+    list.quick("quick: a built list is yes if it isn't empty", |section, families, selection, work| {
+        walked(section, families, selection, work, |section, tree| walk(Walk::YesIfNotEmpty, section, tree))
     });
-    list.quick("quick: words counted in a built part", |section, selection, work| {
-        walked(section, selection, work, |section, tree| {
+    list.quick("quick: words counted in a built part", |section, families, selection, work| {
+        walked(section, families, selection, work, |section, tree| {
             let (yes, codes) = RuleBook::paper().walk(section, tree)?;
             Ok((yes, if tree.rule.ends_the_walk() { tree.codes().len() } else { codes }))
         })
     });
-    list.quick("quick: the whole listing made for it", |section, selection, work| {
-        walked(section, selection, work, |section, tree| {
+    list.quick("quick: the whole listing made for it", |section, families, selection, work| {
+        walked(section, families, selection, work, |section, tree| {
             RuleBook::paper().build(section, tree)?;
             RuleBook::paper().walk(section, tree)
         })
     });
-    list.quick("quick: the whole count always", |section, selection, work| {
-        walked(section, selection, work, |section, tree| Ok((RuleBook::paper().walk(section, tree)?.0, tree.count())))
+    list.quick("quick: the whole count always", |section, families, selection, work| {
+        walked(section, families, selection, work, |section, tree| {
+            Ok((RuleBook::paper().walk(section, tree)?.0, tree.count()))
+        })
     });
-    list.listing("listing: the place of 9 without words", |section, selection, work, buffer| {
-        match engine::listing(section, selection, work, buffer) {
+    list.listing("listing: the place of 9 without words", |section, families, selection, work, buffer| {
+        match engine::listing(section, families, selection, work, buffer) {
             Listing::Refused { number: 9, place } => {
                 let words = selection[1..=place as usize].iter().filter(|&&kind| kind == 0).count() as u32;
                 Listing::Refused { number: 9, place: place - words }
@@ -2273,15 +2398,15 @@ fn mutants_of_calls(list: &mut Mutants) {
             other => other,
         }
     });
-    list.listing("listing: the rest of the buffer cleared", |section, selection, work, buffer| {
-        let answer = engine::listing(section, selection, work, buffer);
+    list.listing("listing: the rest of the buffer cleared", |section, families, selection, work, buffer| {
+        let answer = engine::listing(section, families, selection, work, buffer);
         if let Listing::Listed { matches, strings, .. } = answer {
             buffer[(2 + matches + 2 * strings) as usize..].fill(0);
         }
         answer
     });
-    list.listing("listing: one number more written", |section, selection, work, buffer| {
-        let answer = engine::listing(section, selection, work, buffer);
+    list.listing("listing: one number more written", |section, families, selection, work, buffer| {
+        let answer = engine::listing(section, families, selection, work, buffer);
         if let Listing::Listed { matches, strings, .. } = answer {
             if let Some(number) = buffer.get_mut((2 + matches + 2 * strings) as usize) {
                 *number = 0;
@@ -2289,25 +2414,26 @@ fn mutants_of_calls(list: &mut Mutants) {
         }
         answer
     });
-    list.listing("listing: the buffer cleared before a 9", |section, selection, work, buffer| {
-        let answer = engine::listing(section, selection, work, buffer);
+    list.listing("listing: the buffer cleared before a 9", |section, families, selection, work, buffer| {
+        let answer = engine::listing(section, families, selection, work, buffer);
         if let Listing::Refused { number: 9, .. } = answer {
             buffer[0] = 0;
         }
         answer
     });
-    list.listing("listing: yes if the list isn't empty", |section, selection, work, buffer| {
-        match engine::listing(section, selection, work, buffer) {
+    list.listing("listing: yes if the list isn't empty", |section, families, selection, work, buffer| {
+        match engine::listing(section, families, selection, work, buffer) {
             Listing::Listed { matches, strings, .. } => Listing::Listed { matches, strings, yes: matches > 0 },
             other => other,
         }
     });
-    list.listing("listing: yes only with an include", |section, selection, work, buffer| {
-        match engine::listing(section, selection, work, buffer) {
+    list.listing(
+        "listing: yes only with an include",
+        |section, families, selection, work, buffer| match engine::listing(section, families, selection, work, buffer) {
             Listing::Listed { matches, strings, yes } => Listing::Listed { matches, strings, yes: yes && strings > 0 },
             other => other,
-        }
-    });
+        },
+    );
     list.snippet("snippet: one word too few", |section, from, to| engine::snippet(section, from, to.saturating_sub(1)));
     list.snippet("snippet: the section's units unchecked", |section, from, to| {
         let long = section.first().is_some_and(|&n| section.len() == 1 + 2 * n as usize && to <= n);
@@ -2329,32 +2455,42 @@ fn mutants_of_calls(list: &mut Mutants) {
 
 // The checks
 
-type Refuse = fn(&[u32], &[u32], usize, Option<usize>) -> Option<(u32, usize)>;
+type Refuse = fn(&[u32], &[u32], &[u32], usize, Option<usize>) -> Option<(u32, usize)>;
 type Repair = fn(&[u32]) -> Vec<u32>;
 
 /// An engine that first refuses in its own way, or accepts a changed input.
 struct Checks {
     refuse: Refuse,
     repair_section: Repair,
+    repair_families: Repair,
     repair_selection: Repair,
     repair_work: fn(usize) -> usize,
 }
 
 impl Engine for Checks {
-    fn listing(&self, section: &[u32], selection: &[u32], work: &mut [u32], buffer: &mut [u32]) -> Listing {
-        if let Some((number, place)) = (self.refuse)(section, selection, work.len(), Some(buffer.len())) {
+    fn listing(
+        &self,
+        section: &[u32],
+        families: &[u32],
+        selection: &[u32],
+        work: &mut [u32],
+        buffer: &mut [u32],
+    ) -> Listing {
+        if let Some((number, place)) = (self.refuse)(section, families, selection, work.len(), Some(buffer.len())) {
             return Listing::Refused { number, place: place as u32 };
         }
         let work = (self.repair_work)(work.len());
-        engine::listing(&(self.repair_section)(section), &(self.repair_selection)(selection), work, buffer)
+        let (section, selection) = ((self.repair_section)(section), (self.repair_selection)(selection));
+        engine::listing(&section, &(self.repair_families)(families), &selection, work, buffer)
     }
 
-    fn quick(&self, section: &[u32], selection: &[u32], work: &mut [u32]) -> Quick {
-        if let Some((number, place)) = (self.refuse)(section, selection, work.len(), None) {
+    fn quick(&self, section: &[u32], families: &[u32], selection: &[u32], work: &mut [u32]) -> Quick {
+        if let Some((number, place)) = (self.refuse)(section, families, selection, work.len(), None) {
             return Quick::Refused { number, place: place as u32 };
         }
         let work = (self.repair_work)(work.len());
-        engine::quick(&(self.repair_section)(section), &(self.repair_selection)(selection), work)
+        let (section, selection) = ((self.repair_section)(section), (self.repair_selection)(selection));
+        engine::quick(&section, &(self.repair_families)(families), &selection, work)
     }
 
     fn snippet<'a>(&self, section: &'a [u32], from: u32, to: u32) -> &'a [u32] {
@@ -2364,17 +2500,23 @@ impl Engine for Checks {
 
 fn right_checks() -> Checks {
     Checks {
-        refuse: |_, _, _, _| None,
+        refuse: |_, _, _, _, _| None,
         repair_section: <[u32]>::to_vec,
+        repair_families: <[u32]>::to_vec,
         repair_selection: <[u32]>::to_vec,
         repair_work: |work| work,
     }
 }
 
 /// The right refusal of section and selection, if any.
-fn refusal(section: &[u32], selection: &[u32]) -> Option<(u32, usize)> {
-    let refused = check(section, selection, WORK, None).err()?;
+fn refusal(section: &[u32], families: &[u32], selection: &[u32]) -> Option<(u32, usize)> {
+    let refused = check(section, families, selection, WORK, None).err()?;
     Some((refused.number, refused.place as usize))
+}
+
+/// Do section and table pass the checks?
+fn section_and_table(section: &[u32], families: &[u32]) -> bool {
+    section::read(section).is_ok() && families::read(families).is_ok()
 }
 
 fn kinds_and_operands(selection: &[u32]) -> impl Iterator<Item = (usize, u32, u32)> + '_ {
@@ -2397,22 +2539,24 @@ fn mutants_of_checks(list: &mut Mutants) {
         }
         repaired
     });
-    list.refusing("checks: n = 0 refused", |section, _, _, _| (section == [0]).then_some((1, 0)));
-    list.refusing("checks: n = 4,096 refused", |section, _, _, _| (section.first() == Some(&4_096)).then_some((1, 0)));
+    list.refusing("checks: n = 0 refused", |section, _, _, _, _| (section == [0]).then_some((1, 0)));
+    list.refusing("checks: n = 4,096 refused", |section, _, _, _, _| {
+        (section.first() == Some(&4_096)).then_some((1, 0))
+    });
     list.repairing_section("checks: n = 4,097 accepted", |section| match section::read(section) {
         Err(Refusal { number: 1, .. }) if section.len() == 1 + 2 * 4_097 && section[0] == 4_097 => vec![0],
         _ => section.to_vec(),
     });
-    list.refusing("checks: position 1 can be faulty", |section, _, _, _| {
+    list.refusing("checks: position 1 can be faulty", |section, _, _, _, _| {
         let n = *section.first()? as usize;
         let place = section::read(section).ok().and_then(|_| section.get(1 + n))?;
         ((place >> 16 == 0) != (place & 0xFFFF == 0)).then_some((2, 1))
     });
-    list.refusing("checks: m = 64 refused", |section, selection, _, _| {
-        (section::read(section).is_ok() && selection.first() == Some(&64)).then_some((3, 0))
+    list.refusing("checks: m = 64 refused", |section, families, selection, _, _| {
+        (section_and_table(section, families) && selection.first() == Some(&64)).then_some((3, 0))
     });
-    list.refusing("checks: 4 and 5 in one scan", |section, selection, _, _| {
-        let (4 | 5, _) = refusal(section, selection)? else { return None };
+    list.refusing("checks: 4 and 5 in one scan", |section, families, selection, _, _| {
+        let (4 | 5, _) = refusal(section, families, selection)? else { return None };
         kinds_and_operands(selection).find_map(|(at, kind, operand)| match kind {
             18.. => Some((4, at)),
             _ => (!selection::operand_in_table(selection::Code { kind, operand })).then_some((5, at)),
@@ -2463,13 +2607,15 @@ fn mutants_of_checks(list: &mut Mutants) {
         }
         repaired
     });
-    list.refusing("checks: window 4,096 refused", |section, selection, _, _| match refusal(section, selection) {
-        Some((1..=4, _)) => None,
-        _ => kinds_and_operands(selection)
-            .find_map(|(at, kind, operand)| (kind == 7 && operand == 4_096).then_some((5, at))),
+    list.refusing("checks: window 4,096 refused", |section, families, selection, _, _| {
+        match refusal(section, families, selection) {
+            Some((1..=4 | 13, _)) => None,
+            _ => kinds_and_operands(selection)
+                .find_map(|(at, kind, operand)| (kind == 7 && operand == 4_096).then_some((5, at))),
+        }
     });
-    list.refusing("checks: a seventh waiting list is the last", |section, selection, _, _| {
-        if let Some((1..=5, _)) = refusal(section, selection) {
+    list.refusing("checks: a seventh waiting list is the last", |section, families, selection, _, _| {
+        if let Some((1..=5 | 13, _)) = refusal(section, families, selection) {
             return None;
         }
         let (mut waiting, mut found) = (0i32, None);
@@ -2483,23 +2629,27 @@ fn mutants_of_checks(list: &mut Mutants) {
                 found = Some((6, at));
             }
         }
-        match refusal(section, selection) {
+        match refusal(section, families, selection) {
             Some((6, place)) if found.is_none_or(|(_, at)| at > place) => None,
             _ => found,
         }
     });
-    list.refusing("checks: a wrong end is at m + 1", |section, selection, _, _| match refusal(section, selection) {
-        Some((6, place)) if place == selection[0] as usize && selection[place] <= 1 => Some((6, place + 1)),
-        _ => None,
-    });
-    list.refusing("checks: the last such kind 5", |section, selection, _, _| match refusal(section, selection) {
-        Some((7, _)) => {
-            kinds_and_operands(selection).filter(|(_, kind, _)| *kind == 5).last().map(|(at, _, _)| (7, at))
+    list.refusing("checks: a wrong end is at m + 1", |section, families, selection, _, _| {
+        match refusal(section, families, selection) {
+            Some((6, place)) if place == selection[0] as usize && selection[place] <= 1 => Some((6, place + 1)),
+            _ => None,
         }
-        _ => None,
     });
-    list.refusing("checks: the place of the not, not of the mild not", |section, selection, _, _| {
-        match refusal(section, selection) {
+    list.refusing("checks: the last such kind 5", |section, families, selection, _, _| {
+        match refusal(section, families, selection) {
+            Some((7, _)) => {
+                kinds_and_operands(selection).filter(|(_, kind, _)| *kind == 5).last().map(|(at, _, _)| (7, at))
+            }
+            _ => None,
+        }
+    });
+    list.refusing("checks: the place of the not, not of the mild not", |section, families, selection, _, _| {
+        match refusal(section, families, selection) {
             Some((7, _)) => {
                 let not = |kind: u32| [4, 16].contains(&kind);
                 kinds_and_operands(selection).find(|(_, kind, _)| not(*kind)).map(|(at, _, _)| (7, at))
@@ -2507,33 +2657,33 @@ fn mutants_of_checks(list: &mut Mutants) {
             _ => None,
         }
     });
-    list.refusing("checks: any kind 4 before a kind 5", |section, selection, _, _| {
-        if refusal(section, selection).is_some() {
+    list.refusing("checks: any kind 4 before a kind 5", |section, families, selection, _, _| {
+        if refusal(section, families, selection).is_some() {
             return None;
         }
         let not = kinds_and_operands(selection).find(|(_, kind, _)| *kind == 4)?.0;
         kinds_and_operands(selection).find(|(at, kind, _)| *kind == 5 && *at > not).map(|(at, _, _)| (7, at))
     });
-    list.refusing("checks: 8 before 3", |section, _, work, buffer| {
+    list.refusing("checks: 8 before 3", |section, families, _, work, buffer| {
         let short = work < WORK || buffer.is_some_and(|length| length < BUFFER);
-        (section::read(section).is_ok() && short).then_some((8, 0))
+        (section_and_table(section, families) && short).then_some((8, 0))
     });
     list.engine(
         "checks: working memory of 12,799 accepted",
         Checks { repair_work: |work| if work == WORK - 1 { WORK } else { work }, ..right_checks() },
     );
-    list.refusing("checks: working memory of 12,800 refused", |section, selection, work, _| {
-        (refusal(section, selection).is_none() && work == WORK).then_some((8, 0))
+    list.refusing("checks: working memory of 12,800 refused", |section, families, selection, work, _| {
+        (refusal(section, families, selection).is_none() && work == WORK).then_some((8, 0))
     });
-    list.refusing("checks: a buffer of 1,282 refused", |section, selection, _, buffer| {
-        (refusal(section, selection).is_none() && buffer == Some(BUFFER)).then_some((8, 0))
+    list.refusing("checks: a buffer of 1,282 refused", |section, families, selection, _, buffer| {
+        (refusal(section, families, selection).is_none() && buffer == Some(BUFFER)).then_some((8, 0))
     });
-    list.listing("checks: a buffer of 1,281 accepted", |section, selection, work, buffer| {
+    list.listing("checks: a buffer of 1,281 accepted", |section, families, selection, work, buffer| {
         if buffer.len() != BUFFER - 1 {
-            return engine::listing(section, selection, work, buffer);
+            return engine::listing(section, families, selection, work, buffer);
         }
         let mut longer = [&buffer[..], &[0]].concat();
-        let answer = engine::listing(section, selection, work, &mut longer);
+        let answer = engine::listing(section, families, selection, work, &mut longer);
         buffer.copy_from_slice(&longer[..BUFFER - 1]);
         answer
     });
@@ -2596,6 +2746,8 @@ fn a_typed_hunt_ends_with_a_test() {
 }
 
 type Codes = Result<Vec<Pair>, Refusal>;
+type TypedListing = fn(Codes, &[u32], &[u32], usize, &mut [u32]) -> Listing;
+type TypedQuick = fn(Codes, &[u32], &[u32], usize) -> Quick;
 
 /// An engine whose typed calls are the right ones unless another is put in: how a text is read, and what each call does with
 /// what was read.
@@ -2603,17 +2755,24 @@ struct TypedCalls {
     reader: Reader,
     codes: fn(&Reader, &[u8]) -> Codes,
     read: fn(Codes, &mut [u32]) -> Result<u32, Refusal>,
-    listing: fn(Codes, &[u32], usize, &mut [u32]) -> Listing,
-    quick: fn(Codes, &[u32], usize) -> Quick,
+    listing: TypedListing,
+    quick: TypedQuick,
 }
 
 impl Engine for TypedCalls {
-    fn listing(&self, section: &[u32], selection: &[u32], work: &mut [u32], buffer: &mut [u32]) -> Listing {
-        engine::listing(section, selection, work.len(), buffer)
+    fn listing(
+        &self,
+        section: &[u32],
+        families: &[u32],
+        selection: &[u32],
+        work: &mut [u32],
+        buffer: &mut [u32],
+    ) -> Listing {
+        engine::listing(section, families, selection, work.len(), buffer)
     }
 
-    fn quick(&self, section: &[u32], selection: &[u32], work: &mut [u32]) -> Quick {
-        engine::quick(section, selection, work.len())
+    fn quick(&self, section: &[u32], families: &[u32], selection: &[u32], work: &mut [u32]) -> Quick {
+        engine::quick(section, families, selection, work.len())
     }
 
     fn snippet<'a>(&self, section: &'a [u32], from: u32, to: u32) -> &'a [u32] {
@@ -2624,12 +2783,19 @@ impl Engine for TypedCalls {
         (self.read)((self.codes)(&self.reader, text), selection)
     }
 
-    fn typed_listing(&self, section: &[u32], text: &[u8], work: &mut [u32], buffer: &mut [u32]) -> Listing {
-        (self.listing)((self.codes)(&self.reader, text), section, work.len(), buffer)
+    fn typed_listing(
+        &self,
+        section: &[u32],
+        families: &[u32],
+        text: &[u8],
+        work: &mut [u32],
+        buffer: &mut [u32],
+    ) -> Listing {
+        (self.listing)((self.codes)(&self.reader, text), section, families, work.len(), buffer)
     }
 
-    fn typed_quick(&self, section: &[u32], text: &[u8], work: &mut [u32]) -> Quick {
-        (self.quick)((self.codes)(&self.reader, text), section, work.len())
+    fn typed_quick(&self, section: &[u32], families: &[u32], text: &[u8], work: &mut [u32]) -> Quick {
+        (self.quick)((self.codes)(&self.reader, text), section, families, work.len())
     }
 }
 
@@ -2661,16 +2827,22 @@ fn write(codes: &[Pair], selection: &mut [u32]) -> u32 {
     numbers[0]
 }
 
-fn right_typed_listing(codes: Codes, section: &[u32], work_len: usize, buffer: &mut [u32]) -> Listing {
+fn right_typed_listing(
+    codes: Codes,
+    section: &[u32],
+    families: &[u32],
+    work_len: usize,
+    buffer: &mut [u32],
+) -> Listing {
     match codes {
-        Ok(codes) => engine::listing(section, &typed::numbers(&codes), work_len, buffer),
+        Ok(codes) => engine::listing(section, families, &typed::numbers(&codes), work_len, buffer),
         Err(Refusal { number, place }) => Listing::Refused { number, place },
     }
 }
 
-fn right_typed_quick(codes: Codes, section: &[u32], work_len: usize) -> Quick {
+fn right_typed_quick(codes: Codes, section: &[u32], families: &[u32], work_len: usize) -> Quick {
     match codes {
-        Ok(codes) => engine::quick(section, &typed::numbers(&codes), work_len),
+        Ok(codes) => engine::quick(section, families, &typed::numbers(&codes), work_len),
         Err(Refusal { number, place }) => Quick::Refused { number, place },
     }
 }
@@ -2690,11 +2862,11 @@ impl Mutants {
         self.engine(name, TypedCalls { read, ..right_typed() });
     }
 
-    fn typed_listing(&mut self, name: &'static str, listing: fn(Codes, &[u32], usize, &mut [u32]) -> Listing) {
+    fn typed_listing(&mut self, name: &'static str, listing: TypedListing) {
         self.engine(name, TypedCalls { listing, ..right_typed() });
     }
 
-    fn typed_quick(&mut self, name: &'static str, quick: fn(Codes, &[u32], usize) -> Quick) {
+    fn typed_quick(&mut self, name: &'static str, quick: TypedQuick) {
         self.engine(name, TypedCalls { quick, ..right_typed() });
     }
 }
@@ -2706,6 +2878,7 @@ fn all_typed() -> Vec<(&'static str, Box<dyn Engine>)> {
     mutants_of_tokens(&mut list);
     mutants_of_text_errors(&mut list);
     mutants_of_typed_calls(&mut list);
+    wrong_families::mutants_of_typed_calls(&mut list);
     list.0
 }
 
@@ -3150,43 +3323,54 @@ fn mutants_of_typed_calls(list: &mut Mutants) {
         }
         right_read(codes, selection)
     });
-    list.typed_listing("typed listing: the section first", |codes, section, work, buffer| {
-        match section::read(section) {
+    list.typed_listing(
+        "typed listing: the section first",
+        |codes, section, families, work, buffer| match section::read(section) {
             Err(Refusal { number, place }) => Listing::Refused { number, place },
-            Ok(_) => right_typed_listing(codes, section, work, buffer),
-        }
-    });
-    list.typed_quick("typed quick: the section first", |codes, section, work| match section::read(section) {
+            Ok(_) => right_typed_listing(codes, section, families, work, buffer),
+        },
+    );
+    list.typed_quick("typed quick: the section first", |codes, section, families, work| match section::read(section) {
         Err(Refusal { number, place }) => Quick::Refused { number, place },
-        Ok(_) => right_typed_quick(codes, section, work),
+        Ok(_) => right_typed_quick(codes, section, families, work),
     });
-    list.typed_quick("typed quick: 3 before 1", |codes, section, work| match codes {
+    list.typed_quick("typed quick: 3 before 1", |codes, section, families, work| match codes {
         Ok(codes) if codes.len() > 64 => Quick::Refused { number: 3, place: 0 },
-        codes => right_typed_quick(codes, section, work),
+        codes => right_typed_quick(codes, section, families, work),
     });
-    list.typed_listing("typed listing: 8 before the text's error", |codes, section, work, buffer| {
+    list.typed_listing("typed listing: 8 before the text's error", |codes, section, families, work, buffer| {
         if work < WORK || buffer.len() < BUFFER {
             return Listing::Refused { number: 8, place: 0 };
         }
-        right_typed_listing(codes, section, work, buffer)
+        right_typed_listing(codes, section, families, work, buffer)
     });
-    list.typed_listing("typed listing: only 64 codes taken", |codes, section, work, buffer| {
+    list.typed_listing("typed listing: only 64 codes taken", |codes, section, families, work, buffer| {
         let first = |mut codes: Vec<Pair>| {
             codes.truncate(64);
             codes
         };
-        right_typed_listing(codes.map(first), section, work, buffer)
+        right_typed_listing(codes.map(first), section, families, work, buffer)
     });
-    list.typed_listing("typed listing: the buffer cleared by a text's error", |codes, section, work, buffer| {
-        if codes.is_err() {
-            buffer.fill(0);
-        }
-        right_typed_listing(codes, section, work, buffer)
-    });
-    list.typed_quick("typed quick: answers by the listing", |codes, section, work| {
-        match right_typed_listing(codes.clone(), section, work, &mut [0; BUFFER]) {
+    list.typed_listing(
+        "typed listing: the buffer cleared by a text's error",
+        |codes, section, families, work, buffer| {
+            if codes.is_err() {
+                buffer.fill(0);
+            }
+            right_typed_listing(codes, section, families, work, buffer)
+        },
+    );
+    list.typed_quick(
+        "typed quick: answers by the listing",
+        |codes, section, families, work| match right_typed_listing(
+            codes.clone(),
+            section,
+            families,
+            work,
+            &mut [0; BUFFER],
+        ) {
             Listing::Refused { number: 9, place } => Quick::Refused { number: 9, place },
-            _ => right_typed_quick(codes, section, work),
-        }
-    });
+            _ => right_typed_quick(codes, section, families, work),
+        },
+    );
 }

@@ -3,7 +3,7 @@
 
 mod words;
 
-use second_engine::{quick, text, Quick, WORK};
+use second_engine::{quick, text, Quick, EMPTY, WORK};
 use std::fs;
 use words::examples::{examples, Example};
 use words::numbers;
@@ -18,7 +18,7 @@ fn expected(example: &Example) -> String {
     let listing = text::ftlist(&text::bytes(&example.section, &example.selection));
     let lines = if listing.lines().count() > 1 + 20 { 1 } else { usize::MAX };
     let shown: String = listing.lines().take(lines).map(|line| format!("{line}\n")).collect();
-    let quick = match quick(&example.section, &example.selection, WORK) {
+    let quick = match quick(&example.section, &EMPTY, &example.selection, WORK) {
         Quick::Refused { number, place } => format!("refused {number} {place}"),
         Quick::Answered { yes, codes } => {
             format!("{}, {codes} code{}", if yes { "yes" } else { "no" }, if codes == 1 { "" } else { "s" })

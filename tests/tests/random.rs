@@ -1,15 +1,17 @@
 //! Random cases: what they hold, and that the second engine agrees with itself and with the unlimited lists on them.
 
 use second_engine::engine::RuleBook;
+use second_engine::families::{self, Families};
 use second_engine::gen::{self, Case};
 use second_engine::section::Section;
 use second_engine::selection::{self, Filter, Occurs, Rule, Tree, Unit};
 use second_engine::sizes::{self, Size};
 use second_engine::{
-    cases, engine, filter_cases, heading_cases, hunt, hunt_filters, hunt_headings, hunt_occurs, occurs_cases, rules,
-    section, text, Hunt, Listing, Match, Quick, Refusal, SecondEngine, Str, BUFFER, WORK,
+    cases, engine, family_cases, filter_cases, heading_cases, hunt, hunt_families, hunt_filters, hunt_headings,
+    hunt_occurs, occurs_cases, rules, section, text, Hunt, Listing, Match, Quick, Refusal, Searched, SecondEngine, Str,
+    BUFFER, EMPTY, WORK,
 };
-use std::collections::BTreeMap;
+use std::collections::{BTreeMap, BTreeSet};
 use std::slice::from_ref;
 use std::time::Instant;
 
@@ -53,8 +55,14 @@ fn the_second_engine_agrees_with_itself_on_headings() {
     agrees_with_itself(hunt_headings, "cases with headings", how_many() / 20);
 }
 
+/// And on family tables.
+#[test]
+fn the_second_engine_agrees_with_itself_on_families() {
+    agrees_with_itself(hunt_families, "cases with families", how_many() / 10);
+}
+
 /// The walk as it was before request F-4: filters built whole, and measured.
-fn walk_before(section: &Section, tree: &Tree) -> Result<(bool, usize), Refusal> {
+fn walk_before(section: &Searched, tree: &Tree) -> Result<(bool, usize), Refusal> {
     let decisive = tree.rule == Rule::Or;
     match (&tree.rule, &tree.below[..]) {
         (Rule::Filter(_), _) => Ok((rules::is_yes(&RuleBook::paper().build(section, tree)?), tree.count())),
@@ -73,7 +81,7 @@ fn only_refusals_at_a_filter_are_gone() {
     let count = how_many() / 100;
     let mut gone = 0;
     for case in cases(4, 10 * count).chain(occurs_cases(4, 5 * count)).chain(filter_cases(4, count)) {
-        let (Ok(section), Ok(tree)) = (section::read(&case.section), selection::read(&case.selection)) else {
+        let Ok((section, tree)) = engine::check(&case.section, &case.families, &case.selection, WORK, None) else {
             continue;
         };
         let now = RuleBook::paper().walk(&section, &tree);
@@ -111,6 +119,10 @@ fn cases_can_be_made_again() {
     assert!(headings == heading_cases(7, 300).collect::<Vec<_>>());
     assert!(headings[299] == gen::heading_case(7, 299));
     assert!(headings != heading_cases(8, 300).collect::<Vec<_>>());
+    let families: Vec<Case> = family_cases(7, 300).collect();
+    assert!(families == family_cases(7, 300).collect::<Vec<_>>());
+    assert!(families[299] == gen::family_case(7, 299));
+    assert!(families != family_cases(8, 300).collect::<Vec<_>>());
 }
 
 /// How often what was met.
@@ -149,8 +161,14 @@ fn cases_meet_everything() {
         if has_kind(&case.selection, |kind| [16, 17].contains(kind)) {
             meet("an occurs".into());
         }
+        if families::read(&case.families).is_ok_and(|families| !families.0.is_empty()) {
+            meet("a family table".into());
+        }
+        if let Some(yes) = turned_by_families(&case) {
+            meet(format!("{yes} by families"));
+        }
         let mut buffer = case.buffer.clone();
-        match second_engine::listing(&case.section, &case.selection, case.work_len, &mut buffer) {
+        match second_engine::listing(&case.section, &case.families, &case.selection, case.work_len, &mut buffer) {
             Listing::Refused { number, .. } => meet(format!("listing refused {number}")),
             Listing::Listed { matches, strings, yes } => {
                 meet(format!("listed {}", if yes { "yes" } else { "no" }));
@@ -168,7 +186,7 @@ fn cases_meet_everything() {
                 }
             }
         }
-        match second_engine::quick(&case.section, &case.selection, case.work_len) {
+        match second_engine::quick(&case.section, &case.families, &case.selection, case.work_len) {
             Quick::Refused { number, .. } => meet(format!("quick refused {number}")),
             Quick::Answered { yes, codes } => {
                 let tree = selection::read(&case.selection).unwrap();
@@ -190,7 +208,7 @@ fn cases_meet_everything() {
             meet(format!("waiting {}", waiting(&tree)));
             let m = case.selection[0];
             meet(format!("m {}", if m == 64 { "64".into() } else { format!("{}0s", m / 10) }));
-            if let Some(lists) = engine::unlimited_lists(&case.section, &case.selection) {
+            if let Some(lists) = engine::unlimited_lists(&case.section, &case.families, &case.selection) {
                 let kinds: Vec<(usize, u32)> = (1..=m as usize).map(|at| (at, case.selection[at])).collect();
                 for code in &lists {
                     let kind = kinds.iter().find(|(at, _)| *at == code.place).unwrap().1;
@@ -245,6 +263,8 @@ fn cases_meet_everything() {
         "refused 2: a sentence falls after 1 zero",
         "refused 2: a sentence falls after 2 to 15 zeros",
         "refused 2: a fault beyond 1,000",
+        "true by families",
+        "false by families",
     ];
     needed.extend(others.map(String::from));
     often_enough(&met, needed, count);
@@ -252,10 +272,12 @@ fn cases_meet_everything() {
     assert!(!met.contains_key("kind 17 with excludes"));
     let share = met["an occurs"] as f64 / count as f64;
     assert!((0.2..0.3).contains(&share), "an occurs in {share} of all cases");
+    let share = met["a family table"] as f64 / count as f64;
+    assert!((0.3..0.4).contains(&share), "a family table in {share} of all cases");
 }
 
 /// All refusals of the two calls.
-const REFUSALS: [u32; 10] = [1, 2, 3, 4, 5, 6, 7, 8, 9, 12];
+const REFUSALS: [u32; 11] = [1, 2, 3, 4, 5, 6, 7, 8, 9, 12, 13];
 
 /// Counts where the occurs of those cases stand that are made with one, over how many finds, and with which numbers.
 #[test]
@@ -270,15 +292,15 @@ fn occurs_cases_meet_everything() {
             meet("an occurs".into());
         }
         let mut buffer = case.buffer.clone();
-        match second_engine::listing(&case.section, &case.selection, case.work_len, &mut buffer) {
+        match second_engine::listing(&case.section, &case.families, &case.selection, case.work_len, &mut buffer) {
             Listing::Refused { number, .. } => meet(format!("listing refused {number}")),
             Listing::Listed { yes, .. } => meet(format!("listed {yes}")),
         }
-        match second_engine::quick(&case.section, &case.selection, case.work_len) {
+        match second_engine::quick(&case.section, &case.families, &case.selection, case.work_len) {
             Quick::Refused { number, .. } => meet(format!("quick refused {number}")),
             Quick::Answered { yes, .. } => meet(format!("quick {yes}")),
         }
-        if let (Ok(section), Ok(tree)) = (section::read(&case.section), selection::read(&case.selection)) {
+        if let Ok((section, tree)) = engine::check(&case.section, &case.families, &case.selection, WORK, None) {
             about_occurs(&section, &tree, "alone", &mut meet);
         }
     }
@@ -305,7 +327,7 @@ fn occurs_cases_meet_everything() {
 }
 
 /// Every occurs of a tree: where it stands, and its numbers beside the finds of its phrase.
-fn about_occurs(section: &Section, tree: &Tree, place: &str, meet: &mut impl FnMut(String)) {
+fn about_occurs(section: &Searched, tree: &Tree, place: &str, meet: &mut impl FnMut(String)) {
     let kind = tree.rule.codes().last().expect("a rule has a code").kind;
     for (index, side) in tree.below.iter().enumerate() {
         let place = match (tree.below.len(), index) {
@@ -344,17 +366,24 @@ fn filter_cases_meet_everything() {
     let mut meet = |what: String| *met.entry(what).or_insert(0) += 1;
     let count = how_many() / 25;
     for case in filter_cases(2, count) {
-        let listing = second_engine::listing(&case.section, &case.selection, case.work_len, &mut case.buffer.clone());
+        let listing = second_engine::listing(
+            &case.section,
+            &case.families,
+            &case.selection,
+            case.work_len,
+            &mut case.buffer.clone(),
+        );
         match listing {
             Listing::Refused { number, .. } => meet(format!("listing refused {number}")),
             Listing::Listed { yes, .. } => meet(format!("listed {yes}")),
         }
-        let quick = second_engine::quick(&case.section, &case.selection, case.work_len);
+        let quick = second_engine::quick(&case.section, &case.families, &case.selection, case.work_len);
         match quick {
             Quick::Refused { number, .. } => meet(format!("quick refused {number}")),
             Quick::Answered { yes, .. } => meet(format!("quick {yes}")),
         }
-        if let Ok((section, tree)) = engine::check(&case.section, &case.selection, case.work_len, None) {
+        if let Ok((section, tree)) = engine::check(&case.section, &case.families, &case.selection, case.work_len, None)
+        {
             for (filter, place) in reached(&section, &tree, "at the top") {
                 about_filter(&section, filter, &mut meet);
                 let Quick::Answered { yes, .. } = quick else { continue };
@@ -395,7 +424,7 @@ fn filter_cases_meet_everything() {
 }
 
 /// The filters that the walk reaches, and where each stands.
-fn reached<'a>(section: &Section, tree: &'a Tree, place: &str) -> Vec<(&'a Tree, String)> {
+fn reached<'a>(section: &Searched, tree: &'a Tree, place: &str) -> Vec<(&'a Tree, String)> {
     let goes_on =
         |left: &Tree, after: bool| matches!(RuleBook::paper().walk(section, left), Ok((yes, _)) if yes == after);
     match (&tree.rule, &tree.below[..]) {
@@ -424,7 +453,7 @@ fn which(places: &[usize], length: usize) -> &'static str {
     }
 }
 
-fn about_filter(section: &Section, filter: &Tree, meet: &mut impl FnMut(String)) {
+fn about_filter(section: &Searched, filter: &Tree, meet: &mut impl FnMut(String)) {
     let book = RuleBook::paper();
     let operand = match book.build(section, &filter.below[0]) {
         Ok(operand) => operand,
@@ -513,29 +542,37 @@ fn heading_cases_meet_everything() {
         if !headings(&sized.sentences).is_empty() {
             meet("a heading".into());
         }
-        let tree = match engine::check(&case.section, &case.selection, WORK, None) {
+        let (searched, tree) = match engine::check(&case.section, &case.families, &case.selection, WORK, None) {
             Err(Refusal { number: 2, place }) => {
                 about_fault(&sized, place as usize, &mut meet);
                 continue;
             }
             Err(_) => continue,
-            Ok((_, tree)) => tree,
+            Ok(checked) => checked,
         };
         about_headings(&sized, &mut meet);
         if headings(&sized.sentences).is_empty() {
             continue;
         }
-        let listing = second_engine::listing(&case.section, &case.selection, case.work_len, &mut case.buffer.clone());
+        let listing = second_engine::listing(
+            &case.section,
+            &case.families,
+            &case.selection,
+            case.work_len,
+            &mut case.buffer.clone(),
+        );
         if let Listing::Listed { yes, .. } = listing {
             meet(format!("listed {yes}"));
         }
-        if let Quick::Answered { yes, .. } = second_engine::quick(&case.section, &case.selection, case.work_len) {
+        if let Quick::Answered { yes, .. } =
+            second_engine::quick(&case.section, &case.families, &case.selection, case.work_len)
+        {
             meet(format!("quick {yes}"));
             if sentence_filters_in_a_row(&tree) > 1 {
                 meet(format!("two filters about sentences, a not between them: {yes}"));
             }
         }
-        about_sentence_filters(&sized, &tree, &mut meet);
+        about_sentence_filters(&searched, &tree, &mut meet);
     }
 
     let mut needed = vec![];
@@ -694,7 +731,7 @@ fn sentence_filters_in_a_row(tree: &Tree) -> usize {
 }
 
 /// What a filter about sentences does to the strings in headings.
-fn about_sentence_filters(section: &Section, tree: &Tree, meet: &mut impl FnMut(String)) {
+fn about_sentence_filters(section: &Searched, tree: &Tree, meet: &mut impl FnMut(String)) {
     tree.below.iter().for_each(|side| about_sentence_filters(section, side, meet));
     let filter = match tree.rule {
         Rule::Filter(Filter::Same(Unit::Sentence)) => "same",
@@ -775,6 +812,224 @@ fn about_excludes(
         meet(format!("{filter}: without includes, an exclude in a heading goes"));
     }
     kept.excludes.is_empty()
+}
+
+/// The quick answer, where it would be the other one with the empty table.
+fn turned_by_families(case: &Case) -> Option<bool> {
+    let answer = |families: &[u32]| match second_engine::quick(&case.section, families, &case.selection, WORK) {
+        Quick::Answered { yes, .. } => Some(yes),
+        Quick::Refused { .. } => None,
+    };
+    let (with, without) = (answer(&case.families)?, answer(&EMPTY)?);
+    (with != without).then_some(with)
+}
+
+/// Counts what the cases with a family table are about: its sizes, families and numbers; by which of its words which phrases are
+/// found, where; and under which codes a family turns a yes into a no, or a no into a yes.
+#[test]
+#[cfg_attr(debug_assertions, ignore = "needs optimisation")]
+fn family_cases_meet_everything() {
+    let mut met = Met::new();
+    let mut meet = |what: String| *met.entry(what).or_insert(0) += 1;
+    let count = how_many() / 5;
+    for case in family_cases(2, count) {
+        if let Some(yes) = turned_by_families(&case) {
+            meet(format!("quick {yes} by families"));
+        }
+        match engine::check(&case.section, &case.families, &case.selection, case.work_len, None) {
+            Ok((searched, tree)) => {
+                meet(format!("n {}", bucket(searched.n(), 4_096)));
+                about_table(&searched.families, &mut meet);
+                about_turns(&searched, &tree, &mut meet);
+                about_phrases(&searched, &tree, &mut meet);
+            }
+            Err(Refusal { number, place }) => {
+                meet(format!("refused {number}"));
+                about_faulty_table(&case, number, place as usize, &mut meet);
+            }
+        }
+    }
+    met_once_in(4_000, &met, needed_of_families(), count);
+    assert!(met["a table with entries"] * 100 >= count * 70, "{} tables in {count} cases", met["a table with entries"]);
+}
+
+/// Entries of a table, and members of a family, that a phrase is to be found by.
+const ENTRIES: [usize; 7] = [1, 16, 17, 64, 65, 2_047, 2_048];
+const MEMBERS: [usize; 7] = [1, 15, 16, 17, 31, 32, 33];
+
+fn needed_of_families() -> Vec<String> {
+    let mut needed: Vec<String> = [1, 2, 3, 4, 5, 6, 8, 13].map(|number| format!("refused {number}")).to_vec();
+    needed.extend([true, false].map(|yes| format!("quick {yes} by families")));
+    // a phrase alone, an occurs at least so many and a mild not's left side are only found more often
+    needed.extend((1..=17).filter(|kind| *kind != 4).map(|kind| format!("kind {kind:2}: true by families")));
+    needed.extend((2..=16).map(|kind| format!("kind {kind:2}: false by families")));
+    needed.extend(["0", "1", "2 to 15", "16 to 64", "over 64", "2047", "2048"].map(|n| format!("entries {n}")));
+    let sizes = ["1", "2 to 14", "15", "16", "17", "18 to 30", "31", "32", "33", "40", "over 40", "2048"];
+    needed.extend(sizes.map(|size| format!("a family of {size}")));
+    needed.extend(["0", "4294967295"].map(|number| format!("family {number}")));
+    needed.extend(["0", "4294967295"].map(|number| format!("word {number} found by its family")));
+    needed.extend(["n 4096", "a family numbered as a word", "families of one size"].map(String::from));
+    needed.push("1 found, all of them in the table".into());
+    for length in 2..=8 {
+        needed.extend(
+            ["all of them in the table", "some of them in the table"].map(|which| format!("{length} found, {which}")),
+        );
+    }
+    needed.extend((1..=4).map(|length| format!("{length} found, none of them in the table")));
+    needed.extend(
+        ["as it is, out of the table", "as it is, in the table", "by its family"].map(|how| format!("a word {how}")),
+    );
+    needed.extend(
+        ["one of each", "two words of one family", "beyond 1,000", "at the last token"]
+            .map(|what| format!("a phrase found: {what}")),
+    );
+    needed.extend(MEMBERS.map(|at| format!("found by member {at} of a family")));
+    needed.extend(ENTRIES.map(|at| format!("found by entry {at}")));
+    needed.extend(
+        ["at 0", "at entry 2", "at the last entry", "at a later entry", "beyond 64", "beyond 1,000", "before another"]
+            .map(|place| format!("refused 13 {place}")),
+    );
+    needed.extend([1, 2].map(|number| format!("refused {number} before 13")));
+    needed.extend([3, 4, 5, 6, 8].map(|number| format!("refused 13 before {number}")));
+    needed
+}
+
+/// The sizes of an accepted table and of its families, and the numbers in it.
+fn about_table(families: &Families, meet: &mut impl FnMut(String)) {
+    let size = families.0.len();
+    if size > 0 {
+        meet("a table with entries".into());
+    }
+    meet(match size {
+        0 | 1 | 2_047.. => format!("entries {size}"),
+        2..=15 => "entries 2 to 15".into(),
+        16..=64 => "entries 16 to 64".into(),
+        _ => "entries over 64".into(),
+    });
+    let mut members: BTreeMap<u32, usize> = BTreeMap::new();
+    families.0.values().for_each(|family| *members.entry(*family).or_insert(0) += 1);
+    if members.len() > 1 && members.values().all(|size| Some(size) == members.values().next()) {
+        meet("families of one size".into());
+    }
+    let sizes: BTreeSet<usize> = members.values().copied().collect();
+    for size in sizes {
+        meet(match size {
+            2..=14 => "a family of 2 to 14".into(),
+            18..=30 => "a family of 18 to 30".into(),
+            41..=2_047 => "a family of over 40".into(),
+            _ => format!("a family of {size}"),
+        });
+    }
+    for family in [0, u32::MAX].into_iter().filter(|family| members.contains_key(family)) {
+        meet(format!("family {family}"));
+    }
+    if families.0.iter().any(|(word, family)| word != family && families.of(*family).is_some_and(|of| of != *family)) {
+        meet("a family numbered as a word".into());
+    }
+}
+
+/// Codes whose list says yes with the table and no without it, or the other way round.
+fn about_turns(searched: &Searched, tree: &Tree, meet: &mut impl FnMut(String)) {
+    tree.below.iter().for_each(|side| about_turns(searched, side, meet));
+    let yes = |searched: &Searched| RuleBook::paper().build(searched, tree).ok().map(|list| rules::is_yes(&list));
+    let (with, without) = (yes(searched), yes(&Searched::alone(&searched.section)));
+    if let (Some(yes), Some(_)) = (with.filter(|_| with != without), without) {
+        let kind = tree.rule.codes().last().expect("a rule has a code").kind;
+        meet(format!("kind {kind:2}: {yes} by families"));
+    }
+}
+
+/// Every phrase that is found: by which words, and where.
+fn about_phrases(searched: &Searched, tree: &Tree, meet: &mut impl FnMut(String)) {
+    tree.below.iter().for_each(|side| about_phrases(searched, side, meet));
+    let Rule::Phrase { words, query } = &tree.rule else { return };
+    let families = &searched.families;
+    let in_table = words.iter().filter(|word| families.of(**word).is_some()).count();
+    let of_families: Vec<Option<u32>> = words.iter().map(|word| families.of(*word)).collect();
+    let joined = (1..words.len()).any(|at| {
+        of_families[at].is_some()
+            && (0..at).any(|other| of_families[at] == of_families[other] && words[at] != words[other])
+    });
+    for m in rules::phrase(searched, words, *query).iter().take(20) {
+        let start = m.includes[0].start as usize;
+        let row = &searched.words[start - 1..start - 1 + words.len()];
+        let which = match in_table {
+            0 => "none",
+            _ if in_table == words.len() => "all",
+            _ => "some",
+        };
+        meet(format!("{} found, {which} of them in the table", words.len()));
+        if joined {
+            meet("a phrase found: two words of one family".into());
+        }
+        if start > 1_000 {
+            meet("a phrase found: beyond 1,000".into());
+        }
+        if start - 1 + words.len() == searched.words.len() {
+            meet("a phrase found: at the last token".into());
+        }
+        about_found_words(families, words, row, meet);
+    }
+}
+
+/// By which words each of a phrase's words is found.
+fn about_found_words(families: &Families, words: &[u32], row: &[u32], meet: &mut impl FnMut(String)) {
+    let mut ways = BTreeSet::new();
+    for (word, token) in words.iter().zip(row) {
+        let way = match (word == token, families.of(*word)) {
+            (true, None) => "as it is, out of the table",
+            (true, Some(_)) => "as it is, in the table",
+            (false, _) => "by its family",
+        };
+        ways.insert(way);
+        meet(format!("a word {way}"));
+        if word == token {
+            continue;
+        }
+        let place = 1 + families.0.keys().position(|other| other == token).expect("found by its family");
+        let family = families.of(*token);
+        let members = families.0.iter().filter(|(_, of)| Some(**of) == family);
+        let member = 1 + members.into_iter().position(|(other, _)| other == token).expect("of its family");
+        if ENTRIES.contains(&place) {
+            meet(format!("found by entry {place}"));
+        }
+        if MEMBERS.contains(&member) {
+            meet(format!("found by member {member} of a family"));
+        }
+        if [0, u32::MAX].contains(word) {
+            meet(format!("word {word} found by its family"));
+        }
+    }
+    if ways.len() == 3 {
+        meet("a phrase found: one of each".into());
+    }
+}
+
+/// Where a table is refused, and what else is wrong.
+fn about_faulty_table(case: &Case, number: u32, place: usize, meet: &mut impl FnMut(String)) {
+    let Err(fault) = families::read(&case.families) else { return };
+    let other = match number {
+        13 => engine::check(&case.section, &EMPTY, &case.selection, case.work_len, None).err(),
+        _ => Some(fault),
+    };
+    if let Some(other) = other {
+        meet(format!("refused {number} before {}", other.number));
+    }
+    if number != 13 {
+        return;
+    }
+    let Ok((words, _)) = families::read_sized(&case.families) else { return meet("refused 13 at 0".into()) };
+    meet(match place {
+        2 => "refused 13 at entry 2".into(),
+        _ if place == words.len() => "refused 13 at the last entry".into(),
+        _ => "refused 13 at a later entry".into(),
+    });
+    for limit in [64, 1_000].into_iter().filter(|limit| place > *limit) {
+        meet(format!("refused 13 beyond {}", if limit == 64 { "64" } else { "1,000" }));
+    }
+    if words[place - 1..].windows(2).any(|pair| pair[0] >= pair[1]) {
+        meet("refused 13 before another".into());
+    }
 }
 
 fn bucket(number: u32, limit: u32) -> String {

@@ -7,12 +7,13 @@ mod words;
 
 use program::printed;
 use proved::Proved;
+use second_engine::families::MOST_ENTRIES;
 use second_engine::section::MOST_TOKENS;
 use second_engine::selection::{operand_in_table, Code, MOST_CODES, MOST_WAITING, MOST_WORDS};
 use second_engine::sizes::PAPER;
 use second_engine::typed::{self, MOST_BYTES, MOST_NUMBER, MOST_WORD, SELECTION};
 use second_engine::{
-    compare, compare_typed, text, Case, Engine, Listing, Quick, Refusal, SecondEngine, TypedCase, BUFFER, WORK,
+    compare, compare_typed, text, Case, Engine, Listing, Quick, Refusal, SecondEngine, TypedCase, BUFFER, EMPTY, WORK,
 };
 use std::sync::OnceLock;
 use words::{decode, header, numbers, section, Selection};
@@ -20,13 +21,13 @@ use words::{decode, header, numbers, section, Selection};
 const PAGE: &str = include_str!("../../docs/REFERENCE.md");
 
 /// The parts that only give what is passed. All others state something; `section`, `selection` and `bytes` may do both.
-const GIVEN: [&str; 6] = ["words", "sentences", "paragraphs", "codes", "typed", "lent"];
+const GIVEN: [&str; 7] = ["words", "sentences", "paragraphs", "families", "codes", "typed", "lent"];
 
 /// What a listing buffer holds before a call.
 const NOISE: u32 = 0xEEEE_EEEE;
 
 /// Refusals of the calls.
-const REFUSALS: std::ops::RangeInclusive<u32> = 1..=12;
+const REFUSALS: std::ops::RangeInclusive<u32> = 1..=13;
 
 /// An example of the page: its line, and what follows each name.
 struct Example {
@@ -66,6 +67,11 @@ impl Example {
         };
         let units = |name| self.part(name).map_or(vec![0; words.len()], numbers);
         Some(section(&words, &units("sentences"), &units("paragraphs")))
+    }
+
+    /// The family table, the empty one if none is given.
+    fn families(&self) -> Vec<u32> {
+        self.part("families").map_or(EMPTY.to_vec(), numbers)
     }
 
     /// The codes that are given, or those of a typed search that has no error.
@@ -233,18 +239,19 @@ impl Asked<'_> {
     fn listed(&self) -> (Listing, Vec<u32>) {
         let mut buffer = self.case.buffer.clone();
         let mut work = vec![NOISE; self.case.work_len];
-        let section = &self.case.section;
+        let (section, families) = (&self.case.section, &self.case.families);
         let listing = match self.text {
-            Some(text) => self.engine.typed_listing(section, text, &mut work, &mut buffer),
-            None => self.engine.listing(section, &self.case.selection, &mut work, &mut buffer),
+            Some(text) => self.engine.typed_listing(section, families, text, &mut work, &mut buffer),
+            None => self.engine.listing(section, families, &self.case.selection, &mut work, &mut buffer),
         };
         (listing, buffer)
     }
 
+    /// Its refusal, or what `ftlist` would print if it took a family table.
     fn listing(&self) -> String {
         match self.listed().0 {
             Listing::Refused { number, place } => format!("refused {number} at {place}"),
-            listed => format!("{listed:?}"),
+            Listing::Listed { .. } => self.prints(),
         }
     }
 
@@ -269,9 +276,10 @@ impl Asked<'_> {
 
     fn quick(&self) -> String {
         let mut work = vec![NOISE; self.case.work_len];
+        let (section, families) = (&self.case.section, &self.case.families);
         let answer = match self.text {
-            Some(text) => self.engine.typed_quick(&self.case.section, text, &mut work),
-            None => self.engine.quick(&self.case.section, &self.case.selection, &mut work),
+            Some(text) => self.engine.typed_quick(section, families, text, &mut work),
+            None => self.engine.quick(section, families, &self.case.selection, &mut work),
         };
         match answer {
             Quick::Refused { number, place } => format!("refused {number} at {place}"),
@@ -328,6 +336,7 @@ fn case(example: &Example, first: &[u32]) -> Case {
     let [work_len, buffer_len, _] = example.lent();
     Case {
         section: example.section().unwrap_or_else(|| first.to_vec()),
+        families: example.families(),
         selection: selection.unwrap_or_default(),
         work_len,
         buffer: vec![NOISE; buffer_len],
@@ -351,6 +360,7 @@ fn check(example: &Example, first: &[u32]) {
     }
     if example.part("prints").is_some() {
         assert!(example.part("lent").is_none(), "line {}: ftlist lends what is enough", example.line);
+        assert!(example.part("families").is_none(), "line {}: ftlist lends the empty table", example.line);
         assert!(example.selection().is_some(), "line {}: ftlist reads codes", example.line);
         check_program(example, &text::bytes(&case.section, &case.selection));
     }
@@ -358,12 +368,13 @@ fn check(example: &Example, first: &[u32]) {
 
 /// Both engines read a typed search to the example's codes, or refuse it as the example states.
 fn check_text(example: &Example, case: &Case, text: &[u8]) {
-    let Case { section, work_len, buffer, .. } = case.clone();
+    let Case { section, families, work_len, buffer, .. } = case.clone();
     let [.., lent] = example.lent();
-    let typed_case = TypedCase { text: text.to_vec(), section, work_len, buffer, selection: vec![NOISE; lent] };
+    let (text, selection) = (text.to_vec(), vec![NOISE; lent]);
+    let typed_case = TypedCase { text: text.clone(), section, families, work_len, buffer, selection };
     compare_typed(&Proved, &typed_case).unwrap_or_else(|wrong| panic!("line {}: {wrong}", example.line));
     for (engine_name, engine) in engines() {
-        let read = Asked { engine, case, text: Some(text), lent }.read();
+        let read = Asked { engine, case, text: Some(&text), lent }.read();
         let refusal = read.strip_prefix("refused ");
         let stated = example.part("read").is_some() || refusal.is_none() || refusal == example.part("refused");
         assert!(stated, "line {}: the {engine_name} engine's reader: {read}", example.line);
@@ -414,6 +425,7 @@ fn limit(what: &str) -> usize {
 #[test]
 fn the_limits_are_stated() {
     assert_eq!(limit("tokens of a section"), MOST_TOKENS);
+    assert_eq!(limit("entries of a family table"), MOST_ENTRIES);
     assert_eq!(limit("codes of a selection"), MOST_CODES);
     assert_eq!(limit("words of a phrase"), MOST_WORDS);
     assert_eq!(limit("words that wait"), MOST_WORDS);

@@ -5,7 +5,7 @@ mod words;
 
 use examples::*;
 use second_engine::sizes::Size;
-use second_engine::{engine as second, text, Engine, Listing, SecondEngine};
+use second_engine::{engine as second, text, Engine, Listing, SecondEngine, EMPTY};
 
 fn engine() -> impl Engine {
     SecondEngine::new()
@@ -64,13 +64,13 @@ fn astronomical() {
     let many = plain(&[vec![1; 16], vec![2; 16]].concat());
     let not = word(1).and(word(2)).not();
     assert_eq!(listing(&many, &not.numbers()), Listing::Refused { number: 9, place: 6 });
-    let lists = second::unlimited_lists(&many, &not.numbers()).unwrap();
+    let lists = second::unlimited_lists(&many, &EMPTY, &not.numbers()).unwrap();
     let last = lists.last().unwrap();
     assert!(last.list.is_none());
     assert_eq!(last.size.unwrap().matches, u128::MAX, "2^256 stops at the top");
     // 2^120 is still exact
     let some = plain(&[vec![1; 10], vec![2; 12]].concat());
-    let lists = second::unlimited_lists(&some, &not.numbers()).unwrap();
+    let lists = second::unlimited_lists(&some, &EMPTY, &not.numbers()).unwrap();
     assert_eq!(lists.last().unwrap().size.unwrap().matches, 1 << 120);
     assert_eq!(lists.last().unwrap().size.unwrap().strings, 120 << 120);
 }
@@ -79,7 +79,7 @@ fn astronomical() {
 #[test]
 fn astronomical_occurs() {
     let size = |finds: usize, selection: Selection| {
-        let lists = second::unlimited_lists(&plain(&vec![5; finds]), &selection.numbers()).unwrap();
+        let lists = second::unlimited_lists(&plain(&vec![5; finds]), &EMPTY, &selection.numbers()).unwrap();
         let Size { matches, strings } = lists[1].size.unwrap();
         (matches, strings, lists[1].list.is_some())
     };

@@ -8,8 +8,9 @@ mod proved;
 mod words;
 
 use proved::exported;
+use second_engine::families::{Families, MOST_ENTRIES};
 use second_engine::typed::{FILTERS, MOST_BYTES, OCCURS, SELECTION};
-use second_engine::{cases, filter_cases, occurs_cases, BUFFER, WORK};
+use second_engine::{cases, family_cases, filter_cases, occurs_cases, BUFFER, EMPTY, WORK};
 use std::arch::asm;
 use words::examples::examples;
 use words::header::stated;
@@ -17,8 +18,15 @@ use words::*;
 
 const PAINT: u64 = 0x5AA5_5AA5_5AA5_5AA5;
 
-/// A call's arguments: six in registers, then up to three on the stack.
-type Arguments = [usize; 9];
+/// A call's arguments: six in registers, then up to five on the stack.
+type Arguments = [usize; 11];
+
+/// So many arguments, the rest zeros.
+fn arguments(list: &[usize]) -> Arguments {
+    let mut all = [0; 11];
+    all[..list.len()].copy_from_slice(list);
+    all
+}
 
 /// A stack, painted between two calls.
 struct Stack(Vec<u128>);
@@ -45,6 +53,8 @@ impl Stack {
             "mov r12, rsp",
             "mov rsp, r13",
             "sub rsp, 8",
+            "push qword ptr [r14 + 80]",
+            "push qword ptr [r14 + 72]",
             "push qword ptr [r14 + 64]",
             "push qword ptr [r14 + 56]",
             "push qword ptr [r14 + 48]",
@@ -64,7 +74,7 @@ impl Stack {
         );
         let unused = words.iter().take_while(|&&word| word == PAINT).count();
         assert!(unused > 0, "the painted stack is too small");
-        (words.len() - unused) * 8 - 4 * 8
+        (words.len() - unused) * 8 - 6 * 8
     }
 }
 
@@ -77,21 +87,27 @@ struct Most {
 }
 
 impl Most {
-    /// All three calls on a section and a selection, with enough memory.
+    /// All three calls on a section and a selection, with the empty table and enough memory.
     fn of(&mut self, stack: &mut Stack, section: &[u32], selection: &[u32]) {
+        self.by(stack, section, &EMPTY, selection);
+    }
+
+    /// The same with any table.
+    fn by(&mut self, stack: &mut Stack, section: &[u32], families: &[u32], selection: &[u32]) {
         let (mut work, mut buffer, mut answer) = (vec![0u32; WORK], vec![0u32; BUFFER], [0u32; 4]);
         let (section_at, selection_at) = (section.as_ptr() as usize, selection.as_ptr() as usize);
         let (work_at, buffer_at) = (work.as_mut_ptr() as usize, buffer.as_mut_ptr() as usize);
         let answer_at = answer.as_mut_ptr() as usize;
-        let inputs = [section_at, section.len(), selection_at, selection.len(), work_at, WORK];
-        let with = |rest: [usize; 3]| -> Arguments { [inputs.as_slice(), &rest].concat().try_into().unwrap() };
-        let (last, ones) = (section.first().map_or(0, |&n| n as usize), [0; 5]);
-        let snippet: Arguments = [[section_at, section.len(), 1, last].as_slice(), &ones].concat().try_into().unwrap();
+        let families_at = families.as_ptr() as usize;
+        let inputs = [section_at, section.len(), families_at, families.len(), selection_at, selection.len()];
+        let with = |rest: &[usize]| arguments(&[inputs.as_slice(), &[work_at, WORK], rest].concat());
+        let last = section.first().map_or(0, |&n| n as usize);
+        let snippet = arguments(&[section_at, section.len(), 1, last]);
         // SAFETY: the declarations in `proved`, and slices that do not overlap.
         unsafe {
             let listing =
-                stack.taken_by(exported::jullpinay_listing as *const (), &with([buffer_at, BUFFER, answer_at]));
-            let quick = stack.taken_by(exported::jullpinay_quick as *const (), &with([answer_at, 0, 0]));
+                stack.taken_by(exported::jullpinay_listing as *const (), &with(&[buffer_at, BUFFER, answer_at]));
+            let quick = stack.taken_by(exported::jullpinay_quick as *const (), &with(&[answer_at]));
             let snippet = stack.taken_by(exported::jullpinay_snippet as *const (), &snippet);
             self.listing = self.listing.max(listing);
             self.quick = self.quick.max(quick);
@@ -133,6 +149,40 @@ fn occurs_of_many() -> Vec<(Selection, usize)> {
     list
 }
 
+/// As many entries as a table may have, in families of so many, in rows or mixed.
+fn full_table(members: usize, mixed: bool) -> Vec<u32> {
+    let size = MOST_ENTRIES;
+    let family = |at: usize| if mixed { at % size.div_ceil(members) } else { at / members };
+    Families((0..size).map(|at| (10 * at as u32, family(at) as u32)).collect()).numbers()
+}
+
+/// Phrases of eight words over the whole of a section, all of them, some or none in a table: of families of one member, of
+/// few and of many.
+fn searches_by_families() -> Vec<(Vec<u32>, Vec<u32>, Selection)> {
+    let of_table = |at: usize| 10 * (at % MOST_ENTRIES) as u32;
+    let rows: [fn(usize) -> bool; 4] = [|_| true, |at| at % 2 == 0, |at| at % 8 == 7, |_| false];
+    let mut list = vec![];
+    for (members, mixed) in [1, 2, 15, 16, 17, 40, 100, 1_024, 2_048].into_iter().flat_map(|m| [(m, false), (m, true)])
+    {
+        let table = full_table(members, mixed);
+        for in_table in rows {
+            // a word outside of the table stands between two of it
+            let word_at = |at: usize, moved: usize| of_table(at + moved) + u32::from(!in_table(at));
+            let tokens: Vec<u32> = (0..4_096).map(|at| word_at(at, 0)).collect();
+            let moved = if mixed { MOST_ENTRIES.div_ceil(members) } else { 1 };
+            for start in [0, 7, 2_000, 4_088] {
+                let words = |moved: usize| (start..start + 8).map(|at| word_at(at, moved)).collect::<Vec<u32>>();
+                for leaf in [phrase(&words(0)), phrase(&words(moved)), phrase(&[of_table(start); 8])] {
+                    let selection = deepest(&leaf, |part| part.not());
+                    list.push((plain(&tokens), table.clone(), leaf.clone().window(9).not()));
+                    list.push((plain(&tokens[..17]), table.clone(), selection));
+                }
+            }
+        }
+    }
+    list
+}
+
 /// A leaf under as many codes as a selection has room for.
 fn deepest(leaf: &Selection, above: impl Fn(Selection) -> Selection) -> Selection {
     let mut whole = leaf.clone();
@@ -169,8 +219,12 @@ fn each_call_stays_within_the_stack_that_the_header_states() {
         }
     }
     let count = if cfg!(debug_assertions) { 1_000 } else { 20_000 };
-    for case in cases(1, count).chain(occurs_cases(1, count)).chain(filter_cases(1, count / 20)) {
-        most.of(&mut stack, &case.section, &case.selection);
+    let random = cases(1, count).chain(occurs_cases(1, count)).chain(filter_cases(1, count / 20));
+    for case in random.chain(family_cases(1, count)) {
+        most.by(&mut stack, &case.section, &case.families, &case.selection);
+    }
+    for (section, families, selection) in searches_by_families() {
+        most.by(&mut stack, &section, &families, &selection.numbers());
     }
     held(512, [("LISTING", most.listing), ("QUICK", most.quick), ("SNIPPET", most.snippet)]);
 }
@@ -198,18 +252,23 @@ struct Typed {
 }
 
 impl Typed {
-    /// All three typed calls on a text, over document 01's six tokens and with enough memory.
+    /// All three typed calls on a text, over document 01's six tokens, with the empty table and enough memory.
     fn of(stack: &mut Stack, text: &[u8]) -> Typed {
+        Typed::by(stack, text, &EMPTY)
+    }
+
+    /// The same with any table.
+    fn by(stack: &mut Stack, text: &[u8], families: &[u32]) -> Typed {
         let (section, mut work, mut buffer) = (six_tokens(), vec![0u32; WORK], vec![0u32; BUFFER]);
         let (mut selection, mut answer) = ([0u32; SELECTION], [0u32; 4]);
         let (section_at, text_at, answer_at) =
             (section.as_ptr() as usize, text.as_ptr() as usize, answer.as_mut_ptr() as usize);
         let (work_at, buffer_at) = (work.as_mut_ptr() as usize, buffer.as_mut_ptr() as usize);
         let selection_at = selection.as_mut_ptr() as usize;
-        let read = [text_at, text.len(), selection_at, SELECTION, answer_at, 0, 0, 0, 0];
-        let inputs = [section_at, section.len(), text_at, text.len(), work_at, WORK];
-        let with = |rest: [usize; 3]| -> Arguments { [inputs.as_slice(), &rest].concat().try_into().unwrap() };
-        let (listing, quick) = (with([buffer_at, BUFFER, answer_at]), with([answer_at, 0, 0]));
+        let read = arguments(&[text_at, text.len(), selection_at, SELECTION, answer_at]);
+        let inputs = [section_at, section.len(), families.as_ptr() as usize, families.len(), text_at, text.len()];
+        let with = |rest: &[usize]| arguments(&[inputs.as_slice(), &[work_at, WORK], rest].concat());
+        let (listing, quick) = (with(&[buffer_at, BUFFER, answer_at]), with(&[answer_at]));
         // SAFETY: the declarations in `proved::typed`, and slices that do not overlap.
         unsafe {
             Typed {
@@ -284,6 +343,11 @@ fn each_typed_call_stays_within_the_stack_that_the_header_states() {
     let (mut stack, mut most) = (Stack::of_bytes(1 << 20), Typed::default());
     for text in deepest_texts() {
         most = most.most(Typed::of(&mut stack, text.as_bytes()));
+    }
+    // and with a table by which all that is searched is found
+    let table = full_table(MOST_ENTRIES, false);
+    for text in [filled("(", "\"20 30 20 30 20 30 20 30\"", ")"), filled("(", "\"20 30\"window 9 words", ")")] {
+        most = most.most(Typed::by(&mut stack, text.as_bytes(), &table));
     }
     held(4_096, [("READ", most.read), ("TYPED_LISTING", most.listing), ("TYPED_QUICK", most.quick)]);
 }

@@ -12,7 +12,7 @@ use second_engine::gen::{self, Rng};
 use second_engine::typed::{self, SELECTION};
 use second_engine::typed_gen::{joined, rows, rows_that_go_on, spelled, without_blanks};
 use second_engine::{
-    compare_typed, hunt_typed, selection, typed_cases, Engine, Listing, Quick, Refusal, TypedCase, BUFFER, WORK,
+    compare_typed, hunt_typed, selection, typed_cases, Engine, Listing, Quick, Refusal, TypedCase, BUFFER, EMPTY, WORK,
 };
 use std::collections::BTreeMap;
 use std::time::Instant;
@@ -27,8 +27,8 @@ const NOISE: u32 = 0xEEEE_EEEE;
 
 /// A text over document 01's six tokens, with enough memory.
 fn over_six_tokens(text: &[u8]) -> TypedCase {
-    let (section, buffer) = (six_tokens(), vec![NOISE; BUFFER]);
-    TypedCase { text: text.to_vec(), section, work_len: WORK, buffer, selection: marked(SELECTION) }
+    let (section, families, buffer) = (six_tokens(), EMPTY.to_vec(), vec![NOISE; BUFFER]);
+    TypedCase { text: text.to_vec(), section, families, work_len: WORK, buffer, selection: marked(SELECTION) }
 }
 
 /// The codes that an engine reads in a text, or its refusal; all three typed calls are compared with the second engine's on
@@ -318,8 +318,8 @@ fn what_only_the_codes_are_refused_for() {
     let section = [1, 1, 65_537];
     let both = |text: &str| {
         read(engine, text.as_bytes()).unwrap_or_else(|wrong| panic!("{text}: {wrong:?}"));
-        let listing = engine.typed_listing(&section, text.as_bytes(), &mut [NOISE; WORK], &mut [NOISE; BUFFER]);
-        let quick = engine.typed_quick(&section, text.as_bytes(), &mut [NOISE; WORK]);
+        let listing = engine.typed_listing(&section, &EMPTY, text.as_bytes(), &mut [NOISE; WORK], &mut [NOISE; BUFFER]);
+        let quick = engine.typed_quick(&section, &EMPTY, text.as_bytes(), &mut [NOISE; WORK]);
         match (listing, quick) {
             (Listing::Refused { number, place }, Quick::Refused { number: other, place: at }) => {
                 assert_eq!((number, place), (other, at), "{text}");
@@ -384,6 +384,7 @@ fn sixty_four_codes() {
     }
     let answers = |section: &[u32], work_len: usize, text: &str| match engine.typed_quick(
         section,
+        &EMPTY,
         text.as_bytes(),
         &mut vec![NOISE; work_len],
     ) {
@@ -487,26 +488,32 @@ fn a_typed_search_finds() {
     let section = [6, 10, 20, 30, 10, 40, 20, 65_537, 65_537, 65_537, 65_538, 65_538, 65_538];
     let text = b"\"10\" ftand \"20\" window 3 words";
     let mut buffer = [NOISE; BUFFER];
-    let listing = engine.typed_listing(&section, text, &mut [NOISE; WORK], &mut buffer);
+    let listing = engine.typed_listing(&section, &EMPTY, text, &mut [NOISE; WORK], &mut buffer);
     assert_eq!(listing, Listing::Listed { matches: 4, strings: 4, yes: true });
     assert_eq!(buffer[..6], [4, 4, 1, 1, 1, 1]);
     assert_eq!(buffer[6..10], [65_538, 65_538, 131_076, 262_150]);
     assert_eq!(buffer[14], NOISE);
-    let quick = engine.typed_quick(&section, text, &mut [NOISE; WORK]);
+    let quick = engine.typed_quick(&section, &EMPTY, text, &mut [NOISE; WORK]);
     assert_eq!(quick, Quick::Answered { yes: true, codes: 4 });
     let not = b"\"10\" ftand ftnot \"40\"";
-    assert_eq!(engine.typed_quick(&section, not, &mut [NOISE; WORK]), Quick::Answered { yes: false, codes: 4 });
+    assert_eq!(engine.typed_quick(&section, &EMPTY, not, &mut [NOISE; WORK]), Quick::Answered { yes: false, codes: 4 });
     let same = b"\"10\" ftand ftnot \"40\" same sentence";
-    assert_eq!(engine.typed_quick(&section, same, &mut [NOISE; WORK]), Quick::Answered { yes: true, codes: 5 });
+    assert_eq!(engine.typed_quick(&section, &EMPTY, same, &mut [NOISE; WORK]), Quick::Answered { yes: true, codes: 5 });
     let twice = b"\"10\" occurs at least 2 times";
-    assert_eq!(engine.typed_quick(&section, twice, &mut [NOISE; WORK]), Quick::Answered { yes: true, codes: 2 });
+    assert_eq!(
+        engine.typed_quick(&section, &EMPTY, twice, &mut [NOISE; WORK]),
+        Quick::Answered { yes: true, codes: 2 }
+    );
     // the early way out of a filter: 2 × 257 windows aren't listed
     let far = b"\"10\" window 257 words";
-    let refused = engine.typed_listing(&section, far, &mut [NOISE; WORK], &mut buffer);
+    let refused = engine.typed_listing(&section, &EMPTY, far, &mut [NOISE; WORK], &mut buffer);
     assert_eq!(refused, Listing::Refused { number: 9, place: 3 });
-    assert_eq!(engine.typed_quick(&section, far, &mut [NOISE; WORK]), Quick::Answered { yes: true, codes: 2 });
+    assert_eq!(engine.typed_quick(&section, &EMPTY, far, &mut [NOISE; WORK]), Quick::Answered { yes: true, codes: 2 });
     let once = b"\"10\" occurs exactly 1 times";
-    assert_eq!(engine.typed_quick(&section, once, &mut [NOISE; WORK]), Quick::Answered { yes: false, codes: 2 });
+    assert_eq!(
+        engine.typed_quick(&section, &EMPTY, once, &mut [NOISE; WORK]),
+        Quick::Answered { yes: false, codes: 2 }
+    );
 }
 
 // Every text of some sort
@@ -626,22 +633,26 @@ fn random_texts() {
     println!("{count} typed cases in {:?}", begun.elapsed());
 }
 
-/// Every sort of text with every sort of section and of lent memory: which refusal comes first.
+/// Every sort of text with every sort of section, of table and of lent memory: which refusal comes first.
 #[test]
 fn every_order_of_refusals() {
     let sixty_five = "\"1\"".to_string() + &" ordered".repeat(63);
     let long = " ".repeat(2_049);
     let texts = ["\"1\"", "\"1\" ftand", "\"1\" window 0 words", "\"4294967296\"", &sixty_five, &long];
     let sections = [vec![2, 1, 1, 65_537, 65_537], vec![2, 1, 1, 2, 1], vec![1, 1], vec![]];
+    // of no numbers, of a wrong length, out of order; and two without a fault
+    let tables = [vec![0], vec![1, 1, 7], vec![], vec![1, 1], vec![2, 1, 1, 7, 7]];
     let memory = [(WORK, BUFFER), (WORK - 1, BUFFER), (WORK, BUFFER - 1), (0, 0), (WORK + 1, BUFFER + 1)];
     for (text, section, (work_len, buffer_len)) in texts.iter().flat_map(|text| {
         let sections = sections.iter();
         sections.flat_map(move |section| memory.into_iter().map(move |memory| (text, section, memory)))
     }) {
-        for lent in [SELECTION, SELECTION - 1] {
-            let (text, section) = (text.as_bytes().to_vec(), section.clone());
+        for (lent, families) in
+            [SELECTION, SELECTION - 1].into_iter().flat_map(|lent| tables.iter().map(move |table| (lent, table)))
+        {
+            let (text, section, families) = (text.as_bytes().to_vec(), section.clone(), families.clone());
             let (buffer, selection) = (vec![NOISE; buffer_len], vec![NOISE; lent]);
-            compare_typed(&engine(), &TypedCase { text, section, work_len, buffer, selection }).unwrap();
+            compare_typed(&engine(), &TypedCase { text, section, families, work_len, buffer, selection }).unwrap();
         }
     }
 }
@@ -668,12 +679,12 @@ fn typed_cases_meet_everything() {
             Ok(codes) => {
                 meet(format!("codes {}", if codes.len() < 60 { "under 60".into() } else { codes.len().to_string() }));
                 codes.iter().for_each(|(kind, _)| meet(format!("kind {kind}")));
-                match typed::typed_quick(&case.section, &case.text, case.work_len) {
+                match typed::typed_quick(&case.section, &case.families, &case.text, case.work_len) {
                     Quick::Refused { number, .. } => meet(format!("quick refused {number}")),
                     Quick::Answered { yes, .. } => meet(format!("quick {yes}")),
                 }
                 let mut buffer = case.buffer.clone();
-                match typed::typed_listing(&case.section, &case.text, case.work_len, &mut buffer) {
+                match typed::typed_listing(&case.section, &case.families, &case.text, case.work_len, &mut buffer) {
                     Listing::Refused { number, .. } => meet(format!("listing refused {number}")),
                     Listing::Listed { yes, .. } => meet(format!("listed {yes}")),
                 }
@@ -687,7 +698,7 @@ fn typed_cases_meet_everything() {
     needed.extend((60..=70).map(|codes| format!("codes {codes}")));
     needed.extend((2_047..=2_048).map(|length| format!("length {length}")));
     // a text can't have kinds that are unknown, and its occurs are over phrases
-    for number in [1, 2, 3, 5, 6, 7, 8, 9] {
+    for number in [1, 2, 3, 5, 6, 7, 8, 9, 13] {
         needed.push(format!("quick refused {number}"));
         needed.push(format!("listing refused {number}"));
     }

@@ -9,7 +9,7 @@ mod grammar;
 use grammar::{filters, is_number, times, typed_out, Derived, Grammar, Tokens};
 use second_engine::typed::{self, begins_a_selection};
 use second_engine::typed_gen::{rows, without_blanks, ALPHABET};
-use second_engine::{typed_cases, Quick, Refusal, WORK};
+use second_engine::{typed_cases, Quick, Refusal, EMPTY, WORK};
 use std::collections::{HashMap, HashSet};
 use std::sync::OnceLock;
 
@@ -218,7 +218,7 @@ fn codes_of_an_occurs_are_refused() {
     ];
     for (text, refused) in texts {
         let refused = refused.map(|(number, place)| Quick::Refused { number, place });
-        let answer = typed::typed_quick(&[0], text.as_bytes(), WORK);
+        let answer = typed::typed_quick(&[0], &EMPTY, text.as_bytes(), WORK);
         assert!(
             refused.map_or(matches!(answer, Quick::Answered { .. }), |wanted| answer == wanted),
             "{text}: {answer:?}"

@@ -19,11 +19,11 @@ impl Asked {
 
     fn listing(&mut self, section: &[u32], selection: &[u32]) -> Listing {
         self.buffer.fill(NOISE);
-        crate::engine().listing(section, selection, &mut self.work, &mut self.buffer)
+        crate::engine().listing(section, &EMPTY, selection, &mut self.work, &mut self.buffer)
     }
 
     fn quick(&mut self, section: &[u32], selection: &[u32]) -> Quick {
-        crate::engine().quick(section, selection, &mut self.work)
+        crate::engine().quick(section, &EMPTY, selection, &mut self.work)
     }
 
     /// All three calls accept a section of these units; or listing and quick answer refuse it at this position, and the
@@ -465,10 +465,14 @@ impl Asked {
         let numbers = selection.numbers();
         let mut wanted = vec![NOISE; BUFFER];
         let listing = self.listing(section, &numbers);
-        assert_eq!(listing, second::listing(section, &numbers, WORK, &mut wanted), "{section:?}, {selection:?}");
+        assert_eq!(
+            listing,
+            second::listing(section, &EMPTY, &numbers, WORK, &mut wanted),
+            "{section:?}, {selection:?}"
+        );
         assert_eq!(self.buffer, wanted, "{section:?}, {selection:?}");
         let quick = self.quick(section, &numbers);
-        assert_eq!(quick, second::quick(section, &numbers, WORK), "{section:?}, {selection:?}");
+        assert_eq!(quick, second::quick(section, &EMPTY, &numbers, WORK), "{section:?}, {selection:?}");
         let Quick::Answered { yes, .. } = quick else { return None };
         if let Listing::Listed { yes: listed, .. } = listing {
             assert_eq!(yes, listed, "{section:?}, {selection:?}");

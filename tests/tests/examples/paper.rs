@@ -81,7 +81,7 @@ fn sixteen_by_sixteen() {
     assert_eq!(lines(&by(16, 16), &both)[0], "yes 256 512");
     assert_eq!(listing(&by(16, 17), &both.numbers()), Listing::Refused { number: 9, place: 5 });
     assert_eq!(listing(&by(17, 16), &both.numbers()), Listing::Refused { number: 9, place: 5 });
-    assert_eq!(unlimited(&by(16, 17), &both.numbers()).unwrap().len(), 272);
+    assert_eq!(unlimited(&by(16, 17), &EMPTY, &both.numbers()).unwrap().len(), 272);
 }
 
 /// "300 equal tokens, that word: listing 9 at code 2; quick yes, 1 code."
@@ -90,7 +90,7 @@ fn three_hundred() {
     let section = plain(&[7; 300]);
     assert_eq!(listing(&section, &word(7).numbers()), Listing::Refused { number: 9, place: 2 });
     assert_eq!(quick(&section, &word(7).numbers()), Quick::Answered { yes: true, codes: 1 });
-    assert_eq!(unlimited(&section, &word(7).numbers()).unwrap().len(), 300);
+    assert_eq!(unlimited(&section, &EMPTY, &word(7).numbers()).unwrap().len(), 300);
 }
 
 /// "Accepted against refused: n 4,096 and 4,097; m 64 and 65; N 4,096 and 4,097; eight waiting lists and nine."
@@ -140,7 +140,7 @@ fn window_three() {
 fn the_buffer() {
     let mut buffer = vec![99; BUFFER + 3];
     let selection = word(10).and(word(40).not()).numbers();
-    let answer = listing_in(&six_tokens(), &selection, WORK, &mut buffer);
+    let answer = listing_in(&six_tokens(), &EMPTY, &selection, WORK, &mut buffer);
     assert_eq!(answer, Listing::Listed { matches: 2, strings: 4, yes: false });
     let spans = [65_537, 5 * 65_537, 4 * 65_537, 5 * 65_537];
     let tags = [4 + 2, 8 + 2 + 1, 4 + 2, 8 + 2 + 1];

@@ -66,7 +66,7 @@ fn published_examples() {
         let mut matches = vec![];
         for section in sections(example) {
             answer |= yes(&section, &selection);
-            matches.extend(second_engine::unlimited(&section, &selection.numbers()).unwrap().iter().map(short));
+            matches.extend(second_engine::unlimited(&section, &EMPTY, &selection.numbers()).unwrap().iter().map(short));
         }
 
         let reading = example.get("reading").text();

@@ -9,16 +9,26 @@ fn refused(section: &[u32], selection: &[u32]) -> Option<(u32, u32)> {
 }
 
 fn refused_with(section: &[u32], selection: &[u32], work: usize, buffer: usize) -> Option<(u32, u32)> {
+    refused_by(section, &EMPTY, selection, work, buffer)
+}
+
+pub fn refused_by(
+    section: &[u32],
+    families: &[u32],
+    selection: &[u32],
+    work: usize,
+    buffer: usize,
+) -> Option<(u32, u32)> {
     let before: Vec<u32> = (0..buffer as u32).map(|number| number ^ 0x5555).collect();
     let mut after = before.clone();
-    let listing = match listing_in(section, selection, work, &mut after) {
+    let listing = match listing_in(section, families, selection, work, &mut after) {
         Listing::Listed { .. } => None,
         Listing::Refused { number, place } => {
             assert_eq!(before, after, "a refusal leaves the buffer unchanged");
             Some((number, place))
         }
     };
-    let quick = match quick_in(section, selection, work) {
+    let quick = match quick_in(section, families, selection, work) {
         Quick::Answered { .. } => None,
         Quick::Refused { number, place } => Some((number, place)),
     };

@@ -232,12 +232,12 @@ fn every_small_filter() {
             for operand in &operands {
                 for (kind, number) in &filters {
                     let selection = operand.clone().then(*kind, *number);
-                    let list = unlimited(&section, &selection.numbers()).unwrap();
+                    let list = unlimited(&section, &EMPTY, &selection.numbers()).unwrap();
                     let yes = rules::is_yes(&list);
                     let codes = selection.0.iter().filter(|code| code.kind > 0).count() as u32;
-                    let answer = quick_in(&section, &selection.numbers(), WORK);
+                    let answer = quick_in(&section, &EMPTY, &selection.numbers(), WORK);
                     assert_eq!(answer, Quick::Answered { yes, codes }, "{words:?}, {selection:?}");
-                    let not = quick_in(&section, &selection.not().numbers(), WORK);
+                    let not = quick_in(&section, &EMPTY, &selection.not().numbers(), WORK);
                     assert_eq!(not, Quick::Answered { yes: !yes, codes: codes + 1 }, "{words:?}");
                     asked[usize::from(yes)] += 1;
                 }

@@ -16,13 +16,21 @@ pub mod exported;
 const UNWRITTEN: u32 = 0xDEAD_BEEF;
 
 /// The full listing: what is returned, and the answer's four numbers.
-pub fn listing(section: &[u32], selection: &[u32], work: &mut [u32], buffer: &mut [u32]) -> (u32, [u32; 4]) {
+pub fn listing(
+    section: &[u32],
+    families: &[u32],
+    selection: &[u32],
+    work: &mut [u32],
+    buffer: &mut [u32],
+) -> (u32, [u32; 4]) {
     let mut answer = [UNWRITTEN; 4];
-    // SAFETY: the function takes any four slices and reads and writes within them alone; none of them overlap.
+    // SAFETY: the function takes any five slices and reads and writes within them alone; none of them overlap.
     let returned = unsafe {
         exported::jullpinay_listing(
             section.as_ptr(),
             section.len(),
+            families.as_ptr(),
+            families.len(),
             selection.as_ptr(),
             selection.len(),
             work.as_mut_ptr(),
@@ -36,13 +44,15 @@ pub fn listing(section: &[u32], selection: &[u32], work: &mut [u32], buffer: &mu
 }
 
 /// The quick answer: what is returned, and the answer's three numbers.
-pub fn quick(section: &[u32], selection: &[u32], work: &mut [u32]) -> (u32, [u32; 3]) {
+pub fn quick(section: &[u32], families: &[u32], selection: &[u32], work: &mut [u32]) -> (u32, [u32; 3]) {
     let mut answer = [UNWRITTEN; 3];
     // SAFETY: as above.
     let returned = unsafe {
         exported::jullpinay_quick(
             section.as_ptr(),
             section.len(),
+            families.as_ptr(),
+            families.len(),
             selection.as_ptr(),
             selection.len(),
             work.as_mut_ptr(),
@@ -96,12 +106,19 @@ fn quick_answer((returned, answer): (u32, [u32; 3])) -> Quick {
 pub struct Proved;
 
 impl Engine for Proved {
-    fn listing(&self, section: &[u32], selection: &[u32], work: &mut [u32], buffer: &mut [u32]) -> Listing {
-        listing_answer(listing(section, selection, work, buffer))
+    fn listing(
+        &self,
+        section: &[u32],
+        families: &[u32],
+        selection: &[u32],
+        work: &mut [u32],
+        buffer: &mut [u32],
+    ) -> Listing {
+        listing_answer(listing(section, families, selection, work, buffer))
     }
 
-    fn quick(&self, section: &[u32], selection: &[u32], work: &mut [u32]) -> Quick {
-        quick_answer(quick(section, selection, work))
+    fn quick(&self, section: &[u32], families: &[u32], selection: &[u32], work: &mut [u32]) -> Quick {
+        quick_answer(quick(section, families, selection, work))
     }
 
     fn snippet<'a>(&self, section: &'a [u32], from: u32, to: u32) -> &'a [u32] {
@@ -112,11 +129,18 @@ impl Engine for Proved {
         typed::read_answer(typed::read(text, selection))
     }
 
-    fn typed_listing(&self, section: &[u32], text: &[u8], work: &mut [u32], buffer: &mut [u32]) -> Listing {
-        listing_answer(typed::listing(section, text, work, buffer))
+    fn typed_listing(
+        &self,
+        section: &[u32],
+        families: &[u32],
+        text: &[u8],
+        work: &mut [u32],
+        buffer: &mut [u32],
+    ) -> Listing {
+        listing_answer(typed::listing(section, families, text, work, buffer))
     }
 
-    fn typed_quick(&self, section: &[u32], text: &[u8], work: &mut [u32]) -> Quick {
-        quick_answer(typed::quick(section, text, work))
+    fn typed_quick(&self, section: &[u32], families: &[u32], text: &[u8], work: &mut [u32]) -> Quick {
+        quick_answer(typed::quick(section, families, text, work))
     }
 }

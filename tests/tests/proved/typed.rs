@@ -14,13 +14,21 @@ pub fn read(text: &[u8], selection: &mut [u32]) -> (u32, [u32; 2]) {
 }
 
 /// The full listing of a typed search: what is returned, and the answer's four numbers.
-pub fn listing(section: &[u32], text: &[u8], work: &mut [u32], buffer: &mut [u32]) -> (u32, [u32; 4]) {
+pub fn listing(
+    section: &[u32],
+    families: &[u32],
+    text: &[u8],
+    work: &mut [u32],
+    buffer: &mut [u32],
+) -> (u32, [u32; 4]) {
     let mut answer = [UNWRITTEN; 4];
-    // SAFETY: the function takes any four slices and reads and writes within them alone; none of them overlap.
+    // SAFETY: the function takes any five slices and reads and writes within them alone; none of them overlap.
     let returned = unsafe {
         exported::jullpinay_typed_listing(
             section.as_ptr(),
             section.len(),
+            families.as_ptr(),
+            families.len(),
             text.as_ptr(),
             text.len(),
             work.as_mut_ptr(),
@@ -34,13 +42,15 @@ pub fn listing(section: &[u32], text: &[u8], work: &mut [u32], buffer: &mut [u32
 }
 
 /// The quick answer of a typed search: what is returned, and the answer's three numbers.
-pub fn quick(section: &[u32], text: &[u8], work: &mut [u32]) -> (u32, [u32; 3]) {
+pub fn quick(section: &[u32], families: &[u32], text: &[u8], work: &mut [u32]) -> (u32, [u32; 3]) {
     let mut answer = [UNWRITTEN; 3];
     // SAFETY: as above.
     let returned = unsafe {
         exported::jullpinay_typed_quick(
             section.as_ptr(),
             section.len(),
+            families.as_ptr(),
+            families.len(),
             text.as_ptr(),
             text.len(),
             work.as_mut_ptr(),
