@@ -19,7 +19,8 @@ use Rattle.model.specs.Kinds.{Shape, shapeOf, arity, shapeAt}
 use Rattle.model.specs.Limits.{maxWaiting}
 use Rattle.model.specs.Lists.{Every, first}
 use Rattle.model.specs.Parts.{partEndedBy, phrasesEnded, rankAfter, stateAt, waitingParts}
-use Rattle.model.specs.Section.{Section, size, sectionOf}
+use Rattle.model.specs.Families.{Searched, searchedOf}
+use Rattle.model.specs.Section.{size}
 use Rattle.model.specs.Selection.{codeAt}
 use Rattle.model.specs.Trees.{State, Tree, parts, read}
 use Rattle.model.specs.Waiting.{fits, listsAfter}
@@ -41,7 +42,7 @@ use Rattle.build.specs.State.{Buildable, Waits, WaitsAt, AfterCode}
 use Rattle.build.proofs.WaitingTreesLaws.{part-formed, ranks-state, phrases-state, phrases-below, rank-read, rank-state}
 use Rattle.build.proofs.WordsLaws.{Loose, loose-state, phrase-words, window-size, times-rise}
 
-module _ {section sel mem₀ : List ℕ} {lo hi rank : ℕ} (w : Buildable section sel mem₀ lo hi rank) where
+module _ {section families sel mem₀ : List ℕ} {lo hi rank : ℕ} (w : Buildable section families sel mem₀ lo hi rank) where
   -- what waits after the first n codes of the part
   abbrev pub waitsAfter : ℕ → State
   waitsAfter n = stateAt (shapeAt sel) lo (rankAfter (w .part .below)) n
@@ -51,10 +52,10 @@ module _ {section sel mem₀ : List ℕ} {lo hi rank : ℕ} (w : Buildable secti
     pub here : c ≡ lo + n
     pub up-to : c ≤ hi
     pub long : length mem ≡ length mem₀
-    pub stack : Stack mem (map (allMatches (sectionOf section)) (waitsAfter n .trees))
+    pub stack : Stack mem (map (allMatches (searchedOf section families)) (waitsAfter n .trees))
     pub count : lists ≡ length (waitsAfter n .trees)
     pub rank-is : next ≡ waitsAfter n .rank
-    pub valid : firstTooLong (sectionOf section) (waitingParts (waitsAfter n .trees)) ≡ none
+    pub valid : firstTooLong (searchedOf section families) (waitingParts (waitsAfter n .trees)) ≡ none
 
   fits-next : (n : ℕ) → n < hi - lo → Fits (shapeAt sel (lo + suc n)) (waitsAfter n)
   fits-next = built-fits (shapeAt sel) hi lo (w .part) (w .lo-is) (part-formed sel (w .in-selection) hi (w .part) (w .up-to))
@@ -115,10 +116,11 @@ module _ {section sel mem₀ : List ℕ} {lo hi rank : ℕ} (w : Buildable secti
           (phrases-state sel (w .in-selection) hi (w .part) (w .up-to) lo (w .lo-is) (suc (g .n)) inside)
 
       -- it fits where it stands
-      pub waits-facts : Waits section mem (shapeOf code) (waitsAfter (g .n)) c' next lists
+      pub waits-facts : Waits section families mem (shapeOf code) (waitsAfter (g .n)) c' next lists
       waits-facts =
           record {
             accepted = w .in-section;
+            accepted-families = w .in-families;
             stack = g .stack;
             count = g .count;
             place-is = place-next ∙ sym (place-state (shapeAt sel) lo (rankAfter (w .part .below)) (g .n));
@@ -131,7 +133,7 @@ module _ {section sel mem₀ : List ℕ} {lo hi rank : ℕ} (w : Buildable secti
             room = omega (arith, w .room, g .long);
           }
 
-      unfoldable pub waits-next : WaitsAt section sel mem code c' next lists
+      unfoldable pub waits-next : WaitsAt section families sel mem code c' next lists
       waits-next =
           record {
             state = waitsAfter (g .n);
@@ -141,27 +143,27 @@ module _ {section sel mem₀ : List ℕ} {lo hi rank : ℕ} (w : Buildable secti
             times = λ a b q. times-rise sel (w .in-selection) c' (omega arith) (omega (arith, w .up-to)) a b (sym e ∙ q);
           }
 
-      module _ {mem' : List ℕ} {built : Built} (f : (v : WaitsAt section sel mem code c' next lists) → AfterCode (sectionOf section) (shapeOf code) (v .state) c' mem' built) where
-        after : AfterCode (sectionOf section) (shapeAt sel (lo + suc (g .n))) (waitsAfter (g .n)) c' mem' built
+      module _ {mem' : List ℕ} {built : Built} (f : (v : WaitsAt section families sel mem code c' next lists) → AfterCode (searchedOf section families) (shapeOf code) (v .state) c' mem' built) where
+        after : AfterCode (searchedOf section families) (shapeAt sel (lo + suc (g .n))) (waitsAfter (g .n)) c' mem' built
         unfolding waits-next
-        after = subst (λ (x : Shape). AfterCode (sectionOf section) x (waitsAfter (g .n)) c' mem' built) shape-next (f waits-next)
+        after = subst (λ (x : Shape). AfterCode (searchedOf section families) x (waitsAfter (g .n)) c' mem' built) shape-next (f waits-next)
 
         -- the parts that end so far, with the code's own
-        found : (o : Option ℕ) → firstTooLong (sectionOf section) (partEndedBy (shapeAt sel (lo + suc (g .n))) (waitsAfter (suc (g .n)) .trees)) ≡ o
-            → firstTooLong (sectionOf section) (waitingParts (waitsAfter (suc (g .n)) .trees)) ≡ o
+        found : (o : Option ℕ) → firstTooLong (searchedOf section families) (partEndedBy (shapeAt sel (lo + suc (g .n))) (waitsAfter (suc (g .n)) .trees)) ≡ o
+            → firstTooLong (searchedOf section families) (waitingParts (waitsAfter (suc (g .n)) .trees)) ≡ o
         unfolding stateAt orElse
         found o q =
-            let S = sectionOf section in
+            let S = searchedOf section families in
             let s = waitsAfter (g .n) in
             let x = shapeAt sel (lo + suc (g .n)) in
             let more = step x (s .trees) (s .words) (s .place) (s .rank) (fits-next (g .n) inside .here) .adds in
             ap (firstTooLong S) more ∙ firstTooLong-append S (waitingParts (s .trees)) (partEndedBy x (read x s .trees)) ∙ ap₂ orElse (g .valid) q
 
         -- its list is too long: the first that is
-        pub refuse : built ≡ TooLong → firstTooLong (sectionOf section) (parts (w .part .tree)) ≡ some c'
+        pub refuse : built ≡ TooLong → firstTooLong (searchedOf section families) (parts (w .part .tree)) ≡ some c'
         unfolding stateAt orElse
         refuse t =
-            let S = sectionOf section in
+            let S = searchedOf section families in
             let ts = waitsAfter (suc (g .n)) .trees in
             let b = built-parts (shapeAt sel) hi lo (w .part) (w .lo-is) (part-formed sel (w .in-selection) hi (w .part) (w .up-to)) (suc (g .n)) inside in
             ap (firstTooLong S) (b .1) ∙ firstTooLong-append S (waitingParts ts) (b .0) ∙ ap (λ (o : Option ℕ). orElse o (firstTooLong S (b .0))) (found (some c') (after .long t))
@@ -191,18 +193,18 @@ module _ {section sel mem₀ : List ℕ} {lo hi rank : ℕ} (w : Buildable secti
           let e : g .n ≡ hi - lo = omega (arith, g .here, g .up-to) in
           ap (λ (i : ℕ). waitsAfter i .trees) e ∙ ap (λ (s : State). s .trees) (built-tree (shapeAt sel) hi lo (w .part) (w .lo-is))
 
-      pub end-slot : SlotHolds mem 0 (allMatches (sectionOf section) (w .part .tree))
+      pub end-slot : SlotHolds mem 0 (allMatches (searchedOf section families) (w .part .tree))
       end-slot =
-          stack-last mem (allMatches (sectionOf section) (w .part .tree)) []
-          (subst (λ (ts : List Tree). Stack mem (map (allMatches (sectionOf section)) ts)) state-end (g .stack))
+          stack-last mem (allMatches (searchedOf section families) (w .part .tree)) []
+          (subst (λ (ts : List Tree). Stack mem (map (allMatches (searchedOf section families)) ts)) state-end (g .stack))
 
-      pub end-fine : firstTooLong (sectionOf section) (parts (w .part .tree)) ≡ none
+      pub end-fine : firstTooLong (searchedOf section families) (parts (w .part .tree)) ≡ none
       unfolding waitingParts
-      end-fine = ap (λ (ts : List Tree). firstTooLong (sectionOf section) (waitingParts ts)) (sym state-end) ∙ g .valid
+      end-fine = ap (λ (ts : List Tree). firstTooLong (searchedOf section families) (waitingParts ts)) (sym state-end) ∙ g .valid
 
 -- ---- PartList
 
-module _ {s : Section} {t : Tree} {mem : List ℕ} where
+module _ {s : Searched} {t : Tree} {mem : List ℕ} where
   pub part-long : {place : ℕ} → firstTooLong s (parts t) ≡ some place → PartList s t mem (part.Refused (refusal 9 place))
   part-long {place} e =
       record {

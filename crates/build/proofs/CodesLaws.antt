@@ -20,7 +20,8 @@ use Rattle.model.specs.Lists.{Every, first}
 use Rattle.model.specs.Matches.{Str, Match, tooLong}
 use Rattle.model.specs.Parts.{state}
 use Rattle.model.specs.Rules.{phraseList}
-use Rattle.model.specs.Section.{Section, sectionOf}
+use Rattle.model.specs.Families.{Searched, searchedOf}
+use Rattle.model.specs.Section.{sectionOf}
 use Rattle.model.specs.Trees.{Tree, phrase, pair, change, State, read, combine, changeLast, placeOf, topTree}
 use Rattle.model.specs.Waiting.{fits}
 use Rattle.model.specs.Walk.{firstTooLong}
@@ -38,12 +39,12 @@ use Rattle.build.specs.State.{Waits, After, AfterCode}
 
 -- ---- firstTooLong of one tree
 
-first-one : (s : Section) (t : Tree) (b : Bool) → tooLong (allMatches s t) ≡ b → firstTooLong s (t ∷ []) ≡ Option·map placeOf (first (λ (u : Tree). b) (t ∷ []))
+first-one : (s : Searched) (t : Tree) (b : Bool) → tooLong (allMatches s t) ≡ b → firstTooLong s (t ∷ []) ≡ Option·map placeOf (first (λ (u : Tree). b) (t ∷ []))
 unfolding firstTooLong first
 first-one s t b e = rw e
 
 -- a list pushed is that of the tree that waits as the last
-pub grown : {s : Section} {mem : List ℕ} {built : Built} {place : ℕ} (t : Tree) (ts : List Tree) → place ≡ placeOf t
+pub grown : {s : Searched} {mem : List ℕ} {built : Built} {place : ℕ} (t : Tree) (ts : List Tree) → place ≡ placeOf t
     → Pushed (allMatches s t) (map (allMatches s) ts) mem built → After s (t ∷ []) (t ∷ ts) place mem built
 unfolding first
 grown {s} t ts p a =
@@ -54,7 +55,7 @@ grown {s} t ts p a =
     }
 
 -- a phrase's list is its finds
-phrase-list : (s : Section) (t : Tree) → isPhrase t ≡ true → (finds : List Str) × (allMatches s t ≡ map find finds)
+phrase-list : (s : Searched) (t : Tree) → isPhrase t ≡ true → (finds : List Str) × (allMatches s t ≡ map find finds)
 unfolding allMatches
 phrase-list s (phrase c rank words) e = (findsOf s rank words, phrase-finds s rank words)
 phrase-list s (pair k c t u) e = false-true e
@@ -64,20 +65,20 @@ phrase-list s (change k c t) e = false-true e
 abbrev leaf : State → Tree
 leaf s = phrase (s .place) (s .rank) (s .words)
 
-module _ {section mem : List ℕ} {place rank lists : ℕ} where
+module _ {section families mem : List ℕ} {place rank lists : ℕ} where
   -- every string of the list of the tree that waits as the last after a code is valid
   valid-last : {shape : Shape} {s : State} (t : Tree) (ts : List Tree) → read shape s .trees ≡ t ∷ ts
-      → Waits section mem shape s place rank lists → AllList ValidStr (allMatches (sectionOf section) t)
+      → Waits section families mem shape s place rank lists → AllList ValidStr (allMatches (searchedOf section families) t)
   unfolding Every
-  valid-last t ts e w = valid-matches (sectionOf section) t (w .accepted .few) (subst (Every (RanksUpTo maxPhrases)) e (w .ranks) .0)
+  valid-last t ts e w = valid-matches (searchedOf section families) t (w .accepted .few) (subst (Every (RanksUpTo maxPhrases)) e (w .ranks) .0)
 
   -- ---- aPhrase
 
   module _ {shape : Shape} {s : State} (k : ℕ) (e : shape ≡ aPhrase k) (ws : List ℕ) (ws-are : ws ≡ s .words)
-      (w : Waits section mem shape s place rank lists) where
-    leaf-list : phraseList (sectionOf section) rank ws ≡ allMatches (sectionOf section) (leaf s)
+      (w : Waits section families mem shape s place rank lists) where
+    leaf-list : phraseList (searchedOf section families) rank ws ≡ allMatches (searchedOf section families) (leaf s)
     unfolding allMatches
-    leaf-list = ap (λ (r : ℕ). phraseList (sectionOf section) r ws) (w .rank-is) ∙ ap (phraseList (sectionOf section) (s .rank)) ws-are
+    leaf-list = ap (λ (r : ℕ). phraseList (searchedOf section families) r ws) (w .rank-is) ∙ ap (phraseList (searchedOf section families) (s .rank)) ws-are
 
     leaf-last : read shape s .trees ≡ leaf s ∷ s .trees
     unfolding read
@@ -95,125 +96,125 @@ module _ {section mem : List ℕ} {place rank lists : ℕ} where
     unfolding Every EveryPhrase
     phrase-rank = let r = subst (Every (RanksUpTo maxPhrases)) leaf-last (w .ranks) .0 in omega (arith, w .rank-is, r .up-to)
 
-    unfoldable none-taken : NoneTaken (phraseList (sectionOf section) rank ws) mem lists
+    unfoldable none-taken : NoneTaken (phraseList (searchedOf section families) rank ws) mem lists
     none-taken =
         record {
-          rest = map (allMatches (sectionOf section)) (s .trees);
+          rest = map (allMatches (searchedOf section families)) (s .trees);
           stack = w .stack;
-          count = w .count ∙ sym (length-map (s .trees) (allMatches (sectionOf section)));
+          count = w .count ∙ sym (length-map (s .trees) (allMatches (searchedOf section families)));
           few = omega (arith, w .count, leaf-fits);
           room = w .room;
           valid = subst (AllList ValidStr) (sym leaf-list) (valid-last (leaf s) (s .trees) leaf-last w);
         }
 
     -- what its rule wants, and what that leaves
-    pub phrase-taken : NoneTaken (phraseList (sectionOf section) rank ws) mem lists
+    pub phrase-taken : NoneTaken (phraseList (searchedOf section families) rank ws) mem lists
     phrase-taken = none-taken
 
-    pub phrase-after : {mem' : List ℕ} {built : Built} → ((v : NoneTaken (phraseList (sectionOf section) rank ws) mem lists)
-        → Pushed (phraseList (sectionOf section) rank ws) (v .rest) mem' built)
-        → AfterCode (sectionOf section) shape s place mem' built
+    pub phrase-after : {mem' : List ℕ} {built : Built} → ((v : NoneTaken (phraseList (searchedOf section families) rank ws) mem lists)
+        → Pushed (phraseList (searchedOf section families) rank ws) (v .rest) mem' built)
+        → AfterCode (searchedOf section families) shape s place mem' built
     unfolding none-taken read topTree placeOf
     phrase-after {mem'} {built} f =
-        let rest = map (allMatches (sectionOf section)) (s .trees) in
+        let rest = map (allMatches (searchedOf section families)) (s .trees) in
         let a = subst (λ (l : List Match). Pushed l rest mem' built) leaf-list (f none-taken) in
-        subst (λ (x : Shape). AfterCode (sectionOf section) x s place mem' built) (sym e) (grown (leaf s) (s .trees) (w .place-is) a)
+        subst (λ (x : Shape). AfterCode (searchedOf section families) x s place mem' built) (sym e) (grown (leaf s) (s .trees) (w .place-is) a)
 
   -- ---- aPair
 
   module _ (k : Pair) (ws : List ℕ) (p r : ℕ) where
-    module _ (u t : Tree) (ts : List Tree) (w : Waits section mem (aPair k) (state (u ∷ t ∷ ts) ws p r) place rank lists) where
+    module _ (u t : Tree) (ts : List Tree) (w : Waits section families mem (aPair k) (state (u ∷ t ∷ ts) ws p r) place rank lists) where
       unfoldable two-taken : TwoTaken (pairList k) mem lists
       unfolding read combine allMatches
       two-taken =
           record {
-            lefts = allMatches (sectionOf section) t;
-            rights = allMatches (sectionOf section) u;
-            rest = map (allMatches (sectionOf section)) ts;
+            lefts = allMatches (searchedOf section families) t;
+            rights = allMatches (searchedOf section families) u;
+            rest = map (allMatches (searchedOf section families)) ts;
             stack = w .stack;
-            count = omega (arith, w .count, length-map ts (allMatches (sectionOf section)));
+            count = omega (arith, w .count, length-map ts (allMatches (searchedOf section families)));
             few = omega (arith, w .count, w .few-trees);
             room = w .room;
             valid = valid-last (pair k p t u) ts refl w;
           }
 
       two-after : {mem' : List ℕ} {built : Built} → ((v : TwoTaken (pairList k) mem lists) → Pushed (pairList k (v .lefts) (v .rights)) (v .rest) mem' built)
-          → AfterCode (sectionOf section) (aPair k) (state (u ∷ t ∷ ts) ws p r) place mem' built
+          → AfterCode (searchedOf section families) (aPair k) (state (u ∷ t ∷ ts) ws p r) place mem' built
       unfolding two-taken read combine topTree placeOf allMatches
       two-after f = grown (pair k p t u) ts (w .place-is) (f two-taken)
 
-    pair-taken' : (ts : List Tree) → Waits section mem (aPair k) (state ts ws p r) place rank lists → TwoTaken (pairList k) mem lists
+    pair-taken' : (ts : List Tree) → Waits section families mem (aPair k) (state ts ws p r) place rank lists → TwoTaken (pairList k) mem lists
     pair-taken' [] w = absurd (omega (arith, fit-of (aPair k) 0 (length ws) (w .here) .finds))
     pair-taken' (u ∷ []) w = absurd (omega (arith, fit-of (aPair k) 1 (length ws) (w .here) .finds))
     pair-taken' (u ∷ t ∷ ts) w = two-taken u t ts w
 
-    pair-after' : {mem' : List ℕ} {built : Built} (ts : List Tree) → Waits section mem (aPair k) (state ts ws p r) place rank lists
+    pair-after' : {mem' : List ℕ} {built : Built} (ts : List Tree) → Waits section families mem (aPair k) (state ts ws p r) place rank lists
         → ((v : TwoTaken (pairList k) mem lists) → Pushed (pairList k (v .lefts) (v .rights)) (v .rest) mem' built)
-        → AfterCode (sectionOf section) (aPair k) (state ts ws p r) place mem' built
+        → AfterCode (searchedOf section families) (aPair k) (state ts ws p r) place mem' built
     pair-after' [] w f = absurd (omega (arith, fit-of (aPair k) 0 (length ws) (w .here) .finds))
     pair-after' (u ∷ []) w f = absurd (omega (arith, fit-of (aPair k) 1 (length ws) (w .here) .finds))
     pair-after' (u ∷ t ∷ ts) w f = two-after u t ts w f
 
-  module _ {shape : Shape} {s : State} (k : Pair) (e : shape ≡ aPair k) (w : Waits section mem shape s place rank lists) where
-    as-pair : Waits section mem (aPair k) s place rank lists
-    as-pair = subst (λ (x : Shape). Waits section mem x s place rank lists) e w
+  module _ {shape : Shape} {s : State} (k : Pair) (e : shape ≡ aPair k) (w : Waits section families mem shape s place rank lists) where
+    as-pair : Waits section families mem (aPair k) s place rank lists
+    as-pair = subst (λ (x : Shape). Waits section families mem x s place rank lists) e w
 
     pub pair-taken : TwoTaken (pairList k) mem lists
     pair-taken = pair-taken' k (s .words) (s .place) (s .rank) (s .trees) as-pair
 
     pub pair-after : {mem' : List ℕ} {built : Built} → ((v : TwoTaken (pairList k) mem lists) → Pushed (pairList k (v .lefts) (v .rights)) (v .rest) mem' built)
-        → AfterCode (sectionOf section) shape s place mem' built
+        → AfterCode (searchedOf section families) shape s place mem' built
     pair-after {mem'} {built} f =
-        subst (λ (x : Shape). AfterCode (sectionOf section) x s place mem' built) (sym e) (pair-after' k (s .words) (s .place) (s .rank) (s .trees) as-pair f)
+        subst (λ (x : Shape). AfterCode (searchedOf section families) x s place mem' built) (sym e) (pair-after' k (s .words) (s .place) (s .rank) (s .trees) as-pair f)
 
   -- ---- aChange
 
   module _ (k : Change) (ws : List ℕ) (p r : ℕ) where
-    module _ (t : Tree) (ts : List Tree) (w : Waits section mem (aChange k) (state (t ∷ ts) ws p r) place rank lists) where
+    module _ (t : Tree) (ts : List Tree) (w : Waits section families mem (aChange k) (state (t ∷ ts) ws p r) place rank lists) where
       unfoldable one-taken : OneTaken (changeList (sectionOf section) k) mem lists
       unfolding read changeLast allMatches
       one-taken =
           record {
-            list = allMatches (sectionOf section) t;
-            rest = map (allMatches (sectionOf section)) ts;
+            list = allMatches (searchedOf section families) t;
+            rest = map (allMatches (searchedOf section families)) ts;
             stack = w .stack;
-            count = omega (arith, w .count, length-map ts (allMatches (sectionOf section)));
+            count = omega (arith, w .count, length-map ts (allMatches (searchedOf section families)));
             few = omega (arith, w .count, w .few-trees);
             room = w .room;
             valid = valid-last (change k p t) ts refl w;
           }
 
       one-after : {mem' : List ℕ} {built : Built} → ((v : OneTaken (changeList (sectionOf section) k) mem lists) → Pushed (changeList (sectionOf section) k (v .list)) (v .rest) mem' built)
-          → AfterCode (sectionOf section) (aChange k) (state (t ∷ ts) ws p r) place mem' built
+          → AfterCode (searchedOf section families) (aChange k) (state (t ∷ ts) ws p r) place mem' built
       unfolding one-taken read changeLast topTree placeOf allMatches
       one-after f = grown (change k p t) ts (w .place-is) (f one-taken)
 
-    change-taken' : (ts : List Tree) → Waits section mem (aChange k) (state ts ws p r) place rank lists → OneTaken (changeList (sectionOf section) k) mem lists
+    change-taken' : (ts : List Tree) → Waits section families mem (aChange k) (state ts ws p r) place rank lists → OneTaken (changeList (sectionOf section) k) mem lists
     change-taken' [] w = absurd (omega (arith, fit-of (aChange k) 0 (length ws) (w .here) .finds))
     change-taken' (t ∷ ts) w = one-taken t ts w
 
-    change-after' : {mem' : List ℕ} {built : Built} (ts : List Tree) → Waits section mem (aChange k) (state ts ws p r) place rank lists
+    change-after' : {mem' : List ℕ} {built : Built} (ts : List Tree) → Waits section families mem (aChange k) (state ts ws p r) place rank lists
         → ((v : OneTaken (changeList (sectionOf section) k) mem lists) → Pushed (changeList (sectionOf section) k (v .list)) (v .rest) mem' built)
-        → AfterCode (sectionOf section) (aChange k) (state ts ws p r) place mem' built
+        → AfterCode (searchedOf section families) (aChange k) (state ts ws p r) place mem' built
     change-after' [] w f = absurd (omega (arith, fit-of (aChange k) 0 (length ws) (w .here) .finds))
     change-after' (t ∷ ts) w f = one-after t ts w f
 
-  module _ {shape : Shape} {s : State} (k : Change) (e : shape ≡ aChange k) (w : Waits section mem shape s place rank lists) where
-    as-change : Waits section mem (aChange k) s place rank lists
-    as-change = subst (λ (x : Shape). Waits section mem x s place rank lists) e w
+  module _ {shape : Shape} {s : State} (k : Change) (e : shape ≡ aChange k) (w : Waits section families mem shape s place rank lists) where
+    as-change : Waits section families mem (aChange k) s place rank lists
+    as-change = subst (λ (x : Shape). Waits section families mem x s place rank lists) e w
 
     pub change-taken : OneTaken (changeList (sectionOf section) k) mem lists
     change-taken = change-taken' k (s .words) (s .place) (s .rank) (s .trees) as-change
 
     pub change-after : {mem' : List ℕ} {built : Built} → ((v : OneTaken (changeList (sectionOf section) k) mem lists) → Pushed (changeList (sectionOf section) k (v .list)) (v .rest) mem' built)
-        → AfterCode (sectionOf section) shape s place mem' built
+        → AfterCode (searchedOf section families) shape s place mem' built
     change-after {mem'} {built} f =
-        subst (λ (x : Shape). AfterCode (sectionOf section) x s place mem' built) (sym e) (change-after' k (s .words) (s .place) (s .rank) (s .trees) as-change f)
+        subst (λ (x : Shape). AfterCode (searchedOf section families) x s place mem' built) (sym e) (change-after' k (s .words) (s .place) (s .rank) (s .trees) as-change f)
 
   -- ---- an occurs: the last list is a phrase's
 
   module _ (k : Times) (ws : List ℕ) (p r : ℕ) where
-    module _ (t : Tree) (ts : List Tree) (w : Waits section mem (aChange (occurring k)) (state (t ∷ ts) ws p r) place rank lists) where
+    module _ (t : Tree) (ts : List Tree) (w : Waits section families mem (aChange (occurring k)) (state (t ∷ ts) ws p r) place rank lists) where
       over-phrase : isPhrase t ≡ true
       unfolding Every read changeLast
       over-phrase = not-false (isPhrase t) (w .over-phrases .0)
@@ -221,41 +222,41 @@ module _ {section mem : List ℕ} {place rank lists : ℕ} where
       unfoldable last-finds : FindsTaken (occursList k) mem lists
       unfolding one-taken
       last-finds =
-          let f = phrase-list (sectionOf section) t over-phrase in
+          let f = phrase-list (searchedOf section families) t over-phrase in
           record { taken = one-taken (occurring k) ws p r t ts w; finds = f .0; finds-are = f .1 }
 
       finds-after : {mem' : List ℕ} {built : Built} → ((v : FindsTaken (occursList k) mem lists) → Pushed (occursList k (v .taken .list)) (v .taken .rest) mem' built)
-          → AfterCode (sectionOf section) (aChange (occurring k)) (state (t ∷ ts) ws p r) place mem' built
+          → AfterCode (searchedOf section families) (aChange (occurring k)) (state (t ∷ ts) ws p r) place mem' built
       unfolding last-finds one-taken read changeLast topTree placeOf allMatches
       finds-after f = grown (change (occurring k) p t) ts (w .place-is) (f last-finds)
 
-    occurs-taken' : (ts : List Tree) → Waits section mem (aChange (occurring k)) (state ts ws p r) place rank lists → FindsTaken (occursList k) mem lists
+    occurs-taken' : (ts : List Tree) → Waits section families mem (aChange (occurring k)) (state ts ws p r) place rank lists → FindsTaken (occursList k) mem lists
     occurs-taken' [] w = absurd (omega (arith, fit-of (aChange (occurring k)) 0 (length ws) (w .here) .finds))
     occurs-taken' (t ∷ ts) w = last-finds t ts w
 
-    occurs-after' : {mem' : List ℕ} {built : Built} (ts : List Tree) → Waits section mem (aChange (occurring k)) (state ts ws p r) place rank lists
+    occurs-after' : {mem' : List ℕ} {built : Built} (ts : List Tree) → Waits section families mem (aChange (occurring k)) (state ts ws p r) place rank lists
         → ((v : FindsTaken (occursList k) mem lists) → Pushed (occursList k (v .taken .list)) (v .taken .rest) mem' built)
-        → AfterCode (sectionOf section) (aChange (occurring k)) (state ts ws p r) place mem' built
+        → AfterCode (searchedOf section families) (aChange (occurring k)) (state ts ws p r) place mem' built
     occurs-after' [] w f = absurd (omega (arith, fit-of (aChange (occurring k)) 0 (length ws) (w .here) .finds))
     occurs-after' (t ∷ ts) w f = finds-after t ts w f
 
-  module _ {shape : Shape} {s : State} (k : Times) (e : shape ≡ aChange (occurring k)) (w : Waits section mem shape s place rank lists) where
+  module _ {shape : Shape} {s : State} (k : Times) (e : shape ≡ aChange (occurring k)) (w : Waits section families mem shape s place rank lists) where
     pub occurs-taken : FindsTaken (occursList k) mem lists
     occurs-taken = occurs-taken' k (s .words) (s .place) (s .rank) (s .trees) (as-change (occurring k) e w)
 
     pub occurs-after : {mem' : List ℕ} {built : Built} → ((v : FindsTaken (occursList k) mem lists) → Pushed (occursList k (v .taken .list)) (v .taken .rest) mem' built)
-        → AfterCode (sectionOf section) shape s place mem' built
+        → AfterCode (searchedOf section families) shape s place mem' built
     occurs-after {mem'} {built} f =
-        subst (λ (x : Shape). AfterCode (sectionOf section) x s place mem' built) (sym e)
+        subst (λ (x : Shape). AfterCode (searchedOf section families) x s place mem' built) (sym e)
         (occurs-after' k (s .words) (s .place) (s .rank) (s .trees) (as-change (occurring k) e w) f)
 
   -- ---- aWord
 
   -- nothing is built
-  pub word-after : {shape : Shape} {s : State} {m n : ℕ} (v : ℕ) → shape ≡ aWord v → Waits section mem shape s place rank lists
-      → AfterCode (sectionOf section) shape s place mem (Made m n)
+  pub word-after : {shape : Shape} {s : State} {m n : ℕ} (v : ℕ) → shape ≡ aWord v → Waits section families mem shape s place rank lists
+      → AfterCode (searchedOf section families) shape s place mem (Made m n)
   unfolding read firstTooLong first
   word-after {shape} {s} {m} {n} v e w =
-      let b : AfterCode (sectionOf section) (aWord v) s place mem (Made m n) =
+      let b : AfterCode (searchedOf section families) (aWord v) s place mem (Made m n) =
       record { long = λ t. absurd (let z : _≡_ {A = ℕ} 0 1 = cc in omega arith); valid = λ i j q. refl; stack = λ i j q. w .stack } in
-      subst (λ (x : Shape). AfterCode (sectionOf section) x s place mem (Made m n)) (sym e) b
+      subst (λ (x : Shape). AfterCode (searchedOf section families) x s place mem (Made m n)) (sym e) b

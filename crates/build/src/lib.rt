@@ -3,7 +3,7 @@ mod steps; // one code's list, from the lists that wait
 
 use model::Refusal;
 use store::Built;
-ghost use Rattle.model.specs.Section.{sectionOf};
+ghost use Rattle.model.specs.Families.{searchedOf};
 ghost use Rattle.build.specs.State.{Buildable};
 ghost use Rattle.build.specs.PartList.{PartList};
 
@@ -19,16 +19,17 @@ pub enum Part {
 // rank.
 pub fn build(
     section: &[u32],
+    families: &[u32],
     selection: &[u32],
     mem: &mut [u32],
     lo: u32,
     hi: u32,
     rank: u32,
 ) -> Part
-    requires { ⌜ Buildable (now section) (now selection) (now mem) lo hi rank ⌝ }
+    requires { ⌜ Buildable (now section) (now families) (now selection) (now mem) lo hi rank ⌝ }
     ensures { λ r.
-        ⌜ ((w : Buildable (now (section .entry)) (now (selection .entry)) (now (mem .entry)) lo hi rank)
-        → PartList (sectionOf (now (section .entry))) (w .part .tree) (now (mem .exit)) r) ⌝ }
+        ⌜ ((w : Buildable (now (section .entry)) (now (families .entry)) (now (selection .entry)) (now (mem .entry)) lo hi rank)
+        → PartList (searchedOf (now (section .entry)) (now (families .entry))) (w .part .tree) (now (mem .exit)) r) ⌝ }
 {
     let mut lists: usize = 0;
     let mut next = rank;
@@ -36,7 +37,7 @@ pub fn build(
     while place < hi {
         place += 1;
         let code = codes::code_at(selection, place);
-        let built = steps::build_code(section, selection, code, place, next, mem, lists);
+        let built = steps::build_code(section, families, selection, code, place, next, mem, lists);
         let Built::Made { .. } = built else {
             return Part::Refused(Refusal { number: 9, place });
         };

@@ -11,8 +11,9 @@ ghost use Prim.Native.Nat.{ℕ, _≤_};
 ghost use lib.ListN.{length};
 ghost use Rattle.model.specs.declared.Filter.the-variants.{Window};
 ghost use Rattle.model.specs.declared.Times.the-variants.{FromTo};
-ghost use Rattle.model.specs.Accepted.{AcceptedSection, maxPhrases};
+ghost use Rattle.model.specs.Accepted.{AcceptedFamilies, AcceptedSection, maxPhrases};
 ghost use Rattle.model.specs.AllMatches.{filterList, occursList, pairList};
+ghost use Rattle.model.specs.Families.{searchedOf};
 ghost use Rattle.model.specs.Kinds.{shapeOf};
 ghost use Rattle.model.specs.Limits.{maxWaiting};
 ghost use Rattle.model.specs.Rules.{andList, mildNotList, notList, orList, phraseList};
@@ -39,16 +40,24 @@ fn move_from_scratch(mem: &mut [u32], built: Built, at: usize) -> Built
 }
 
 // A phrase's list, after those that wait.
-fn build_phrase(section: &[u32], words: &[u32], rank: u32, mem: &mut [u32], lists: usize) -> Built
+fn build_phrase(
+    section: &[u32],
+    families: &[u32],
+    words: &[u32],
+    rank: u32,
+    mem: &mut [u32],
+    lists: usize,
+) -> Built
     requires { ⌜ AcceptedSection (now section) ⌝ }
+    requires { ⌜ AcceptedFamilies (now families) ⌝ }
     requires { ⌜ length (now words) ≤ maxWaiting ⌝ }
     requires { ⌜ rank ≤ maxPhrases ⌝ }
-    requires { ⌜ NoneTaken (phraseList (sectionOf (now section)) rank (now words)) (now mem) lists ⌝ }
+    requires { ⌜ NoneTaken (phraseList (searchedOf (now section) (now families)) rank (now words)) (now mem) lists ⌝ }
     ensures { λ r.
-        ⌜ ((w : NoneTaken (phraseList (sectionOf (now (section .entry))) rank (now (words .entry))) (now (mem .entry)) lists)
-        → Pushed (phraseList (sectionOf (now (section .entry))) rank (now (words .entry))) (w .rest) (now (mem .exit)) r) ⌝ }
+        ⌜ ((w : NoneTaken (phraseList (searchedOf (now (section .entry)) (now (families .entry))) rank (now (words .entry))) (now (mem .entry)) lists)
+        → Pushed (phraseList (searchedOf (now (section .entry)) (now (families .entry))) rank (now (words .entry))) (w .rest) (now (mem .exit)) r) ⌝ }
 {
-    phrase::phrase_list(section, words, rank, mem, lists * store::SLOT)
+    phrase::phrase_list(section, families, words, rank, mem, lists * store::SLOT)
 }
 
 // Or, of the last two lists.
@@ -164,6 +173,7 @@ fn build_occurs(times: Times, mem: &mut [u32], lists: usize) -> Built
 // The list of the code at a place, from the lists that wait before it. A word has none.
 pub fn build_code(
     section: &[u32],
+    families: &[u32],
     selection: &[u32],
     code: Code,
     place: u32,
@@ -171,10 +181,10 @@ pub fn build_code(
     mem: &mut [u32],
     lists: usize,
 ) -> Built
-    requires { ⌜ WaitsAt (now section) (now selection) (now mem) code place rank lists ⌝ }
+    requires { ⌜ WaitsAt (now section) (now families) (now selection) (now mem) code place rank lists ⌝ }
     ensures { λ r.
-        ⌜ ((w : WaitsAt (now (section .entry)) (now (selection .entry)) (now (mem .entry)) code place rank lists)
-        → AfterCode (sectionOf (now (section .entry))) (shapeOf code) (w .state) place (now (mem .exit)) r) ⌝ }
+        ⌜ ((w : WaitsAt (now (section .entry)) (now (families .entry)) (now (selection .entry)) (now (mem .entry)) code place rank lists)
+        → AfterCode (searchedOf (now (section .entry)) (now (families .entry))) (shapeOf code) (w .state) place (now (mem .exit)) r) ⌝ }
 {
     match code {
         Code::Word(_) => Built::Made {
@@ -183,7 +193,7 @@ pub fn build_code(
         },
         Code::Phrase(_) => {
             let words = selection::parts::phrase_words(selection, place);
-            build_phrase(section, words, rank, mem, lists)
+            build_phrase(section, families, words, rank, mem, lists)
         }
         Code::Combine(pair) => build_pair(pair, mem, lists),
         Code::Not => build_not(mem, lists),

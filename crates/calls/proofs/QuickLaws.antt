@@ -16,7 +16,8 @@ use Rattle.model.specs.Answers.{checkedOf, quickAnswer}
 use Rattle.model.specs.Checks.{refusal, inputRefusal, quickChecks, roomRefusal}
 use Rattle.model.specs.Accepted.{Passes}
 use Rattle.model.specs.Limits.{workLength}
-use Rattle.model.specs.Section.{sectionOf, size}
+use Rattle.model.specs.Families.{searchedOf}
+use Rattle.model.specs.Section.{size}
 use Rattle.model.specs.Walk.{walk}
 use Rattle.model.proofs.AnswersLaws.{checked-accepted, checked-refused}
 use Rattle.model.proofs.ChecksLaws.{otherwise-none}
@@ -24,35 +25,35 @@ use Rattle.model.proofs.TestsLaws.{cond-none}
 use Rattle.walk.specs.Walkable.{Walkable}
 use Rattle.calls.proofs.WholeLaws.{whole-walked, whole-tree}
 
-module _ (section selection : List ℕ) (work : ℕ) where
+module _ (section families selection : List ℕ) (work : ℕ) where
   -- a refusal of the checks is the call's
-  pub checks-refuse : {checked : Checked} {r q : Refusal} → checked ≡ checkedOf (size selection) (quickChecks section selection work)
+  pub checks-refuse : {checked : Checked} {r q : Refusal} → checked ≡ checkedOf (size selection) (quickChecks section families selection work)
       → checked ≡ CheckedRefused q
       → r ≡ q
-      → Refused r ≡ quickAnswer section selection work
+      → Refused r ≡ quickAnswer section families selection work
   unfolding quickAnswer
-  checks-refuse told e a = rw (a, checked-refused (size selection) (quickChecks section selection work) (sym told ∙ e))
+  checks-refuse told e a = rw (a, checked-refused (size selection) (quickChecks section families selection work) (sym told ∙ e))
 
-  module _ {checked : Checked} {codes : ℕ} (told : checked ≡ checkedOf (size selection) (quickChecks section selection work)) (accepted : checked ≡ Accepted codes) where
-    none-refuses : quickChecks section selection work ≡ none
-    none-refuses = checked-accepted (size selection) (quickChecks section selection work) (sym told ∙ accepted) .0
+  module _ {checked : Checked} {codes : ℕ} (told : checked ≡ checkedOf (size selection) (quickChecks section families selection work)) (accepted : checked ≡ Accepted codes) where
+    none-refuses : quickChecks section families selection work ≡ none
+    none-refuses = checked-accepted (size selection) (quickChecks section families selection work) (sym told ∙ accepted) .0
 
     all-codes : codes ≡ size selection
-    all-codes = checked-accepted (size selection) (quickChecks section selection work) (sym told ∙ accepted) .1
+    all-codes = checked-accepted (size selection) (quickChecks section families selection work) (sym told ∙ accepted) .1
 
-    passes : Passes section selection work
+    passes : Passes section families selection work
     unfolding quickChecks
     passes =
-        let both = otherwise-none (inputRefusal section selection) (roomRefusal (leb workLength work)) none-refuses in
+        let both = otherwise-none (inputRefusal section families selection) (roomRefusal (leb workLength work)) none-refuses in
         record { checks = both .0; enough = leb-true workLength work (cond-none (leb workLength work) (refusal 8 0) (both .1)) }
 
     -- the whole can be walked
-    pub ready : (mem : List ℕ) → length mem ≡ work → Walkable section selection mem codes
-    ready mem long = rw all-codes (whole-walked section selection (passes .checks) mem (omega (arith, passes .enough, long)))
+    pub ready : (mem : List ℕ) → length mem ≡ work → Walkable section families selection mem codes
+    ready mem long = rw all-codes (whole-walked section families selection (passes .checks) mem (omega (arith, passes .enough, long)))
 
     -- and its walk is the answer
-    pub walk-answers : {mem : List ℕ} {answer : Quick} (w : Walkable section selection mem codes)
-        → answer ≡ walk (sectionOf section) (w .part .tree)
-        → answer ≡ quickAnswer section selection work
+    pub walk-answers : {mem : List ℕ} {answer : Quick} (w : Walkable section families selection mem codes)
+        → answer ≡ walk (searchedOf section families) (w .part .tree)
+        → answer ≡ quickAnswer section families selection work
     unfolding quickAnswer
-    walk-answers w a = rw none-refuses (a ∙ ap (walk (sectionOf section)) (whole-tree selection (w .part) all-codes))
+    walk-answers w a = rw none-refuses (a ∙ ap (walk (searchedOf section families)) (whole-tree selection (w .part) all-codes))

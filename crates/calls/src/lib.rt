@@ -32,16 +32,22 @@ fn listed(work: &[u32], buffer: &mut [u32]) -> Listing
 
 // The full listing: "It answers M, S and yes or no, or a refusal with its place. The buffer then holds M, S, the M string counts, then two parallel
 // arrays of S". Working memory may end holding anything.
-pub fn listing(section: &[u32], selection: &[u32], work: &mut [u32], buffer: &mut [u32]) -> Listing
-    ensures { λ r. ⌜ r ≡ listingAnswer (now (section .entry)) (now (selection .entry)) (length (now (work .entry))) (length (now (buffer .entry))) ⌝ }
-    ensures { λ r. ⌜ listingValues r ≡ listingValues (listingAnswer (now (section .entry)) (now (selection .entry)) (length (now (work .entry))) (length (now (buffer .entry)))) ⌝ }
-    ensures { λ _. ⌜ now (buffer .exit) ≡ listingBuffer (now (section .entry)) (now (selection .entry)) (length (now (work .entry))) (now (buffer .entry)) ⌝ }
+pub fn listing(
+    section: &[u32],
+    families: &[u32],
+    selection: &[u32],
+    work: &mut [u32],
+    buffer: &mut [u32],
+) -> Listing
+    ensures { λ r. ⌜ r ≡ listingAnswer (now (section .entry)) (now (families .entry)) (now (selection .entry)) (length (now (work .entry))) (length (now (buffer .entry))) ⌝ }
+    ensures { λ r. ⌜ listingValues r ≡ listingValues (listingAnswer (now (section .entry)) (now (families .entry)) (now (selection .entry)) (length (now (work .entry))) (length (now (buffer .entry)))) ⌝ }
+    ensures { λ _. ⌜ now (buffer .exit) ≡ listingBuffer (now (section .entry)) (now (families .entry)) (now (selection .entry)) (length (now (work .entry))) (now (buffer .entry)) ⌝ }
 {
-    let checked = checks::check_listing(section, selection, work.len(), buffer.len());
+    let checked = checks::check_listing(section, families, selection, work.len(), buffer.len());
     let Checked::Accepted { size: codes } = checked else {
         return Listing::Refused(checks::refusal_of(checked));
     };
-    let part = build::build(section, selection, work, 0, codes, 1);
+    let part = build::build(section, families, selection, work, 0, codes, 1);
     if let Part::Refused(refusal) = part {
         return Listing::Refused(refusal);
     }
@@ -50,15 +56,15 @@ pub fn listing(section: &[u32], selection: &[u32], work: &mut [u32], buffer: &mu
 
 // The quick answer: "It reports how many codes of kind 1 to 15 it walked or built", and since F-3 of kinds 16 and 17. Working memory may end holding
 // anything.
-pub fn quick(section: &[u32], selection: &[u32], work: &mut [u32]) -> Quick
-    ensures { λ r. ⌜ r ≡ quickAnswer (now (section .entry)) (now (selection .entry)) (length (now (work .entry))) ⌝ }
-    ensures { λ r. ⌜ quickValues r ≡ quickValues (quickAnswer (now (section .entry)) (now (selection .entry)) (length (now (work .entry)))) ⌝ }
+pub fn quick(section: &[u32], families: &[u32], selection: &[u32], work: &mut [u32]) -> Quick
+    ensures { λ r. ⌜ r ≡ quickAnswer (now (section .entry)) (now (families .entry)) (now (selection .entry)) (length (now (work .entry))) ⌝ }
+    ensures { λ r. ⌜ quickValues r ≡ quickValues (quickAnswer (now (section .entry)) (now (families .entry)) (now (selection .entry)) (length (now (work .entry)))) ⌝ }
 {
-    let checked = checks::check_quick(section, selection, work.len());
+    let checked = checks::check_quick(section, families, selection, work.len());
     let Checked::Accepted { size: codes } = checked else {
         return Quick::Refused(checks::refusal_of(checked));
     };
-    walk::walk(section, selection, work, codes)
+    walk::walk(section, families, selection, work, codes)
 }
 
 // The snippet: "the word numbers of those positions, as a part of the lent section".

@@ -32,10 +32,10 @@ module _ (k : ℕ) (first : Option Refusal) {checked : Checked} (e : checked ≡
       a ∙ ap Accepted (passed .1) ∙ ap (λ b. checkedOf k (roomRefusal b)) (sym f) ∙ later-decides k k first (roomRefusal enough) e a
 
 -- the listing's checks are the quick answer's, and then the buffer's
-pub listing-checks : (section selection : List ℕ) (work buffer : ℕ)
-    → otherwise (quickChecks section selection work) (roomRefusal (leb bufferLength buffer)) ≡ listingChecks section selection work buffer
+pub listing-checks : (section families selection : List ℕ) (work buffer : ℕ)
+    → otherwise (quickChecks section families selection work) (roomRefusal (leb bufferLength buffer)) ≡ listingChecks section families selection work buffer
 unfolding quickChecks listingChecks
-listing-checks section selection work buffer = at (inputRefusal section selection) (leb workLength work) (leb bufferLength buffer)
+listing-checks section families selection work buffer = at (inputRefusal section families selection) (leb workLength work) (leb bufferLength buffer)
   where
     at : (o : Option Refusal) (a b : Bool) → otherwise (otherwise o (roomRefusal a)) (roomRefusal b) ≡ otherwise o (roomRefusal (a && b))
     at (some r) a b = refl

@@ -1,4 +1,4 @@
-// The checks of both inputs, with the lengths of the lent memory: refusals 1 to 8 and 12, or the selection's m. A call takes the answer apart with
+// The checks of the inputs, with the lengths of the lent memory: refusals 1 to 8, 12 and 13, or the selection's m. A call takes the answer apart with
 // `let .. else`.
 use model::BUFFER_LENGTH;
 use model::Checked;
@@ -25,11 +25,15 @@ pub fn refusal_of(checked: Checked) -> Refusal
     }
 }
 
-// Refusals 1 to 7 and 12.
-pub fn check_inputs(section: &[u32], selection: &[u32]) -> Checked
-    ensures { λ r. ⌜ r ≡ checkedOf (size (now (selection .entry))) (inputRefusal (now (section .entry)) (now (selection .entry))) ⌝ }
+// Refusals 1 to 7, 12 and 13.
+pub fn check_inputs(section: &[u32], families: &[u32], selection: &[u32]) -> Checked
+    ensures { λ r. ⌜ r ≡ checkedOf (size (now (selection .entry))) (inputRefusal (now (section .entry)) (now (families .entry)) (now (selection .entry))) ⌝ }
 {
     let checked = section::check_section(section);
+    let Checked::Accepted { .. } = checked else {
+        return checked;
+    };
+    let checked = families::check_families(families);
     let Checked::Accepted { .. } = checked else {
         return checked;
     };
@@ -37,10 +41,10 @@ pub fn check_inputs(section: &[u32], selection: &[u32]) -> Checked
 }
 
 // What the quick answer refuses before its walk.
-pub fn check_quick(section: &[u32], selection: &[u32], work: usize) -> Checked
-    ensures { λ r. ⌜ r ≡ checkedOf (size (now (selection .entry))) (quickChecks (now (section .entry)) (now (selection .entry)) work) ⌝ }
+pub fn check_quick(section: &[u32], families: &[u32], selection: &[u32], work: usize) -> Checked
+    ensures { λ r. ⌜ r ≡ checkedOf (size (now (selection .entry))) (quickChecks (now (section .entry)) (now (families .entry)) (now (selection .entry)) work) ⌝ }
 {
-    let checked = check_inputs(section, selection);
+    let checked = check_inputs(section, families, selection);
     let Checked::Accepted { .. } = checked else {
         return checked;
     };
@@ -54,10 +58,16 @@ pub fn check_quick(section: &[u32], selection: &[u32], work: usize) -> Checked
 }
 
 // What the full listing refuses before any list is built: the same, and a short listing buffer.
-pub fn check_listing(section: &[u32], selection: &[u32], work: usize, buffer: usize) -> Checked
-    ensures { λ r. ⌜ r ≡ checkedOf (size (now (selection .entry))) (listingChecks (now (section .entry)) (now (selection .entry)) work buffer) ⌝ }
+pub fn check_listing(
+    section: &[u32],
+    families: &[u32],
+    selection: &[u32],
+    work: usize,
+    buffer: usize,
+) -> Checked
+    ensures { λ r. ⌜ r ≡ checkedOf (size (now (selection .entry))) (listingChecks (now (section .entry)) (now (families .entry)) (now (selection .entry)) work buffer) ⌝ }
 {
-    let checked = check_quick(section, selection, work);
+    let checked = check_quick(section, families, selection, work);
     let Checked::Accepted { .. } = checked else {
         return checked;
     };

@@ -18,7 +18,7 @@ use Rattle.model.specs.declared.Reading.{Reading}
 use Rattle.model.specs.declared.Reading.the-variants.{Read, Refused}
 use Rattle.model.specs.declared.Refusal.{Refusal}
 use Rattle.model.specs.Answers.{listingRefusal, listingAnswer, listingBuffer, listingValues, quickAnswer, quickValues}
-use Rattle.model.specs.Checks.{refusal, otherwise, tried, wrongSelection, sectionRefusal, selectionRefusal, inputRefusal, listingChecks, quickChecks}
+use Rattle.model.specs.Checks.{refusal, otherwise, tried, wrongSelection, sectionRefusal, familiesRefusal, selectionRefusal, inputRefusal, listingChecks, quickChecks}
 use Rattle.model.specs.Limits.{maxCodes, selectionLength}
 use Rattle.model.specs.Section.{size}
 use Rattle.model.specs.TextAnswer.{TextAnswer, codes, error, ForAnswer}
@@ -40,44 +40,47 @@ pub data SameToCalls (s t : List ℕ) : Type 0 where
   same : s ≡ t → SameToCalls s t
   both-refused : (r : Refusal) → selectionRefusal s ≡ some r → selectionRefusal t ≡ some r → SameToCalls s t
 
--- whatever the section's refusal is, one comes first
+-- whatever the refusal before it is, one comes first
 first-refused : (o : Option Refusal) (r : Refusal) → (q : Refusal) × (otherwise o (some r) ≡ some q)
 first-refused (some q) r = (q, refl)
 first-refused none r = (r, refl)
 
-module _ (section : List ℕ) (r : Refusal) where
-  abbrev first-of : Refusal
-  first-of = first-refused (sectionRefusal section) r .0
+module _ (section families : List ℕ) (r : Refusal) where
+  abbrev later : (q : Refusal) × (otherwise (familiesRefusal families) (some r) ≡ some q)
+  later = first-refused (familiesRefusal families) r
 
-  input-refused : (s : List ℕ) → selectionRefusal s ≡ some r → inputRefusal section s ≡ some first-of
+  abbrev first-of : Refusal
+  first-of = first-refused (sectionRefusal section) (later .0) .0
+
+  input-refused : (s : List ℕ) → selectionRefusal s ≡ some r → inputRefusal section families s ≡ some first-of
   unfolding inputRefusal
-  input-refused s e = rw e (first-refused (sectionRefusal section) r .1)
+  input-refused s e = rw (e, later .1) (first-refused (sectionRefusal section) (later .0) .1)
 
   module _ (s t : List ℕ) (e : selectionRefusal s ≡ some r) (f : selectionRefusal t ≡ some r) where
-    refused-listing : (work buffer : ℕ) → listingAnswer section s work buffer ≡ listingAnswer section t work buffer
+    refused-listing : (work buffer : ℕ) → listingAnswer section families s work buffer ≡ listingAnswer section families t work buffer
     unfolding listingAnswer listingRefusal listingChecks
     refused-listing work buffer = rw (input-refused s e, input-refused t f)
 
-    refused-buffer : (work : ℕ) (buffer : List ℕ) → listingBuffer section s work buffer ≡ listingBuffer section t work buffer
+    refused-buffer : (work : ℕ) (buffer : List ℕ) → listingBuffer section families s work buffer ≡ listingBuffer section families t work buffer
     unfolding listingBuffer listingRefusal listingChecks
     refused-buffer work buffer = rw (input-refused s e, input-refused t f)
 
-    refused-quick : (work : ℕ) → quickAnswer section s work ≡ quickAnswer section t work
+    refused-quick : (work : ℕ) → quickAnswer section families s work ≡ quickAnswer section families t work
     unfolding quickAnswer quickChecks
     refused-quick work = rw (input-refused s e, input-refused t f)
 
-module _ (section : List ℕ) {s t : List ℕ} where
-  pub same-listing : SameToCalls s t → (work buffer : ℕ) → listingAnswer section s work buffer ≡ listingAnswer section t work buffer
-  same-listing (same e) work buffer = ap (λ l. listingAnswer section l work buffer) e
-  same-listing (both-refused r e f) work buffer = refused-listing section r s t e f work buffer
+module _ (section families : List ℕ) {s t : List ℕ} where
+  pub same-listing : SameToCalls s t → (work buffer : ℕ) → listingAnswer section families s work buffer ≡ listingAnswer section families t work buffer
+  same-listing (same e) work buffer = ap (λ l. listingAnswer section families l work buffer) e
+  same-listing (both-refused r e f) work buffer = refused-listing section families r s t e f work buffer
 
-  pub same-buffer : SameToCalls s t → (work : ℕ) (buffer : List ℕ) → listingBuffer section s work buffer ≡ listingBuffer section t work buffer
-  same-buffer (same e) work buffer = ap (λ l. listingBuffer section l work buffer) e
-  same-buffer (both-refused r e f) work buffer = refused-buffer section r s t e f work buffer
+  pub same-buffer : SameToCalls s t → (work : ℕ) (buffer : List ℕ) → listingBuffer section families s work buffer ≡ listingBuffer section families t work buffer
+  same-buffer (same e) work buffer = ap (λ l. listingBuffer section families l work buffer) e
+  same-buffer (both-refused r e f) work buffer = refused-buffer section families r s t e f work buffer
 
-  pub same-quick : SameToCalls s t → (work : ℕ) → quickAnswer section s work ≡ quickAnswer section t work
-  same-quick (same e) work = ap (λ l. quickAnswer section l work) e
-  same-quick (both-refused r e f) work = refused-quick section r s t e f work
+  pub same-quick : SameToCalls s t → (work : ℕ) → quickAnswer section families s work ≡ quickAnswer section families t work
+  same-quick (same e) work = ap (λ l. quickAnswer section families l work) e
+  same-quick (both-refused r e f) work = refused-quick section families r s t e f work
 
 -- ---- what the reader puts down
 
@@ -155,40 +158,40 @@ text-put-few text cs entry exit m size l e h f g few lent =
 
 -- ---- the contracts, from what holds of the answer that the reader computes
 
-module _ (text section : List ℕ) (work : ℕ) where
+module _ (text section families : List ℕ) (work : ℕ) where
   module _ (buffer : List ℕ) where
-    pub listing-typed : {r : Listing} {exit : List ℕ} → r ≡ typedListing section (readText text) work (length buffer) → exit ≡ typedBuffer section (readText text) work buffer
-        → ForAnswer text (λ a. r ≡ typedListing section a work (length buffer))
-        × (ForAnswer text (λ a. listingValues r ≡ listingValues (typedListing section a work (length buffer)))
-        × ForAnswer text (λ a. exit ≡ typedBuffer section a work buffer))
+    pub listing-typed : {r : Listing} {exit : List ℕ} → r ≡ typedListing section families (readText text) work (length buffer) → exit ≡ typedBuffer section families (readText text) work buffer
+        → ForAnswer text (λ a. r ≡ typedListing section families a work (length buffer))
+        × (ForAnswer text (λ a. listingValues r ≡ listingValues (typedListing section families a work (length buffer)))
+        × ForAnswer text (λ a. exit ≡ typedBuffer section families a work buffer))
     listing-typed {r} {exit} p q = (
-      for-answer text (λ a. r ≡ typedListing section a work (length buffer)) p,
-      (for-answer text (λ a. listingValues r ≡ listingValues (typedListing section a work (length buffer))) (ap listingValues p), for-answer text (λ a. exit ≡ typedBuffer section a work buffer) q),
+      for-answer text (λ a. r ≡ typedListing section families a work (length buffer)) p,
+      (for-answer text (λ a. listingValues r ≡ listingValues (typedListing section families a work (length buffer))) (ap listingValues p), for-answer text (λ a. exit ≡ typedBuffer section families a work buffer) q),
     )
 
     pub listing-error : {r : Refusal} → readText text ≡ error r
-        → (ListingRefused r ≡ typedListing section (readText text) work (length buffer)) × (buffer ≡ typedBuffer section (readText text) work buffer)
+        → (ListingRefused r ≡ typedListing section families (readText text) work (length buffer)) × (buffer ≡ typedBuffer section families (readText text) work buffer)
     listing-error h = rw h (refl, refl)
 
     pub listing-codes : (cs : List Code) {s : List ℕ} → readText text ≡ codes cs → SameToCalls s (selectionOf cs)
-        → (listingAnswer section s work (length buffer) ≡ typedListing section (readText text) work (length buffer))
-        × (listingBuffer section s work buffer ≡ typedBuffer section (readText text) work buffer)
-    listing-codes cs h k = rw h (same-listing section k work (length buffer), same-buffer section k work buffer)
+        → (listingAnswer section families s work (length buffer) ≡ typedListing section families (readText text) work (length buffer))
+        × (listingBuffer section families s work buffer ≡ typedBuffer section families (readText text) work buffer)
+    listing-codes cs h k = rw h (same-listing section families k work (length buffer), same-buffer section families k work buffer)
 
-  pub quick-typed : {r : Quick} → r ≡ typedQuick section (readText text) work
-      → ForAnswer text (λ a. r ≡ typedQuick section a work)
-      × ForAnswer text (λ a. quickValues r ≡ quickValues (typedQuick section a work))
+  pub quick-typed : {r : Quick} → r ≡ typedQuick section families (readText text) work
+      → ForAnswer text (λ a. r ≡ typedQuick section families a work)
+      × ForAnswer text (λ a. quickValues r ≡ quickValues (typedQuick section families a work))
   quick-typed {r} p = (
-    for-answer text (λ a. r ≡ typedQuick section a work) p,
-    for-answer text (λ a. quickValues r ≡ quickValues (typedQuick section a work)) (ap quickValues p),
+    for-answer text (λ a. r ≡ typedQuick section families a work) p,
+    for-answer text (λ a. quickValues r ≡ quickValues (typedQuick section families a work)) (ap quickValues p),
   )
 
-  pub quick-error : {r : Refusal} → readText text ≡ error r → QuickRefused r ≡ typedQuick section (readText text) work
+  pub quick-error : {r : Refusal} → readText text ≡ error r → QuickRefused r ≡ typedQuick section families (readText text) work
   quick-error h = rw h
 
   pub quick-codes : (cs : List Code) {s : List ℕ} → readText text ≡ codes cs → SameToCalls s (selectionOf cs)
-      → quickAnswer section s work ≡ typedQuick section (readText text) work
-  quick-codes cs h k = rw h (same-quick section k work)
+      → quickAnswer section families s work ≡ typedQuick section families (readText text) work
+  quick-codes cs h k = rw h (same-quick section families k work)
 
 module _ (text lent : List ℕ) where
   pub read-typed : {r : Reading} {exit : List ℕ} → (r ≡ readAnswer (readText text) (length lent)) × (exit ≡ readSelection (readText text) lent)

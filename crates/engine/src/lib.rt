@@ -55,10 +55,16 @@ pub fn read(text: &[u8], selection: &mut [u32]) -> Reading
 }
 
 // The full listing of a typed search: the text's error, or what the listing answers for its codes.
-pub fn typed_listing(section: &[u32], text: &[u8], work: &mut [u32], buffer: &mut [u32]) -> Listing
-    ensures { λ r. ⌜ ForAnswer (now (text .entry)) (λ a. r ≡ typedListing (now (section .entry)) a (length (now (work .entry))) (length (now (buffer .entry)))) ⌝ }
-    ensures { λ r. ⌜ ForAnswer (now (text .entry)) (λ a. listingValues r ≡ listingValues (typedListing (now (section .entry)) a (length (now (work .entry))) (length (now (buffer .entry))))) ⌝ }
-    ensures { λ _. ⌜ ForAnswer (now (text .entry)) (λ a. now (buffer .exit) ≡ typedBuffer (now (section .entry)) a (length (now (work .entry))) (now (buffer .entry))) ⌝ }
+pub fn typed_listing(
+    section: &[u32],
+    families: &[u32],
+    text: &[u8],
+    work: &mut [u32],
+    buffer: &mut [u32],
+) -> Listing
+    ensures { λ r. ⌜ ForAnswer (now (text .entry)) (λ a. r ≡ typedListing (now (section .entry)) (now (families .entry)) a (length (now (work .entry))) (length (now (buffer .entry)))) ⌝ }
+    ensures { λ r. ⌜ ForAnswer (now (text .entry)) (λ a. listingValues r ≡ listingValues (typedListing (now (section .entry)) (now (families .entry)) a (length (now (work .entry))) (length (now (buffer .entry))))) ⌝ }
+    ensures { λ _. ⌜ ForAnswer (now (text .entry)) (λ a. now (buffer .exit) ≡ typedBuffer (now (section .entry)) (now (families .entry)) a (length (now (work .entry))) (now (buffer .entry))) ⌝ }
 {
     let mut selection = [0; 129];
     let reading = reader::read(text, &mut selection);
@@ -66,15 +72,15 @@ pub fn typed_listing(section: &[u32], text: &[u8], work: &mut [u32], buffer: &mu
         Reading::Refused(refusal) => Listing::Refused(refusal),
         Reading::Read { codes } => {
             let size = typed_size(codes);
-            listing(section, &selection[..size], work, buffer)
+            listing(section, families, &selection[..size], work, buffer)
         }
     }
 }
 
 // The quick answer of a typed search: the text's error, or what the quick answer is for its codes.
-pub fn typed_quick(section: &[u32], text: &[u8], work: &mut [u32]) -> Quick
-    ensures { λ r. ⌜ ForAnswer (now (text .entry)) (λ a. r ≡ typedQuick (now (section .entry)) a (length (now (work .entry)))) ⌝ }
-    ensures { λ r. ⌜ ForAnswer (now (text .entry)) (λ a. quickValues r ≡ quickValues (typedQuick (now (section .entry)) a (length (now (work .entry))))) ⌝ }
+pub fn typed_quick(section: &[u32], families: &[u32], text: &[u8], work: &mut [u32]) -> Quick
+    ensures { λ r. ⌜ ForAnswer (now (text .entry)) (λ a. r ≡ typedQuick (now (section .entry)) (now (families .entry)) a (length (now (work .entry)))) ⌝ }
+    ensures { λ r. ⌜ ForAnswer (now (text .entry)) (λ a. quickValues r ≡ quickValues (typedQuick (now (section .entry)) (now (families .entry)) a (length (now (work .entry))))) ⌝ }
 {
     let mut selection = [0; 129];
     let reading = reader::read(text, &mut selection);
@@ -82,7 +88,7 @@ pub fn typed_quick(section: &[u32], text: &[u8], work: &mut [u32]) -> Quick
         Reading::Refused(refusal) => Quick::Refused(refusal),
         Reading::Read { codes } => {
             let size = typed_size(codes);
-            quick(section, &selection[..size], work)
+            quick(section, families, &selection[..size], work)
         }
     }
 }

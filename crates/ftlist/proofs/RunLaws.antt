@@ -6,6 +6,7 @@ use mathlib.Core.List.{List}
 use lib.ListN.{length, take, drop, length-drop}
 use lib.Seq.{take-all}
 use Rattle.model.specs.Answers.{completeList, listingAnswer}
+use Rattle.model.specs.Families.{emptyTable}
 use Rattle.model.specs.Limits.{bufferLength, workLength}
 use Rattle.model.specs.declared.Listing.{Listing}
 use Rattle.text.specs.Input.{maxInput, listingOf, numbersOf, programText, sectionPart, selectionPart}
@@ -13,10 +14,10 @@ use Rattle.text.specs.Printed.{listingText}
 use Rattle.text.proofs.InputLaws.{take-section, drop-section}
 use Rattle.text.proofs.ProgramLaws.{program-listed}
 
-pub listing-text : (section selection : List ℕ) {work buffer : ℕ} {answer : Listing} → answer ≡ listingAnswer section selection work buffer → work ≡ workLength → buffer ≡ bufferLength
-    → listingText answer (completeList section selection) ≡ listingOf section selection
+pub listing-text : (section selection : List ℕ) {work buffer : ℕ} {answer : Listing} → answer ≡ listingAnswer section emptyTable selection work buffer → work ≡ workLength → buffer ≡ bufferLength
+    → listingText answer (completeList section emptyTable selection) ≡ listingOf section selection
 listing-text section selection e w b =
-    ap (λ (l : Listing). listingText l (completeList section selection)) (e ∙ ap₂ (listingAnswer section selection) w b)
+    ap (λ (l : Listing). listingText l (completeList section emptyTable selection)) (e ∙ ap₂ (listingAnswer section emptyTable selection) w b)
 
 pub parts-text : (numbers : List ℕ) (k : ℕ) → k ≡ length (sectionPart numbers)
     → listingOf (take k numbers) (take (length numbers - k) (drop k numbers)) ≡ listingOf (sectionPart numbers) (selectionPart numbers)

@@ -37,7 +37,9 @@ fn print_listing(
     ensures { λ r. ⌜ take r (now (text .exit)) ≡ listingOf (now (section .entry)) (now (selection .entry)) ⌝ }
     ensures { λ r. ⌜ r ≤ length (now (text .exit)) ⌝ }
 {
-    let answer = calls::listing(section, selection, work, buffer);
+    // the empty family table
+    let families = [0u32; 1];
+    let answer = calls::listing(section, &families, selection, work, buffer);
     text::put_listing_text(answer, buffer, text)
 }
 

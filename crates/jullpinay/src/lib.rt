@@ -39,16 +39,17 @@ fn put_listing(listing: Listing, answer: &mut [u32; 4]) -> u32
 #[no_mangle]
 pub extern "C" fn jullpinay_listing(
     section: &[u32],
+    families: &[u32],
     selection: &[u32],
     work: &mut [u32],
     buffer: &mut [u32],
     answer: &mut [u32; 4],
 ) -> u32
-    ensures { λ r. ⌜ r ≡ getD (listingValues (listingAnswer (now (section .entry)) (now (selection .entry)) (length (now (work .entry))) (length (now (buffer .entry))))) 0 0 ⌝ }
-    ensures { λ _. ⌜ now (answer .exit) ≡ sets (now (answer .entry)) 0 (listingValues (listingAnswer (now (section .entry)) (now (selection .entry)) (length (now (work .entry))) (length (now (buffer .entry))))) ⌝ }
-    ensures { λ _. ⌜ now (buffer .exit) ≡ listingBuffer (now (section .entry)) (now (selection .entry)) (length (now (work .entry))) (now (buffer .entry)) ⌝ }
+    ensures { λ r. ⌜ r ≡ getD (listingValues (listingAnswer (now (section .entry)) (now (families .entry)) (now (selection .entry)) (length (now (work .entry))) (length (now (buffer .entry))))) 0 0 ⌝ }
+    ensures { λ _. ⌜ now (answer .exit) ≡ sets (now (answer .entry)) 0 (listingValues (listingAnswer (now (section .entry)) (now (families .entry)) (now (selection .entry)) (length (now (work .entry))) (length (now (buffer .entry))))) ⌝ }
+    ensures { λ _. ⌜ now (buffer .exit) ≡ listingBuffer (now (section .entry)) (now (families .entry)) (now (selection .entry)) (length (now (work .entry))) (now (buffer .entry)) ⌝ }
 {
-    let listing = engine::listing(section, selection, work, buffer);
+    let listing = engine::listing(section, families, selection, work, buffer);
     put_listing(listing, answer)
 }
 
@@ -76,14 +77,15 @@ fn put_quick(quick: Quick, answer: &mut [u32; 3]) -> u32
 #[no_mangle]
 pub extern "C" fn jullpinay_quick(
     section: &[u32],
+    families: &[u32],
     selection: &[u32],
     work: &mut [u32],
     answer: &mut [u32; 3],
 ) -> u32
-    ensures { λ r. ⌜ r ≡ getD (quickValues (quickAnswer (now (section .entry)) (now (selection .entry)) (length (now (work .entry))))) 0 0 ⌝ }
-    ensures { λ _. ⌜ now (answer .exit) ≡ sets (now (answer .entry)) 0 (quickValues (quickAnswer (now (section .entry)) (now (selection .entry)) (length (now (work .entry))))) ⌝ }
+    ensures { λ r. ⌜ r ≡ getD (quickValues (quickAnswer (now (section .entry)) (now (families .entry)) (now (selection .entry)) (length (now (work .entry))))) 0 0 ⌝ }
+    ensures { λ _. ⌜ now (answer .exit) ≡ sets (now (answer .entry)) 0 (quickValues (quickAnswer (now (section .entry)) (now (families .entry)) (now (selection .entry)) (length (now (work .entry))))) ⌝ }
 {
-    let quick = engine::quick(section, selection, work);
+    let quick = engine::quick(section, families, selection, work);
     put_quick(quick, answer)
 }
 
@@ -101,16 +103,17 @@ pub extern "C" fn jullpinay_snippet(section: &[u32], from: u32, to: u32) -> usiz
 #[no_mangle]
 pub extern "C" fn jullpinay_typed_listing(
     section: &[u32],
+    families: &[u32],
     text: &[u8],
     work: &mut [u32],
     buffer: &mut [u32],
     answer: &mut [u32; 4],
 ) -> u32
-    ensures { λ r. ⌜ ForAnswer (now (text .entry)) (λ a. r ≡ getD (listingValues (typedListing (now (section .entry)) a (length (now (work .entry))) (length (now (buffer .entry))))) 0 0) ⌝ }
-    ensures { λ _. ⌜ ForAnswer (now (text .entry)) (λ a. now (answer .exit) ≡ sets (now (answer .entry)) 0 (listingValues (typedListing (now (section .entry)) a (length (now (work .entry))) (length (now (buffer .entry)))))) ⌝ }
-    ensures { λ _. ⌜ ForAnswer (now (text .entry)) (λ a. now (buffer .exit) ≡ typedBuffer (now (section .entry)) a (length (now (work .entry))) (now (buffer .entry))) ⌝ }
+    ensures { λ r. ⌜ ForAnswer (now (text .entry)) (λ a. r ≡ getD (listingValues (typedListing (now (section .entry)) (now (families .entry)) a (length (now (work .entry))) (length (now (buffer .entry))))) 0 0) ⌝ }
+    ensures { λ _. ⌜ ForAnswer (now (text .entry)) (λ a. now (answer .exit) ≡ sets (now (answer .entry)) 0 (listingValues (typedListing (now (section .entry)) (now (families .entry)) a (length (now (work .entry))) (length (now (buffer .entry)))))) ⌝ }
+    ensures { λ _. ⌜ ForAnswer (now (text .entry)) (λ a. now (buffer .exit) ≡ typedBuffer (now (section .entry)) (now (families .entry)) a (length (now (work .entry))) (now (buffer .entry))) ⌝ }
 {
-    let listing = engine::typed_listing(section, text, work, buffer);
+    let listing = engine::typed_listing(section, families, text, work, buffer);
     put_listing(listing, answer)
 }
 
@@ -118,14 +121,15 @@ pub extern "C" fn jullpinay_typed_listing(
 #[no_mangle]
 pub extern "C" fn jullpinay_typed_quick(
     section: &[u32],
+    families: &[u32],
     text: &[u8],
     work: &mut [u32],
     answer: &mut [u32; 3],
 ) -> u32
-    ensures { λ r. ⌜ ForAnswer (now (text .entry)) (λ a. r ≡ getD (quickValues (typedQuick (now (section .entry)) a (length (now (work .entry))))) 0 0) ⌝ }
-    ensures { λ _. ⌜ ForAnswer (now (text .entry)) (λ a. now (answer .exit) ≡ sets (now (answer .entry)) 0 (quickValues (typedQuick (now (section .entry)) a (length (now (work .entry)))))) ⌝ }
+    ensures { λ r. ⌜ ForAnswer (now (text .entry)) (λ a. r ≡ getD (quickValues (typedQuick (now (section .entry)) (now (families .entry)) a (length (now (work .entry))))) 0 0) ⌝ }
+    ensures { λ _. ⌜ ForAnswer (now (text .entry)) (λ a. now (answer .exit) ≡ sets (now (answer .entry)) 0 (quickValues (typedQuick (now (section .entry)) (now (families .entry)) a (length (now (work .entry)))))) ⌝ }
 {
-    let quick = engine::typed_quick(section, text, work);
+    let quick = engine::typed_quick(section, families, text, work);
     put_quick(quick, answer)
 }
 

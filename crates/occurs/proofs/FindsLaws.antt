@@ -9,7 +9,7 @@ use Rattle.model.specs.Limits.{maxMatches}
 use Rattle.model.specs.Lists.{keep, fromTo}
 use Rattle.model.specs.Matches.{Str, strings}
 use Rattle.model.specs.Rules.{standFrom, phraseList}
-use Rattle.model.specs.Section.{Section}
+use Rattle.model.specs.Families.{Searched}
 use Rattle.strings.specs.Strings.{strsOf}
 use Rattle.store.specs.Layout.{Holds, matchesAt, matchNumbers, matchesNumbers}
 use Rattle.store.specs.Put.{Put}
@@ -20,9 +20,9 @@ use Rattle.store.proofs.SlotsLaws.{matches-held, slot-stream, slot-below}
 use Rattle.occurs.specs.Finds.{find, findsOf}
 use Rattle.occurs.specs.Writing.{Source}
 
-pub phrase-finds : (s : Section) (rank : ℕ) (ws : List ℕ) → phraseList s rank ws ≡ map find (findsOf s rank ws)
+pub phrase-finds : (s : Searched) (rank : ℕ) (ws : List ℕ) → phraseList s rank ws ≡ map find (findsOf s rank ws)
 unfolding phraseList findsOf
-phrase-finds s rank ws = sym (map-map find _ (keep (standFrom s ws) (fromTo 1 (s .tokens))))
+phrase-finds s rank ws = sym (map-map find _ (keep (standFrom s ws) (fromTo 1 (s .section .tokens))))
 
 -- ---- in memory
 

@@ -23,7 +23,7 @@ fn show_listing(section: &[u32], selection: &[u32]) {
     let mut work = [0u32; WORK_LENGTH];
     let mut buffer = [0u32; BUFFER_LENGTH];
     let mut text = [0u8; TEXT_LENGTH];
-    let answer = calls::listing(section, selection, &mut work, &mut buffer);
+    let answer = calls::listing(section, &[0], selection, &mut work, &mut buffer);
     let end = text::put_listing_text(answer, &buffer, &mut text);
     show_text(answer, &text[..end]);
 }
@@ -52,7 +52,7 @@ fn show_refusal(refusal: Refusal) {
 
 fn show_quick(section: &[u32], selection: &[u32]) {
     let mut work = [0u32; WORK_LENGTH];
-    let quick = calls::quick(section, selection, &mut work);
+    let quick = calls::quick(section, &[0], selection, &mut work);
     io::write_all(1, b"quick: ");
     match quick {
         Quick::Answered { yes, codes } => show_answer(yes, codes),

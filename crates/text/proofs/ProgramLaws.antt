@@ -10,15 +10,15 @@ use borrow.Author.Tests.{lt-ltb, le-ltb, ne-eqb}
 use lib.ListN.{length, drop, length-append}
 use lib.Seq.{take-append-seam}
 use Rattle.model.specs.Answers.{completeList, answerUnless, listingRefusal, listingAnswer, listingNumbers, bufferUnless, listingBuffer}
-use Rattle.model.specs.Checks.{refusal, sectionRefusal, selectionRefusal, inputRefusal}
+use Rattle.model.specs.Checks.{refusal}
 use Rattle.model.specs.Matches.{Match, strings}
-use Rattle.model.specs.Section.{sectionOf}
+use Rattle.model.specs.Families.{searchedOf}
 use Rattle.model.specs.Trees.{treeOf}
 use Rattle.model.specs.declared.Listing.{Listing}
 use Rattle.model.specs.declared.Listing.the-variants.{Refused}
 use Rattle.model.specs.declared.Refusal.{Refusal}
 use Rattle.model.proofs.AnswersLaws.{listingRefusal-none, complete-fits}
-use Rattle.model.proofs.ChecksLaws.{otherwise-none, accepted-section, accepted-selection}
+use Rattle.model.proofs.ChecksLaws.{accepted-section, accepted-selection, input-none}
 use Rattle.store.proofs.ValidStrLaws.{valid-matches}
 use Rattle.text.specs.Input.{maxInput, numbersOf, sectionPart, selectionPart, listingOf, programText}
 use Rattle.text.specs.Printable.{ListingIn, PrintableAs, Printable}
@@ -41,32 +41,31 @@ module _ (input : List ℕ) where
 
 -- ---- Printable
 
-module _ (section selection : List ℕ) (work : ℕ) (b : List ℕ) where
+module _ (section families selection : List ℕ) (work : ℕ) (b : List ℕ) where
   -- what the buffer holds where nothing refuses
-  listing-kept : listingRefusal section selection work (length b) ≡ none
-      → let ms = completeList section selection in
+  listing-kept : listingRefusal section families selection work (length b) ≡ none
+      → let ms = completeList section families selection in
       ListingIn (length ms) (strings ms) ms (listingNumbers ms ++ drop (length (listingNumbers ms)) b)
-  unfolding inputRefusal
   listing-kept e =
-      let ms = completeList section selection in
+      let ms = completeList section families selection in
       let xs = listingNumbers ms in
-      let fits = complete-fits section selection work (length b) e in
-      let checks = otherwise-none (sectionRefusal section) (selectionRefusal selection) (listingRefusal-none section selection work (length b) e .passes .checks) in
+      let fits = complete-fits section families selection work (length b) e in
+      let checks = input-none section families selection (listingRefusal-none section families selection work (length b) e .passes .checks) in
       record {
         matches-are = refl;
         strings-are = refl;
         holds = record { within = omega (arith, length-append xs (drop (length xs) b)); part = take-append-seam xs (drop (length xs) b) };
         few = fits .0;
         short = fits .1;
-        valid = valid-matches (sectionOf section) (treeOf selection) (accepted-section section (checks .0) .few) (accepted-selection selection (checks .1) .ranks);
+        valid = valid-matches (searchedOf section families) (treeOf selection) (accepted-section section (checks .0) .few) (accepted-selection selection (checks .2) .ranks);
       }
 
-  pub listing-held : PrintableAs (listingAnswer section selection work (length b)) (completeList section selection) (listingBuffer section selection work b)
+  pub listing-held : PrintableAs (listingAnswer section families selection work (length b)) (completeList section families selection) (listingBuffer section families selection work b)
   unfolding listingAnswer listingBuffer
-  listing-held = at (listingRefusal section selection work (length b)) listing-kept
+  listing-held = at (listingRefusal section families selection work (length b)) listing-kept
     where
       ms : List Match
-      ms = completeList section selection
+      ms = completeList section families selection
 
       at : (r : Option Refusal) → (r ≡ none → ListingIn (length ms) (strings ms) ms (listingNumbers ms ++ drop (length (listingNumbers ms)) b))
           → PrintableAs (answerUnless r ms) ms (bufferUnless r (listingNumbers ms) b)
@@ -74,7 +73,7 @@ module _ (section selection : List ℕ) (work : ℕ) (b : List ℕ) where
       at none h = h refl
 
   -- what the full listing answers and leaves can be printed
-  abbrev pub listing-printable : {answer : Listing} {buffer : List ℕ} → answer ≡ listingAnswer section selection work (length b) → buffer ≡ listingBuffer section selection work b
+  abbrev pub listing-printable : {answer : Listing} {buffer : List ℕ} → answer ≡ listingAnswer section families selection work (length b) → buffer ≡ listingBuffer section families selection work b
       → Printable answer buffer
   listing-printable e f =
-      record { list = completeList section selection; held = rw (e, f) listing-held }
+      record { list = completeList section families selection; held = rw (e, f) listing-held }

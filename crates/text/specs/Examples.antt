@@ -9,7 +9,8 @@ use lib.Dec.{eqb}
 use Rattle.model.specs.AllMatches.{filterList, allMatches}
 use Rattle.model.specs.Answers.{listed, listingRefusal, listingAnswer}
 use Rattle.model.specs.Bytes.{bytes}
-use Rattle.model.specs.Checks.{refusal, tried, wrongSection, lastNonzero, faultyAt, faultyPosition, wrongSelection, unknownKind, filterOperandFits, operandFits, wrongOperand, wrongShape, notOverPhrase, notUnderMildNot, sectionRefusal, selectionRefusal, inputRefusal, listingChecks}
+use Rattle.model.specs.Checks.{refusal, tried, wrongSection, lastNonzero, faultyAt, faultyPosition, wrongFamilies, entryOutOfOrder, wrongSelection, unknownKind, filterOperandFits, operandFits, wrongOperand, wrongShape, notOverPhrase, notUnderMildNot, sectionRefusal, familiesRefusal, selectionRefusal, inputRefusal, listingChecks}
+use Rattle.model.specs.Families.{entryOf, familyOf, wordFits}
 use Rattle.model.specs.Kinds.{shapesOf}
 use Rattle.model.specs.Lists.{allOf, anyOf, isEmpty, keep, first, allPairs, neighbours, insertSorted, sort, upFrom, fromTo}
 use Rattle.model.specs.Matches.{Str, Match, strings}
@@ -87,8 +88,8 @@ entries =
 
 pub examples-hold : allOf right entries ≡ true
 unfolding sameBytes right string one printed wire six selected entries digits decimal spanText queryText stringText lineOf matchText headText answerText listingText numbersOf programText
-    xor allOf anyOf isEmpty keep first allPairs neighbours insertSorted sort upFrom fromTo flatMap wellSized upTo shapesOf firstMisfitFrom placeOf combine changeLast read readAll topTree treeOf parts strings
+    xor allOf anyOf isEmpty keep first allPairs neighbours insertSorted sort upFrom fromTo flatMap wellSized entryOf familyOf wordFits upTo shapesOf firstMisfitFrom placeOf combine changeLast read readAll topTree treeOf parts strings
     standFrom phraseList andList leastStart greatestEnd join windowEnds window filterList allMatches
-    tried wrongSection lastNonzero faultyAt faultyPosition wrongSelection unknownKind filterOperandFits operandFits wrongOperand wrongShape notOverPhrase notUnderMildNot sectionRefusal selectionRefusal inputRefusal listingChecks
+    tried wrongSection lastNonzero faultyAt faultyPosition wrongFamilies entryOutOfOrder wrongSelection unknownKind filterOperandFits operandFits wrongOperand wrongShape notOverPhrase notUnderMildNot sectionRefusal familiesRefusal selectionRefusal inputRefusal listingChecks
     firstTooLong listingRefusal listingAnswer
 examples-hold = refl

@@ -7,6 +7,7 @@ use lib.Dec.{ltb, eqb}
 use lib.ListN.{length, take, drop, getD}
 use Rattle.model.specs.Answers.{completeList, listingAnswer}
 use Rattle.model.specs.Checks.{refusal}
+use Rattle.model.specs.Families.{emptyTable}
 use Rattle.model.specs.Limits.{workLength, bufferLength}
 use Rattle.model.specs.Section.{size}
 use Rattle.model.specs.declared.Listing.the-variants.{Refused}
@@ -47,9 +48,9 @@ selectionPart numbers = drop (1 + 2 * size numbers) numbers
 abbrev pub unreadable : List ℕ → Bool
 unreadable input = ltb maxInput (length input) || not (eqb (length input % 4) 0)
 
--- the text of the full listing of two lent slices
+-- the text of the full listing of two lent slices; document 02, F-6: "An empty table (`ftlist` lends one)"
 abbrev pub listingOf : List ℕ → List ℕ → List ℕ
-listingOf section selection = listingText (listingAnswer section selection workLength bufferLength) (completeList section selection)
+listingOf section selection = listingText (listingAnswer section emptyTable selection workLength bufferLength) (completeList section emptyTable selection)
 
 -- The whole program: what it prints for what it reads.
 unfoldable pub programText : List ℕ → List ℕ

@@ -15,6 +15,7 @@ use Rattle.model.specs.Checks.{refusal}
 use Rattle.model.specs.Kinds.{filtered, shapeOf, shapeAt}
 use Rattle.model.specs.Lists.{anyOf}
 use Rattle.model.specs.Parts.{partsEnded, partCount, partStart}
+use Rattle.model.specs.Families.{searchedOf}
 use Rattle.model.specs.Section.{sectionOf}
 use Rattle.model.specs.Selection.{codeAt, upTo}
 use Rattle.model.specs.Trees.{Tree, parts}
@@ -31,22 +32,22 @@ use Rattle.walk.specs.Walkable.{Walkable}
 use Rattle.walk.proofs.PartsLaws.{partCount-more, part-long, part-answers}
 use Rattle.walk.proofs.WalkLaws.{some-codes, below}
 
-module _ {section sel mem : List ℕ} {hi : ℕ} (w : Walkable section sel mem hi) {f : Filter} (e : codeAt sel hi ≡ Filtered f) where
+module _ {section families sel mem : List ℕ} {hi : ℕ} (w : Walkable section families sel mem hi) {f : Filter} (e : codeAt sel hi ≡ Filtered f) where
   abbrev under : ChangeAt (shapeAt sel) hi (filtered f) (w .part .tree)
   under = change-at (shapeAt sel) hi (w .part) (filtered f) (ap shapeOf e)
 
   abbrev operand : Tree
   operand = under .operand .tree
 
-  abbrev pub operand-walkable : Walkable section sel mem (hi - 1)
+  abbrev pub operand-walkable : Walkable section families sel mem (hi - 1)
   operand-walkable = below mem w (under .operand) (omega arith) refl
 
   pub filter-window : (n : ℕ) → f ≡ Window n → WindowSize n
   filter-window n q = window-size sel (w .in-selection) hi (some-codes w) (w .up-to) n (e ∙ ap Filtered q)
 
-  walks : filterWalk (sectionOf section) f operand ≡ walk (sectionOf section) (w .part .tree)
+  walks : filterWalk (searchedOf section families) f operand ≡ walk (searchedOf section families) (w .part .tree)
   unfolding walk
-  walks = ap (walk (sectionOf section)) (sym (under .is))
+  walks = ap (walk (searchedOf section families)) (sym (under .is))
 
   counts : {lo n : ℕ} → lo ≡ partStart (shapeAt sel) (hi - 1) → partCount (upTo (shapeAt sel) lo) + n ≡ partCount (upTo (shapeAt sel) hi) → n ≡ length (parts operand) + 1
   counts {lo} l h =
@@ -55,13 +56,13 @@ module _ {section sel mem : List ℕ} {hi : ℕ} (w : Walkable section sel mem h
       let more = partCount-more at (hi - 1) 0 (partCount (upTo at (hi - 1))) 1 (shapeAt sel hi) (ap at (sym last)) (omega arith) (ap partsEnded (sym (ap shapeOf e))) in
       omega (arith, part-count at (hi - 1) lo (under .operand) l, more, ap (λ (k : ℕ). partCount (upTo at k)) last)
 
-  module _ {mem' : List ℕ} {part : Part} (b : PartList (sectionOf section) operand mem' part) where
-    pub filter-long : {r : Refusal} → part ≡ PartRefused r → Refused (refusal 9 (r .place)) ≡ walk (sectionOf section) (w .part .tree)
+  module _ {mem' : List ℕ} {part : Part} (b : PartList (searchedOf section families) operand mem' part) where
+    pub filter-long : {r : Refusal} → part ≡ PartRefused r → Refused (refusal 9 (r .place)) ≡ walk (searchedOf section families) (w .part .tree)
     unfolding filterWalk
-    filter-long q = part-long b q (anyOf (givesYes (sectionOf section) f) (allMatches (sectionOf section) operand)) (length (parts operand) + 1) ∙ walks
+    filter-long q = part-long b q (anyOf (givesYes (sectionOf section) f) (allMatches (searchedOf section families) operand)) (length (parts operand) + 1) ∙ walks
 
     pub filter-answers : {lo n : ℕ} {answer : Bool} → part ≡ Built → lo ≡ partStart (shapeAt sel) (hi - 1) → ((s : SlotAt mem' 0) → answer ≡ anyOf (givesYes (sectionOf section) f) (s .list))
         → partCount (upTo (shapeAt sel) lo) + n ≡ partCount (upTo (shapeAt sel) hi)
-        → Answered answer n ≡ walk (sectionOf section) (w .part .tree)
+        → Answered answer n ≡ walk (searchedOf section families) (w .part .tree)
     unfolding filterWalk
     filter-answers q l y h = part-answers b q (anyOf (givesYes (sectionOf section) f)) y (counts l h) ∙ walks

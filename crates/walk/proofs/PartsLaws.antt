@@ -13,7 +13,7 @@ use Rattle.model.specs.Checks.{refusal}
 use Rattle.model.specs.Kinds.{Shape, aWord, aPhrase, aPair, aChange, shapeAt}
 use Rattle.model.specs.Matches.{Match, isYes}
 use Rattle.model.specs.Parts.{partsEnded, partCount, postfix, phrases, partStart, rankAfter, codesOfTrees, phrasesAll}
-use Rattle.model.specs.Section.{Section, sectionOf}
+use Rattle.model.specs.Families.{Searched, searchedOf}
 use Rattle.model.specs.Selection.{upTo}
 use Rattle.model.specs.Trees.{Tree, phrase, pair, change, parts}
 use Rattle.model.specs.Walk.{firstTooLong, unlessTooLong, build}
@@ -67,7 +67,7 @@ phrases-trees (t ∷ ts) = omega (arith, phrasesIn-append (codesOfTrees ts) (pos
 
 -- ---- a part to build
 
-module _ {section sel mem : List ℕ} {hi : ℕ} (w : Walkable section sel mem hi) where
+module _ {section families sel mem : List ℕ} {hi : ℕ} (w : Walkable section families sel mem hi) where
   pub starts-before : partStart (shapeAt sel) hi ≤ hi
   starts-before = start-le (shapeAt sel) hi
 
@@ -85,9 +85,10 @@ module _ {section sel mem : List ℕ} {hi : ℕ} (w : Walkable section sel mem h
       ap (upTo (shapeAt sel)) (part-below (shapeAt sel) hi lo (w .part) refl) ∙ upTo-front (shapeAt sel) hi (codesOfTrees (w .part .below)) (postfix (w .part .tree)) (w .part .spells) in
       omega (arith, ap phrasesIn front, phrases-trees (w .part .below))
 
-  abbrev pub buildable : {lo rank : ℕ} → lo ≡ partStart (shapeAt sel) hi → rank ≡ phrasesIn (upTo (shapeAt sel) lo) → Buildable section sel mem lo hi (rank + 1)
+  abbrev pub buildable : {lo rank : ℕ} → lo ≡ partStart (shapeAt sel) hi → rank ≡ phrasesIn (upTo (shapeAt sel) lo) → Buildable section families sel mem lo hi (rank + 1)
   buildable e r = record {
     in-section = w .in-section;
+    in-families = w .in-families;
     in-selection = w .in-selection;
     part = w .part;
     lo-is = e;
@@ -102,7 +103,7 @@ nine-at : (r : Refusal) (o : Option ℕ) → Option·map (refusal 9) o ≡ some 
 nine-at r none f = absurd (Option·none-ne-some r f)
 nine-at r (some place) f = let same : refusal 9 place ≡ r = cc in ap (λ (q : Refusal). some (q .place)) same
 
-module _ {s : Section} {t : Tree} {mem : List ℕ} {part : Part} (b : PartList s t mem part) where
+module _ {s : Searched} {t : Tree} {mem : List ℕ} {part : Part} (b : PartList s t mem part) where
   -- where it is too long
   pub part-long : {r : Refusal} → part ≡ PartRefused r → (answer : Bool) (n : ℕ) → Refused (refusal 9 (r .place)) ≡ unlessTooLong (firstTooLong s (parts t)) answer n
   part-long {r} e answer n = rw (nine-at r (firstTooLong s (parts t)) (b .refused r e))
@@ -114,13 +115,13 @@ module _ {s : Section} {t : Tree} {mem : List ℕ} {part : Part} (b : PartList s
 
 -- ---- where the whole part is built
 
-module _ {section sel mem : List ℕ} {hi : ℕ} (w : Walkable section sel mem hi) {mem' : List ℕ} {part : Part} (b : PartList (sectionOf section) (w .part .tree) mem' part) where
-  pub build-long : {r : Refusal} → part ≡ PartRefused r → Refused (refusal 9 (r .place)) ≡ build (sectionOf section) (w .part .tree)
+module _ {section families sel mem : List ℕ} {hi : ℕ} (w : Walkable section families sel mem hi) {mem' : List ℕ} {part : Part} (b : PartList (searchedOf section families) (w .part .tree) mem' part) where
+  pub build-long : {r : Refusal} → part ≡ PartRefused r → Refused (refusal 9 (r .place)) ≡ build (searchedOf section families) (w .part .tree)
   unfolding build
-  build-long e = part-long b e (isYes (allMatches (sectionOf section) (w .part .tree))) (length (parts (w .part .tree)))
+  build-long e = part-long b e (isYes (allMatches (searchedOf section families) (w .part .tree))) (length (parts (w .part .tree)))
 
   pub build-answers : {lo n : ℕ} {answer : Bool} → part ≡ Built → lo ≡ partStart (shapeAt sel) hi → ((s : SlotAt mem' 0) → answer ≡ isYes (s .list))
       → partCount (upTo (shapeAt sel) lo) + n ≡ partCount (upTo (shapeAt sel) hi)
-      → Answered answer n ≡ build (sectionOf section) (w .part .tree)
+      → Answered answer n ≡ build (searchedOf section families) (w .part .tree)
   unfolding build
   build-answers {lo} e l y h = part-answers b e isYes y (omega (arith, part-count (shapeAt sel) hi lo (w .part) l))

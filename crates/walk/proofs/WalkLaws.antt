@@ -24,7 +24,8 @@ use Rattle.model.specs.Limits.{maxCodes, workLength}
 use Rattle.model.specs.Lists.{isEmpty}
 use Rattle.model.specs.Parts.{PartAt, isMildNot, partStart, postfix, rankAfter, codesOfTrees}
 use Rattle.model.specs.Rules.{phraseList}
-use Rattle.model.specs.Section.{Section, sectionOf, size}
+use Rattle.model.specs.Families.{Searched, searchedOf}
+use Rattle.model.specs.Section.{size}
 use Rattle.model.specs.Selection.{codeAt, upTo}
 use Rattle.model.specs.Trees.{Tree, pair}
 use Rattle.model.specs.Walk.{firstTooLong, unlessTooLong, build, turned, orWalk, andWalk, walk}
@@ -46,7 +47,7 @@ codes-unless none b n = omega arith
 codes-unless (some c) b n = omega arith
 
 -- a part's walk counts at most its codes
-pub codes-few : (s : Section) (t : Tree) → codesIn (walk s t) ≤ length (postfix t)
+pub codes-few : (s : Searched) (t : Tree) → codesIn (walk s t) ≤ length (postfix t)
 codes-few s t =
     let counts = codes-unless (firstTooLong s (walkBuilds s t)) (walkAnswer s t) (length (walkReaches s t)) in
     omega (arith, ap codesIn (walk-is s t), counts, length-walkReaches s t, length-parts t, partCount-le (postfix t))
@@ -91,7 +92,7 @@ module _ (b : Bool) (n : ℕ) where
   and-undecided (Answered false k) r e = false-true (sym e)
   and-undecided (Refused q) r e = false-true (sym e)
 
-  module _ (s : Section) (c : ℕ) (t u : Tree) where
+  module _ (s : Searched) (c : ℕ) (t u : Tree) where
     -- the left side decides: its answer, and one code more
     pair-decided : (k : Pair) → isMildNot (aPair k) ≡ false → decides k (walk s t) ≡ true → passedUp b n (walk s (pair k c t u)) ≡ passedUp b (n + 1) (walk s t)
     unfolding walk
@@ -107,7 +108,7 @@ module _ (b : Bool) (n : ℕ) where
     pair-undecided And e d = and-undecided (walk s t) (walk s u) d
     pair-undecided MildNot e d = false-true (sym e)
 
-mild-builds : (s : Section) (k : Pair) (c : ℕ) (t u : Tree) → isMildNot (aPair k) ≡ true → walk s (pair k c t u) ≡ build s (pair k c t u)
+mild-builds : (s : Searched) (k : Pair) (c : ℕ) (t u : Tree) → isMildNot (aPair k) ≡ true → walk s (pair k c t u) ≡ build s (pair k c t u)
 unfolding walk
 mild-builds s Or c t u e = false-true e
 mild-builds s And c t u e = false-true e
@@ -140,24 +141,25 @@ loose-words sel a front us (w ∷ ws) c e h l =
 
 -- ---- the walk, by the code at hi
 
-pub below-up-to : {section sel mem : List ℕ} {hi lower : ℕ} → Walkable section sel mem hi → lower ≤ hi → lower ≤ size sel
+pub below-up-to : {section families sel mem : List ℕ} {hi lower : ℕ} → Walkable section families sel mem hi → lower ≤ hi → lower ≤ size sel
 below-up-to w h = omega (arith, w .up-to)
 
-pub below-room : {section sel mem : List ℕ} {hi : ℕ} (mem' : List ℕ) → Walkable section sel mem hi → length mem' ≡ length mem → workLength ≤ length mem'
+pub below-room : {section families sel mem : List ℕ} {hi : ℕ} (mem' : List ℕ) → Walkable section families sel mem hi → length mem' ≡ length mem → workLength ≤ length mem'
 below-room mem' w l = omega (arith, w .room)
 
 -- a part below the one in hand, with memory as it has become
-abbrev pub below : {section sel mem : List ℕ} {hi lower : ℕ} (mem' : List ℕ) → Walkable section sel mem hi → PartAt (shapeAt sel) lower → lower ≤ hi → length mem' ≡ length mem
-    → Walkable section sel mem' lower
+abbrev pub below : {section families sel mem : List ℕ} {hi lower : ℕ} (mem' : List ℕ) → Walkable section families sel mem hi → PartAt (shapeAt sel) lower → lower ≤ hi → length mem' ≡ length mem
+    → Walkable section families sel mem' lower
 below mem' w p h l = record {
   in-section = w .in-section;
+  in-families = w .in-families;
   in-selection = w .in-selection;
   part = p;
   up-to = below-up-to w h;
   room = below-room mem' w l;
 }
 
-module _ {section sel mem : List ℕ} {hi : ℕ} (w : Walkable section sel mem hi) where
+module _ {section families sel mem : List ℕ} {hi : ℕ} (w : Walkable section families sel mem hi) where
   pub some-codes : 1 ≤ hi
   some-codes = part-some (shapeAt sel) hi (w .part)
 
@@ -166,8 +168,8 @@ module _ {section sel mem : List ℕ} {hi : ℕ} (w : Walkable section sel mem h
 
   -- a phrase
   pub phrase-walks : {code : Code} {k : ℕ} {words : List ℕ} {r : Quick} → code ≡ codeAt sel hi → code ≡ Phrase k → words ≡ phraseWords sel hi
-      → ((rank : ℕ) → r ≡ Answered (not (isEmpty (phraseList (sectionOf section) rank words))) 1)
-      → r ≡ walk (sectionOf section) (w .part .tree)
+      → ((rank : ℕ) → r ≡ Answered (not (isEmpty (phraseList (searchedOf section families) rank words))) 1)
+      → r ≡ walk (searchedOf section families) (w .part .tree)
   unfolding walk
   phrase-walks {code} {k} {words} {r} e c ws a =
       let p = phrase-at (shapeAt sel) hi (w .part) k (ap shapeOf (sym e ∙ c)) in
@@ -179,11 +181,11 @@ module _ {section sel mem : List ℕ} {hi : ℕ} (w : Walkable section sel mem h
       let last : hi - 1 + 1 ≡ hi = omega (arith, some-codes) in
       let found = phrase-words sel (w .in-selection) hi some-codes (w .up-to) k (p .words) (sym e ∙ c) (p .long) (subst (λ (j : ℕ). Loose sel j (p .words)) last loose) in
       a (rankAfter (w .part .below))
-      ∙ ap (λ (l : List ℕ). Answered (not (isEmpty (phraseList (sectionOf section) (rankAfter (w .part .below)) l))) 1) (ws ∙ found)
-      ∙ ap (walk (sectionOf section)) (sym (p .is))
+      ∙ ap (λ (l : List ℕ). Answered (not (isEmpty (phraseList (searchedOf section families) (rankAfter (w .part .below)) l))) 1) (ws ∙ found)
+      ∙ ap (walk (searchedOf section families)) (sym (p .is))
 
   -- an occurs
-  occurs-walks : {k : Times} → shapeAt sel hi ≡ aChange (occurring k) → build (sectionOf section) (w .part .tree) ≡ walk (sectionOf section) (w .part .tree)
+  occurs-walks : {k : Times} → shapeAt sel hi ≡ aChange (occurring k) → build (searchedOf section families) (w .part .tree) ≡ walk (searchedOf section families) (w .part .tree)
   unfolding walk
   occurs-walks {k} e = let p = change-at (shapeAt sel) hi (w .part) (occurring k) e in rw (p .is)
 
@@ -193,14 +195,14 @@ module _ {section sel mem : List ℕ} {hi : ℕ} (w : Walkable section sel mem h
   sides {code} {k} {mid} e c m = pair-at (shapeAt sel) hi (w .part) k mid m (ap shapeOf (sym e ∙ c))
 
   pub mild-walks : {code : Code} {k : Pair} → code ≡ codeAt sel hi → code ≡ Combine k → isMildNot (aPair k) ≡ true
-      → build (sectionOf section) (w .part .tree) ≡ walk (sectionOf section) (w .part .tree)
+      → build (searchedOf section families) (w .part .tree) ≡ walk (searchedOf section families) (w .part .tree)
   mild-walks {code} {k} e c m =
       let p = sides {mid = partStart (shapeAt sel) (hi - 1)} e c refl in
-      rw (p .is) (sym (mild-builds (sectionOf section) k hi (p .left .tree) (p .right .tree) m))
+      rw (p .is) (sym (mild-builds (searchedOf section families) k hi (p .left .tree) (p .right .tree) m))
 
   -- any other part that the walk does not go into
   pub leaf-builds : (code : Code) → code ≡ codeAt sel hi → OneOf (0 ∷ 2 ∷ 3 ∷ 5 ∷ []) (tagOf the-type code) → goesInto (shapeOf code) ≡ false
-      → build (sectionOf section) (w .part .tree) ≡ walk (sectionOf section) (w .part .tree)
+      → build (searchedOf section families) (w .part .tree) ≡ walk (searchedOf section families) (w .part .tree)
   leaf-builds (Word v) e o g = word-walks e refl
   leaf-builds (Phrase k) e o g = absurd (miss (0 ∷ 2 ∷ 3 ∷ 5 ∷ []) 1 tt o)
   leaf-builds (Combine k) e o g = mild-walks e refl (not-false (isMildNot (aPair k)) g)
@@ -220,33 +222,33 @@ leaf-code (Occurs k) o = refl
 -- ---- the loop: from a part to what is under its not, or to its right side
 
 -- The walk of the whole part is that of the part in hand, passed up.
-pub record Going (section sel : List ℕ) (hi : ℕ) (whole : Tree) (mem : List ℕ) (place : ℕ) (turned : Bool) (codes : ℕ) : Type 0 where
-  pub here : Walkable section sel mem place
+pub record Going (section families sel : List ℕ) (hi : ℕ) (whole : Tree) (mem : List ℕ) (place : ℕ) (turned : Bool) (codes : ℕ) : Type 0 where
+  pub here : Walkable section families sel mem place
   pub up-to : place ≤ hi
   pub few : codes + length (postfix (here .part .tree)) ≤ maxCodes
-  pub same : passedUp turned codes (walk (sectionOf section) (here .part .tree)) ≡ walk (sectionOf section) whole
+  pub same : passedUp turned codes (walk (searchedOf section families) (here .part .tree)) ≡ walk (searchedOf section families) whole
 
-pub start : {section sel mem : List ℕ} {hi : ℕ} (w : Walkable section sel mem hi) → Going section sel hi (w .part .tree) mem hi false 0
-start {section} {sel} {mem} {hi} w = record {
+pub start : {section families sel mem : List ℕ} {hi : ℕ} (w : Walkable section families sel mem hi) → Going section families sel hi (w .part .tree) mem hi false 0
+start {section} {families} {sel} {mem} {hi} w = record {
   here = w;
   up-to = omega arith;
   few = omega (arith, part-length (shapeAt sel) hi (w .part), w .up-to, w .in-selection .few);
-  same = passed-whole (walk (sectionOf section) (w .part .tree));
+  same = passed-whole (walk (searchedOf section families) (w .part .tree));
 }
 
-module _ {section sel mem : List ℕ} {hi : ℕ} {whole : Tree} {place : ℕ} {b : Bool} {n : ℕ} (g : Going section sel hi whole mem place b n) where
+module _ {section families sel mem : List ℕ} {hi : ℕ} {whole : Tree} {place : ℕ} {b : Bool} {n : ℕ} (g : Going section families sel hi whole mem place b n) where
   abbrev tree : Tree
   tree = g .here .part .tree
 
   -- an answer of the part in hand
-  pub passes : {q : Quick} → q ≡ walk (sectionOf section) tree → passedUp b n q ≡ walk (sectionOf section) whole
+  pub passes : {q : Quick} → q ≡ walk (searchedOf section families) tree → passedUp b n q ≡ walk (searchedOf section families) whole
   passes e = ap (passedUp b n) e ∙ g .same
 
-  pub passes-few : {q : Quick} → q ≡ walk (sectionOf section) tree → codesIn q + n ≤ maxCodes
-  passes-few e = omega (arith, ap codesIn e, codes-few (sectionOf section) tree, g .few)
+  pub passes-few : {q : Quick} → q ≡ walk (searchedOf section families) tree → codesIn q + n ≤ maxCodes
+  passes-few e = omega (arith, ap codesIn e, codes-few (searchedOf section families) tree, g .few)
 
   -- under a not
-  pub under-not : {code : Code} → code ≡ codeAt sel place → code ≡ Not → Going section sel hi whole mem (place - 1) (not b) (n + 1)
+  pub under-not : {code : Code} → code ≡ codeAt sel place → code ≡ Not → Going section families sel hi whole mem (place - 1) (not b) (n + 1)
   unfolding walk postfix
   under-not {code} e c =
       let p = change-at (shapeAt sel) place (g .here .part) negated (ap shapeOf (sym e ∙ c)) in
@@ -255,7 +257,7 @@ module _ {section sel mem : List ℕ} {hi : ℕ} {whole : Tree} {place : ℕ} {b
         here = below mem (g .here) (p .operand) (omega arith) refl;
         up-to = omega (arith, g .up-to);
         few = omega (arith, ap (λ (x : Tree). length (postfix x)) (p .is), length-append (postfix t) (aChange negated ∷ []), g .few);
-        same = sym (passed-turned b n (walk (sectionOf section) t)) ∙ ap (λ (x : Tree). passedUp b n (walk (sectionOf section) x)) (sym (p .is)) ∙ g .same;
+        same = sym (passed-turned b n (walk (searchedOf section families) t)) ∙ ap (λ (x : Tree). passedUp b n (walk (searchedOf section families) x)) (sym (p .is)) ∙ g .same;
       }
 
   module _ {k : Pair} {mid : ℕ} (p : PairAt (shapeAt sel) place mid k tree) (plain : isMildNot (aPair k) ≡ false) where
@@ -266,25 +268,25 @@ module _ {section sel mem : List ℕ} {hi : ℕ} {whole : Tree} {place : ℕ} {b
         let r = postfix (p .right .tree) in
         omega (arith, ap (λ (x : Tree). length (postfix x)) (p .is), length-append (l ++ r) (aPair k ∷ []), length-append l r)
 
-    module _ {l : Quick} (left : l ≡ walk (sectionOf section) (p .left .tree)) where
+    module _ {l : Quick} (left : l ≡ walk (searchedOf section families) (p .left .tree)) where
       -- the left side decides
-      pub left-decides : decides k l ≡ true → passedUp b (n + 1) l ≡ walk (sectionOf section) whole
+      pub left-decides : decides k l ≡ true → passedUp b (n + 1) l ≡ walk (searchedOf section families) whole
       left-decides d =
-          rw left (sym (pair-decided b n (sectionOf section) place (p .left .tree) (p .right .tree) k plain (ap (decides k) (sym left) ∙ d)))
-          ∙ ap (λ (x : Tree). passedUp b n (walk (sectionOf section) x)) (sym (p .is))
+          rw left (sym (pair-decided b n (searchedOf section families) place (p .left .tree) (p .right .tree) k plain (ap (decides k) (sym left) ∙ d)))
+          ∙ ap (λ (x : Tree). passedUp b n (walk (searchedOf section families) x)) (sym (p .is))
           ∙ g .same
 
       pub left-few : codesIn l + (n + 1) ≤ maxCodes
-      left-few = omega (arith, ap codesIn left, codes-few (sectionOf section) (p .left .tree), sizes, g .few)
+      left-few = omega (arith, ap codesIn left, codes-few (searchedOf section families) (p .left .tree), sizes, g .few)
 
       -- it does not
-      pub right-side : decides k l ≡ false → (mem' : List ℕ) → length mem' ≡ length mem → Going section sel hi whole mem' (place - 1) b (n + 1 + codesIn l)
+      pub right-side : decides k l ≡ false → (mem' : List ℕ) → length mem' ≡ length mem → Going section families sel hi whole mem' (place - 1) b (n + 1 + codesIn l)
       right-side d mem' same-length = record {
         here = below mem' (g .here) (p .right) (omega arith) same-length;
         up-to = omega (arith, g .up-to);
-        few = omega (arith, ap codesIn left, codes-few (sectionOf section) (p .left .tree), sizes, g .few);
+        few = omega (arith, ap codesIn left, codes-few (searchedOf section families) (p .left .tree), sizes, g .few);
         same =
-            rw left (sym (pair-undecided b n (sectionOf section) place (p .left .tree) (p .right .tree) k plain (ap (decides k) (sym left) ∙ d)))
-            ∙ ap (λ (x : Tree). passedUp b n (walk (sectionOf section) x)) (sym (p .is))
+            rw left (sym (pair-undecided b n (searchedOf section families) place (p .left .tree) (p .right .tree) k plain (ap (decides k) (sym left) ∙ d)))
+            ∙ ap (λ (x : Tree). passedUp b n (walk (searchedOf section families) x)) (sym (p .is))
             ∙ g .same;
       }

@@ -12,14 +12,14 @@ use Rattle.build.proofs.build.Statement.{statement}
 use Rattle.build.proofs.build.Tie as tie
 
 abbrev Inv-loop : tie.InvT-loop
-Inv-loop section selection mem₀ lo hi rank lists₀ next₀ c₀ mem lists next c =
-    (c ≤ hi) × (length mem ≡ length mem₀) × ((w : Buildable section selection mem₀ lo hi rank) → Going w mem lists next c)
+Inv-loop section families selection mem₀ lo hi rank lists₀ next₀ c₀ mem lists next c =
+    (c ≤ hi) × (length mem ≡ length mem₀) × ((w : Buildable section families selection mem₀ lo hi rank) → Going w mem lists next c)
 
 abbrev μ-loop : tie.MeasureT-loop
-μ-loop section selection mem₀ lo hi rank lists₀ next₀ c₀ mem lists next c = hi - c
+μ-loop section families selection mem₀ lo hi rank lists₀ next₀ c₀ mem lists next c = hi - c
 
 loop-holds : tie.Need-loop-holds Inv-loop μ-loop
-loop-holds c = (lo-le (c .before .before .before .pre), refl, λ w. start w)
+loop-holds c = (lo-le (c .before .before .before .before .pre), refl, λ w. start w)
 
 add-place : tie.Need-add-place Inv-loop μ-loop
 add-place c = search needs
@@ -31,7 +31,7 @@ build-code-requires : tie.Need-build-code-requires Inv-loop μ-loop
 build-code-requires c κs =
     let i = c .before .before in
     let l = i .before in
-    let w = l .before .before .before .before .pre in
+    let w = l .before .before .before .before .before .pre in
     waits-next w (l .loop .inv .2 w) (i .loop-test .taken) refl (c .before .code-at .ensures)
 
 enum-told : tie.Need-enum-told Inv-loop μ-loop
@@ -53,7 +53,7 @@ returns c w =
 lists-after-requires : tie.Need-lists-after-requires Inv-loop μ-loop
 lists-after-requires c κs =
     let i = c .before .before .before .before .before .before .before in
-    let w = i .before .before .before .before .before .pre in
+    let w = i .before .before .before .before .before .before .pre in
     let g = i .before .loop .inv .2 w in
     (lists-found w g (i .loop-test .taken) refl (c .before .before .before .before .before .before .code-at .ensures), omega (arith, lists-few w g (i .loop-test .taken)))
 
@@ -64,7 +64,7 @@ add-next : tie.Need-add-next Inv-loop μ-loop
 add-next c =
     let a = c .before .before .before .before .before .before .before .before in
     let l = a .before .before in
-    let w = l .before .before .before .before .pre in
+    let w = l .before .before .before .before .before .pre in
     omega (arith, c .phrases-ended .ensures, phrasesEnded-le (shapeOf (a .code-at .result)), rank-few w (l .loop .inv .2 w), w .in-selection .few)
 
 loop-less : tie.Need-loop-less Inv-loop μ-loop
@@ -78,9 +78,9 @@ loop-again c =
     let i = a .before in
     let l = i .before in (
       search needs,
-      omega (arith, b .build-code .kept .1 .1 .1 .1 .1 .0, l .loop .inv .1),
+      omega (arith, b .build-code .kept .1 .1 .1 .1 .1 .1 .0, l .loop .inv .1),
       λ w.
-          go-on w (l .loop .inv .2 w) (i .loop-test .taken) refl (a .code-at .ensures) (b .build-code .ensures) (e .enum-told .given .1) (b .build-code .kept .1 .1 .1 .1 .1 .0)
+          go-on w (l .loop .inv .2 w) (i .loop-test .taken) refl (a .code-at .ensures) (b .build-code .ensures) (e .enum-told .given .1) (b .build-code .kept .1 .1 .1 .1 .1 .1 .0)
           (c .before .lists-after .ensures) (ap (λ (k : ℕ). l .loop .next + k) (c .phrases-ended .ensures)),
     )
 

@@ -22,19 +22,19 @@ refusal-of-requires c κs = search needs
 returns : tie.Need-returns
 returns c =
     let k = c .before .before .before in
-    let a = k .before .before .before .before .before .args in
+    let a = k .before .before .before .before .before .before .args in
     let e = c .before .enum-told .given .1 in
-    let refused = checks-refuse (a .section .now) (a .selection .now) (length (a .work .now)) (a .buffer .now) (k .check-listing .ensures) e (c .refusal-of .ensures _ e) in
+    let refused = checks-refuse (a .section .now) (a .families .now) (a .selection .now) (length (a .work .now)) (a .buffer .now) (k .check-listing .ensures) e (c .refusal-of .ensures _ e) in
     (refused .0, (ap listingValues (refused .0), refused .1))
 
 build-requires : tie.Need-build-requires
 build-requires c κs =
     let t = c .before .before in
     let k = t .before .before in
-    let a = k .before .before .before .before .before .args in
+    let a = k .before .before .before .before .before .before .args in
     let told = k .check-listing .ensures in
     let accepted = t .checked .given .1 in
-    ready (a .section .now) (a .selection .now) (length (a .work .now)) (a .buffer .now) told accepted (a .work .now) refl
+    ready (a .section .now) (a .families .now) (a .selection .now) (length (a .work .now)) (a .buffer .now) told accepted (a .work .now) refl
 
 enum-known-part : tie.Need-enum-known-part
 enum-known-part c = search needs
@@ -46,12 +46,12 @@ returns-2 : tie.Need-returns-2
 returns-2 c =
     let t = c .before .before .before .before .before .before .before .before in
     let k = t .before .before in
-    let a = k .before .before .before .before .before .args in
+    let a = k .before .before .before .before .before .before .args in
     let told = k .check-listing .ensures in
     let accepted = t .checked .given .1 in
-    let w = ready (a .section .now) (a .selection .now) (length (a .work .now)) (a .buffer .now) told accepted (a .work .now) refl in
+    let w = ready (a .section .now) (a .families .now) (a .selection .now) (length (a .work .now)) (a .buffer .now) told accepted (a .work .now) refl in
     let built = c .before .before .before .before .before .build .ensures w in
-    let refused = building-refuses (a .section .now) (a .selection .now) (length (a .work .now)) (a .buffer .now) told accepted w built (c .before .part .given .1) in
+    let refused = building-refuses (a .section .now) (a .families .now) (a .selection .now) (length (a .work .now)) (a .buffer .now) told accepted w built (c .before .part .given .1) in
     (refused .0, (ap listingValues (refused .0), refused .1))
 
 enum-told-2 : tie.Need-enum-told-2
@@ -61,13 +61,13 @@ listed-requires : tie.Need-listed-requires
 listed-requires c κs =
     let t = c .before .before .before .before .before .before .before .before .before in
     let k = t .before .before in
-    let a = k .before .before .before .before .before .args in
+    let a = k .before .before .before .before .before .before .args in
     let told = k .check-listing .ensures in
     let accepted = t .checked .given .1 in
-    let w = ready (a .section .now) (a .selection .now) (length (a .work .now)) (a .buffer .now) told accepted (a .work .now) refl in
+    let w = ready (a .section .now) (a .families .now) (a .selection .now) (length (a .work .now)) (a .buffer .now) told accepted (a .work .now) refl in
     let built = c .before .before .before .before .before .before .build .ensures w in
-    let s = slot (a .section .now) (a .selection .now) (length (a .work .now)) (a .buffer .now) told accepted w built (c .before .before .enum-told2 .given .1) in
-    (record { list = _; slot = s }, buffer-enough (a .section .now) (a .selection .now) (length (a .work .now)) (a .buffer .now) told accepted)
+    let s = slot (a .section .now) (a .families .now) (a .selection .now) (length (a .work .now)) (a .buffer .now) told accepted w built (c .before .before .enum-told2 .given .1) in
+    (record { list = _; slot = s }, buffer-enough (a .section .now) (a .families .now) (a .selection .now) (length (a .work .now)) (a .buffer .now) told accepted)
 
 same-length-2 : tie.Need-same-length-2
 same-length-2 c = search needs
@@ -79,13 +79,13 @@ returns-3 : tie.Need-returns-3
 returns-3 c =
     let t = c .before .before .before .before .before .before .before .before .before .before .before .before in
     let k = t .before .before in
-    let a = k .before .before .before .before .before .args in
+    let a = k .before .before .before .before .before .before .args in
     let told = k .check-listing .ensures in
     let accepted = t .checked .given .1 in
-    let w = ready (a .section .now) (a .selection .now) (length (a .work .now)) (a .buffer .now) told accepted (a .work .now) refl in
+    let w = ready (a .section .now) (a .families .now) (a .selection .now) (length (a .work .now)) (a .buffer .now) told accepted (a .work .now) refl in
     let built = c .before .before .before .before .before .before .before .before .before .build .ensures w in
     let l = c .before .before .listed .ensures in
-    let given = built-lists (a .section .now) (a .selection .now) (length (a .work .now)) (a .buffer .now) told accepted w built (c .before .before .before .before .before .enum-told2 .given .1) (l .0) (l .1) in
+    let given = built-lists (a .section .now) (a .families .now) (a .selection .now) (length (a .work .now)) (a .buffer .now) told accepted w built (c .before .before .before .before .before .enum-told2 .given .1) (l .0) (l .1) in
     (given .0, (ap listingValues (given .0), given .1))
 
 pub listing-spec : {M : Type 1} → statement M

@@ -22,19 +22,19 @@ refusal-of-requires c κs = search needs
 returns : tie.Need-returns
 returns c =
     let k = c .before .before .before in
-    let a = k .before .before .before .before .args in
+    let a = k .before .before .before .before .before .args in
     let e = c .before .enum-told .given .1 in
-    let refused = checks-refuse (a .section .now) (a .selection .now) (length (a .work .now)) (k .check-quick .ensures) e (c .refusal-of .ensures _ e) in
+    let refused = checks-refuse (a .section .now) (a .families .now) (a .selection .now) (length (a .work .now)) (k .check-quick .ensures) e (c .refusal-of .ensures _ e) in
     (refused, ap quickValues refused)
 
 walk-requires : tie.Need-walk-requires
 walk-requires c κs =
     let t = c .before .before in
     let k = t .before .before in
-    let a = k .before .before .before .before .args in
+    let a = k .before .before .before .before .before .args in
     let told = k .check-quick .ensures in
     let accepted = t .checked .given .1 in
-    ready (a .section .now) (a .selection .now) (length (a .work .now)) told accepted (a .work .now) refl
+    ready (a .section .now) (a .families .now) (a .selection .now) (length (a .work .now)) told accepted (a .work .now) refl
 
 same-length : tie.Need-same-length
 same-length c = search needs
@@ -43,11 +43,11 @@ returns-2 : tie.Need-returns-2
 returns-2 c =
     let t = c .before .before .before .before .before in
     let k = t .before .before in
-    let a = k .before .before .before .before .args in
+    let a = k .before .before .before .before .before .args in
     let told = k .check-quick .ensures in
     let accepted = t .checked .given .1 in
-    let w = ready (a .section .now) (a .selection .now) (length (a .work .now)) told accepted (a .work .now) refl in
-    let walked = walk-answers (a .section .now) (a .selection .now) (length (a .work .now)) told accepted w (c .before .before .walk .ensures w) in
+    let w = ready (a .section .now) (a .families .now) (a .selection .now) (length (a .work .now)) told accepted (a .work .now) refl in
+    let walked = walk-answers (a .section .now) (a .families .now) (a .selection .now) (length (a .work .now)) told accepted w (c .before .before .walk .ensures w) in
     (walked, ap quickValues walked)
 
 pub quick-spec : {M : Type 1} → statement M

@@ -22,17 +22,17 @@ returns : tie.Need-returns
 unfolding quickChecks
 returns c =
     let k = c .before .before in
-    let a = k .before .before .before .args in
+    let a = k .before .before .before .before .args in
     let m = size (a .selection .now) in
-    first-refuses m m (inputRefusal (a .section .now) (a .selection .now)) (roomRefusal (leb workLength (a .work))) (k .check-inputs .ensures) (c .enum-told2 .given .1)
+    first-refuses m m (inputRefusal (a .section .now) (a .families .now) (a .selection .now)) (roomRefusal (leb workLength (a .work))) (k .check-inputs .ensures) (c .enum-told2 .given .1)
 
 returns-2 : tie.Need-returns-2
 unfolding quickChecks
 returns-2 c =
     let t = c .before in
     let k = t .before .before in
-    let a = k .before .before .before .args in
-    room-short (size (a .selection .now)) (inputRefusal (a .section .now) (a .selection .now)) (k .check-inputs .ensures) (t .enum-told .given .1) (leb workLength (a .work))
+    let a = k .before .before .before .before .args in
+    room-short (size (a .selection .now)) (inputRefusal (a .section .now) (a .families .now) (a .selection .now)) (k .check-inputs .ensures) (t .enum-told .given .1) (leb workLength (a .work))
     (lt-leb workLength (a .work) (c .if1 .taken))
 
 returns-3 : tie.Need-returns-3
@@ -40,8 +40,8 @@ unfolding quickChecks
 returns-3 c =
     let t = c .before in
     let k = t .before .before in
-    let a = k .before .before .before .args in
-    room-enough (size (a .selection .now)) (inputRefusal (a .section .now) (a .selection .now)) (k .check-inputs .ensures) (t .enum-told .given .1) (leb workLength (a .work))
+    let a = k .before .before .before .before .args in
+    room-enough (size (a .selection .now)) (inputRefusal (a .section .now) (a .families .now) (a .selection .now)) (k .check-inputs .ensures) (t .enum-told .given .1) (leb workLength (a .work))
     (le-leb workLength (a .work) (c .if1 .left))
 
 pub check-quick-spec : {M : Type 1} → statement M

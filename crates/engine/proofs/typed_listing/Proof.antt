@@ -37,10 +37,10 @@ listing-requires c κs = search needs
 
 returns : tie.Need-returns
 returns c =
-    let s = c .before .before .before .before .before .before .before .before .before .before .args in
+    let s = c .before .before .before .before .before .before .before .before .before .before .before .args in
     let h = reading-refused (readText (s .text .now)) (c .before .before .before .before .read .ensures .0) (c .before .reading .given .1) in
-    let refused = listing-error (s .text .now) (s .section .now) (length (s .work .now)) (s .buffer .now) h in
-    listing-typed (s .text .now) (s .section .now) (length (s .work .now)) (s .buffer .now) (refused .0) (refused .1)
+    let refused = listing-error (s .text .now) (s .section .now) (s .families .now) (length (s .work .now)) (s .buffer .now) h in
+    listing-typed (s .text .now) (s .section .now) (s .families .now) (length (s .work .now)) (s .buffer .now) (refused .0) (refused .1)
 
 same-length : tie.Need-same-length
 same-length c = search needs
@@ -50,12 +50,12 @@ same-length-2 c = search needs
 
 returns-2 : tie.Need-returns-2
 returns-2 c =
-    let s = c .before .before .before .before .before .before .before .before .before .before .before .before .before .before .before .before .before .before .before .args in
+    let s = c .before .before .before .before .before .before .before .before .before .before .before .before .before .before .before .before .before .before .before .before .args in
     let found = reading-read (readText (s .text .now)) (c .before .before .before .before .before .before .before .before .before .before .before .before .before .read .ensures .0) (c .before .before .before .before .before .before .before .before .before .before .reading2 .given .1) in
     let seen = text-put-down (s .text .now) (found .0) _ _ _ _ refl (c .before .before .before .before .before .before .before .before .before .before .before .before .before .read .ensures .1) (found .1) (found .2) (c .before .before .before .before .before .before .before .before .typed-size .ensures) in
-    let same = listing-codes (s .text .now) (s .section .now) (length (s .work .now)) (s .buffer .now) (found .0) (found .1) seen in
+    let same = listing-codes (s .text .now) (s .section .now) (s .families .now) (length (s .work .now)) (s .buffer .now) (found .0) (found .1) seen in
     let r = c .before .before .before .before .listing .ensures in
-    listing-typed (s .text .now) (s .section .now) (length (s .work .now)) (s .buffer .now) (r .0 ∙ same .0) (r .1 .1 ∙ same .1)
+    listing-typed (s .text .now) (s .section .now) (s .families .now) (length (s .work .now)) (s .buffer .now) (r .0 ∙ same .0) (r .1 .1 ∙ same .1)
 
 pub typed-listing-spec : {M : Type 1} → statement M
 typed-listing-spec =

@@ -37,20 +37,20 @@ quick-requires c κs = search needs
 
 returns : tie.Need-returns
 returns c =
-    let s = c .before .before .before .before .before .before .before .before .before .args in
+    let s = c .before .before .before .before .before .before .before .before .before .before .args in
     let h = reading-refused (readText (s .text .now)) (c .before .before .before .before .read .ensures .0) (c .before .reading .given .1) in
-    quick-typed (s .text .now) (s .section .now) (length (s .work .now)) (quick-error (s .text .now) (s .section .now) (length (s .work .now)) h)
+    quick-typed (s .text .now) (s .section .now) (s .families .now) (length (s .work .now)) (quick-error (s .text .now) (s .section .now) (s .families .now) (length (s .work .now)) h)
 
 same-length : tie.Need-same-length
 same-length c = search needs
 
 returns-2 : tie.Need-returns-2
 returns-2 c =
-    let s = c .before .before .before .before .before .before .before .before .before .before .before .before .before .before .before .args in
+    let s = c .before .before .before .before .before .before .before .before .before .before .before .before .before .before .before .before .args in
     let found = reading-read (readText (s .text .now)) (c .before .before .before .before .before .before .before .before .before .before .read .ensures .0) (c .before .before .before .before .before .before .before .reading2 .given .1) in
     let seen = text-put-down (s .text .now) (found .0) _ _ _ _ refl (c .before .before .before .before .before .before .before .before .before .before .read .ensures .1) (found .1) (found .2) (c .before .before .before .before .before .typed-size .ensures) in
-    let same = quick-codes (s .text .now) (s .section .now) (length (s .work .now)) (found .0) (found .1) seen in
-    quick-typed (s .text .now) (s .section .now) (length (s .work .now)) (c .before .before .quick .ensures .0 ∙ same)
+    let same = quick-codes (s .text .now) (s .section .now) (s .families .now) (length (s .work .now)) (found .0) (found .1) seen in
+    quick-typed (s .text .now) (s .section .now) (s .families .now) (length (s .work .now)) (c .before .before .quick .ensures .0 ∙ same)
 
 pub typed-quick-spec : {M : Type 1} → statement M
 typed-quick-spec =

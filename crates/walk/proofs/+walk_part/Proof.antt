@@ -9,7 +9,7 @@ use Rattle.model.specs.declared.Code.{Code}
 use Rattle.model.specs.declared.Pair.{Pair}
 use Rattle.model.specs.Kinds.{aPair, shapeOf, shapeAt}
 use Rattle.model.specs.Parts.{isMildNot}
-use Rattle.model.specs.Section.{sectionOf}
+use Rattle.model.specs.Families.{searchedOf}
 use Rattle.model.specs.Walk.{walk}
 use Rattle.model.proofs.PartsLaws.{PairAt, start-le}
 use Rattle.walk.specs.Steps.{answerOf, goesInto}
@@ -33,15 +33,15 @@ use Rattle.walk.proofs.answers.passed_up.Reads as passed-up-reads
 use Rattle.walk.proofs.+walk_part.{statement}
 use Rattle.walk.proofs.+walk_part.Tie.{close}
 
-abbrev μ-walk-part : Measures 3 walk-part-kinds.ps ℕ
-μ-walk-part κs a = a .1 .1 .1 .0
+abbrev μ-walk-part : Measures 4 walk-part-kinds.ps ℕ
+μ-walk-part κs a = a .1 .1 .1 .1 .0
 
-abbrev walk-part-at : ℕ → In 3 walk-part-kinds.ps
-walk-part-at t = and 3 walk-part-kinds.ps (is 3 walk-part-kinds.ps μ-walk-part t) walk-part.Pre
+abbrev walk-part-at : ℕ → In 4 walk-part-kinds.ps
+walk-part-at t = and 4 walk-part-kinds.ps (is 4 walk-part-kinds.ps μ-walk-part t) walk-part.Pre
 
-abbrev walk-part-below : ℕ → In 3 walk-part-kinds.ps
+abbrev walk-part-below : ℕ → In 4 walk-part-kinds.ps
 walk-part-below t =
-    and 3 walk-part-kinds.ps (falls 3 walk-part-kinds.ps _<_ μ-walk-part t) walk-part.Pre
+    and 4 walk-part-kinds.ps (falls 4 walk-part-kinds.ps _<_ μ-walk-part t) walk-part.Pre
 
 abbrev claims : ℕ → walk-part-lts.Claims
 claims t = (
@@ -64,21 +64,21 @@ claims t = (
 )
 
 abbrev Inv-loop : walk-part-lts.InvT-loop
-Inv-loop section selection work₀ hi place₀ turned₀ codes₀ work place turned codes =
-    (length work ≡ length work₀) × ((w : Walkable section selection work₀ hi) → Going section selection hi (w .part .tree) work place turned codes)
+Inv-loop section families selection work₀ hi place₀ turned₀ codes₀ work place turned codes =
+    (length work ≡ length work₀) × ((w : Walkable section families selection work₀ hi) → Going section families selection hi (w .part .tree) work place turned codes)
 
 abbrev μ-loop : walk-part-lts.MeasureT-loop
-μ-loop section selection work₀ hi place₀ turned₀ codes₀ work place turned codes = place
+μ-loop section families selection work₀ hi place₀ turned₀ codes₀ work place turned codes = place
 
 module _ (t : ℕ) (a : walk-part-lts.After-code-at (claims t) (walk-part-at t) walk-part.Post Inv-loop μ-loop) where
   abbrev entry : walk-part-lts.Start (claims t) (walk-part-at t) walk-part.Post Inv-loop μ-loop
-  entry = a .before .before .before .before .before
+  entry = a .before .before .before .before .before .before
 
   abbrev Whole : Type 0
-  Whole = Walkable (entry .args .section .now) (entry .args .selection .now) (entry .args .work .now) (entry .args .hi)
+  Whole = Walkable (entry .args .section .now) (entry .args .families .now) (entry .args .selection .now) (entry .args .work .now) (entry .args .hi)
 
   -- the part in hand
-  going : (w : Whole) → Going (entry .args .section .now) (entry .args .selection .now) (entry .args .hi) (w .part .tree) (a .before .loop .work) (a .before .loop .place) (a .before .loop .turned) (a .before .loop .codes)
+  going : (w : Whole) → Going (entry .args .section .now) (entry .args .families .now) (entry .args .selection .now) (entry .args .hi) (w .part .tree) (a .before .loop .work) (a .before .loop .place) (a .before .loop .turned) (a .before .loop .codes)
   going = a .before .loop .inv .1
 
   abbrev own : Whole
@@ -86,7 +86,7 @@ module _ (t : ℕ) (a : walk-part-lts.After-code-at (claims t) (walk-part-at t) 
 
   -- it has an answer
   abbrev Answers : ℕ → Type 0
-  Answers r = (w : Whole) → answerOf r ≡ walk (sectionOf (entry .args .section .now)) (going w .here .part .tree)
+  Answers r = (w : Whole) → answerOf r ≡ walk (searchedOf (entry .args .section .now) (entry .args .families .now)) (going w .here .part .tree)
 
 module _ (t : ℕ) (m : walk-part-lts.After-is-mild (claims t) (walk-part-at t) walk-part.Post Inv-loop μ-loop) where
   abbrev at-code : walk-part-lts.After-code-at (claims t) (walk-part-at t) walk-part.Post Inv-loop μ-loop
@@ -127,12 +127,12 @@ module _ (t : ℕ) (p : walk-part-lts.After-part-start (claims t) (walk-part-at 
       let here = going t code (own t code) .here in
       omega (arith, p .part-start .ensures, start-le (shapeAt (entry t code .args .selection .now)) (code .before .loop .place - 1), some-codes here)
 
-  left-walkable : (w : Whole t code) → Walkable (entry t code .args .section .now) (entry t code .args .selection .now) (code .before .loop .work) (p .part-start .result)
+  left-walkable : (w : Whole t code) → Walkable (entry t code .args .section .now) (entry t code .args .families .now) (entry t code .args .selection .now) (code .before .loop .work) (p .part-start .result)
   left-walkable w = below _ (going t code w .here) (sides-of w .left) (omega (arith, mid-before)) refl
 
 -- the left side's answer
 left : (t : ℕ) (k : walk-part-lts.After-walk-part (claims t) (walk-part-at t) walk-part.Post Inv-loop μ-loop) (w : Whole t (code t (k .before .before)))
-    → answerOf (k .walk-part .result) ≡ walk (sectionOf (entry t (code t (k .before .before)) .args .section .now)) (sides-of t (k .before .before) w .left .tree)
+    → answerOf (k .walk-part .result) ≡ walk (searchedOf (entry t (code t (k .before .before)) .args .section .now) (entry t (code t (k .before .before)) .args .families .now)) (sides-of t (k .before .before) w .left .tree)
 unfolding sides-of left-walkable
 left t k w = k .walk-part .ensures (left-walkable t (k .before .before) w)
 
@@ -175,7 +175,7 @@ walk-part-passed-up-requires t c κs =
     passes-few (going t a (own t a)) (mild t k (own t a))
 
 walk-part-same-length : (t : ℕ) → walk-part-lts.Need-same-length (claims t) (walk-part-at t) walk-part.Post Inv-loop μ-loop
-walk-part-same-length t c = let k = c .before .before .before in k .answer-leaf .kept .1 .1 .0 ∙ at-code t (k .before .before .before) .before .loop .inv .0
+walk-part-same-length t c = let k = c .before .before .before in k .answer-leaf .kept .1 .1 .1 .0 ∙ at-code t (k .before .before .before) .before .loop .inv .0
 
 walk-part-returns : (t : ℕ) → walk-part-lts.Need-returns (claims t) (walk-part-at t) walk-part.Post Inv-loop μ-loop
 walk-part-returns t c w =
@@ -208,7 +208,7 @@ walk-part-passed-up-requires-2 t c κs =
     left-few (going t (code t p) w) (sides-of t p w) (plain t p) (left t k w)
 
 walk-part-same-length-2 : (t : ℕ) → walk-part-lts.Need-same-length-2 (claims t) (walk-part-at t) walk-part.Post Inv-loop μ-loop
-walk-part-same-length-2 t c = let k = c .before .before .before .before .before in k .walk-part .kept .1 .1 .0 ∙ code t (k .before .before) .before .loop .inv .0
+walk-part-same-length-2 t c = let k = c .before .before .before .before .before in k .walk-part .kept .1 .1 .1 .0 ∙ code t (k .before .before) .before .loop .inv .0
 
 walk-part-returns-2 : (t : ℕ) → walk-part-lts.Need-returns-2 (claims t) (walk-part-at t) walk-part.Post Inv-loop μ-loop
 walk-part-returns-2 t c w =
@@ -242,7 +242,7 @@ walk-part-loop-again-2 t c =
     let d = c .before .before in
     let k = d .before .before .before in
     let p = k .before .before in
-    let same = k .walk-part .kept .1 .1 .0 in (
+    let same = k .walk-part .kept .1 .1 .1 .0 in (
       same ∙ code t p .before .loop .inv .0,
       λ w. rw (c .codes-in .ensures) (right-side (going t (code t p) w) (sides-of t p w) (plain t p) (left t k w) (sym (d .decides .ensures) ∙ c .before .if2 .left) _ same),
     )
@@ -257,7 +257,7 @@ walk-part-passed-up-requires-3 t c κs =
     passes-few (going t a (own t a)) (other t k (own t a))
 
 walk-part-same-length-3 : (t : ℕ) → walk-part-lts.Need-same-length-3 (claims t) (walk-part-at t) walk-part.Post Inv-loop μ-loop
-walk-part-same-length-3 t c = let k = c .before .before .before in k .answer-leaf2 .kept .1 .1 .0 ∙ k .before .before .before .before .loop .inv .0
+walk-part-same-length-3 t c = let k = c .before .before .before in k .answer-leaf2 .kept .1 .1 .1 .0 ∙ k .before .before .before .before .loop .inv .0
 
 walk-part-returns-3 : (t : ℕ) → walk-part-lts.Need-returns-3 (claims t) (walk-part-at t) walk-part.Post Inv-loop μ-loop
 walk-part-returns-3 t c w =

@@ -10,7 +10,7 @@ part-start-requires : tie.Need-part-start-requires
 part-start-requires c κs = search needs
 
 build-part-requires : tie.Need-build-part-requires
-build-part-requires c κs = (c .before .before .before .before .before .pre, c .before .part-start .ensures)
+build-part-requires c κs = (c .before .before .before .before .before .before .pre, c .before .part-start .ensures)
 
 enum-known-part : tie.Need-enum-known-part
 enum-known-part c = search needs
@@ -28,10 +28,10 @@ enum-told : tie.Need-enum-told
 enum-told c = search needs
 
 is-yes-requires : tie.Need-is-yes-requires
-is-yes-requires c κs = record { list = _; slot = c .before .before .before .before .before .build-part .ensures (c .before .before .before .before .before .before .before .before .before .before .before .pre) .slot (c .before .enum-told .given .1) }
+is-yes-requires c κs = record { list = _; slot = c .before .before .before .before .before .build-part .ensures (c .before .before .before .before .before .before .before .before .before .before .before .before .pre) .slot (c .before .enum-told .given .1) }
 
 count-codes-requires : tie.Need-count-codes-requires
-count-codes-requires c κs = omega (arith, c .before .before .before .before .before .before .before .before .part-start .ensures, starts-before (c .before .before .before .before .before .before .before .before .before .before .before .before .pre))
+count-codes-requires c κs = omega (arith, c .before .before .before .before .before .before .before .before .part-start .ensures, starts-before (c .before .before .before .before .before .before .before .before .before .before .before .before .before .pre))
 
 answered-requires : tie.Need-answered-requires
 answered-requires c κs = search needs

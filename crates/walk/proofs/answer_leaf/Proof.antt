@@ -29,7 +29,7 @@ enum-known-code : tie.Need-enum-known-code
 enum-known-code c = search needs
 
 answer-filter-requires : tie.Need-answer-filter-requires
-answer-filter-requires c κs = (c .before .before .before .before .before .before .before .before .pre, sym (c .before .before .before .before .code-at .ensures) ∙ c .before .before .code .given .1)
+answer-filter-requires c κs = (c .before .before .before .before .before .before .before .before .before .pre, sym (c .before .before .before .before .code-at .ensures) ∙ c .before .before .code .given .1)
 
 answer-built-requires : tie.Need-answer-built-requires
 answer-built-requires c κs = search needs

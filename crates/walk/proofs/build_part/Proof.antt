@@ -15,17 +15,17 @@ rank-at-requires c κs = search needs
 
 add-build : tie.Need-add-build
 add-build c =
-    let s = c .before .before .before .before .before in
+    let s = c .before .before .before .before .before .before in
     omega (arith, rank-few (s .pre .0), c .before .rank-at .ensures, ap (λ (l : ℕ). phrasesIn (upTo (shapeAt (s .args .selection .now)) l)) (s .pre .1), s .pre .0 .up-to, s .pre .0 .in-selection .few)
 
 build-requires : tie.Need-build-requires
-build-requires c κs = buildable (c .before .before .before .before .before .pre .0) (c .before .before .before .before .before .pre .1) (c .before .rank-at .ensures)
+build-requires c κs = buildable (c .before .before .before .before .before .before .pre .0) (c .before .before .before .before .before .before .pre .1) (c .before .rank-at .ensures)
 
 same-length : tie.Need-same-length
 same-length c = search needs
 
 returns : tie.Need-returns
-returns c w = c .before .before .build .ensures (buildable w (c .before .before .before .before .before .before .before .before .pre .1) (c .before .before .before .before .rank-at .ensures))
+returns c w = c .before .before .build .ensures (buildable w (c .before .before .before .before .before .before .before .before .before .pre .1) (c .before .before .before .before .rank-at .ensures))
 
 pub build-part-spec : {M : Type 1} → statement M
 build-part-spec =

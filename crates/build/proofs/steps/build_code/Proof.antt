@@ -21,11 +21,11 @@ build-phrase-requires : tie.Need-build-phrase-requires
 build-phrase-requires c κs =
     let p = c .before in
     let e = p .before .enum-told2 .given in
-    let v = p .before .before .before .before .before .before .pre in
+    let v = p .before .before .before .before .before .before .before .pre in
     let ws = p .phrase-words .ensures ∙ v .words (e .0 .0) (e .1) in
     let s = ap shapeOf (e .1) in
     let w = v .waits in
-    (w .accepted, (phrase-few (e .0 .0) s _ ws w, (phrase-rank (e .0 .0) s _ ws w, phrase-taken (e .0 .0) s _ ws w)))
+    (w .accepted, (w .accepted-families, (phrase-few (e .0 .0) s _ ws w, (phrase-rank (e .0 .0) s _ ws w, phrase-taken (e .0 .0) s _ ws w))))
 
 enum-known-code : tie.Need-enum-known-code
 enum-known-code c = search needs
@@ -33,13 +33,13 @@ enum-known-code c = search needs
 build-pair-requires : tie.Need-build-pair-requires
 build-pair-requires c κs =
     let e = c .before .before .code .given in
-    pair-taken (e .0 .0) (ap shapeOf (e .1)) (c .before .before .before .before .before .before .before .pre .waits)
+    pair-taken (e .0 .0) (ap shapeOf (e .1)) (c .before .before .before .before .before .before .before .before .pre .waits)
 
 enum-told-3 : tie.Need-enum-told-3
 enum-told-3 c = search needs
 
 build-not-requires : tie.Need-build-not-requires
-build-not-requires c κs = change-taken negated (ap shapeOf (c .before .enum-told3 .given .1)) (c .before .before .before .before .before .before .pre .waits)
+build-not-requires c κs = change-taken negated (ap shapeOf (c .before .enum-told3 .given .1)) (c .before .before .before .before .before .before .before .pre .waits)
 
 enum-known-code-2 : tie.Need-enum-known-code-2
 enum-known-code-2 c = search needs
@@ -47,7 +47,7 @@ enum-known-code-2 c = search needs
 build-filter-requires : tie.Need-build-filter-requires
 build-filter-requires c κs =
     let e = c .before .before .code2 .given in
-    let w = c .before .before .before .before .before .before .before .pre in
+    let w = c .before .before .before .before .before .before .before .before .pre in
     (λ n q. w .window n (e .1 ∙ ap Filtered q), change-taken (filtered (e .0 .0)) (ap shapeOf (e .1)) (w .waits))
 
 enum-known-code-3 : tie.Need-enum-known-code-3
@@ -56,7 +56,7 @@ enum-known-code-3 c = search needs
 build-occurs-requires : tie.Need-build-occurs-requires
 build-occurs-requires c κs =
     let e = c .before .before .code3 .given in
-    let w = c .before .before .before .before .before .before .before .pre in
+    let w = c .before .before .before .before .before .before .before .before .pre in
     (λ a b q. w .times a b (e .1 ∙ ap Occurs q), occurs-taken (e .0 .0) (ap shapeOf (e .1)) (w .waits))
 
 returns : tie.Need-returns

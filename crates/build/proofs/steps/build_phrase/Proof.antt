@@ -9,8 +9,8 @@ mul-phrase-list c = search needs
 
 phrase-list-requires : tie.Need-phrase-list-requires
 phrase-list-requires c κs =
-    let r = c .before .before .before .before .pre in
-    (r .0, (r .1 .0, (r .1 .1 .0, none-room (r .1 .1 .1))))
+    let r = c .before .before .before .before .before .pre in
+    (r .0, (r .1 .0, (r .1 .1 .0, (r .1 .1 .1 .0, none-room (r .1 .1 .1 .1)))))
 
 same-length : tie.Need-same-length
 same-length c = search needs

@@ -12,6 +12,9 @@ slice-aggregate-listing c = search needs
 slice-aggregate-listing-2 : tie.Need-slice-aggregate-listing-2
 slice-aggregate-listing-2 c = search needs
 
+slice-aggregate-listing-3 : tie.Need-slice-aggregate-listing-3
+slice-aggregate-listing-3 c = search needs
+
 listing-requires : tie.Need-listing-requires
 listing-requires c κs = search needs
 
@@ -23,8 +26,8 @@ slice-aggregate-put-listing-text-2 c = search needs
 
 put-listing-text-requires : tie.Need-put-listing-text-requires
 put-listing-text-requires c κs = let l = c .before .before .before .before .listing .ensures in
-    let s = c .before .before .before .before .before .before .before .before .before in
-    (listing-printable (s .args .section .now) (s .args .selection .now) _ _ (l .0) (l .1 .1), search needs)
+    let s = c .before .before .before .before .before .before .before .before .before .before in
+    (listing-printable (s .args .section .now) _ (s .args .selection .now) _ _ (l .0) (l .1 .1), search needs)
 
 array-share-prefix-text : tie.Need-array-share-prefix-text
 array-share-prefix-text c = search needs
@@ -44,6 +47,7 @@ show-listing-spec =
     (tie.spec
     slice-aggregate-listing
     slice-aggregate-listing-2
+    slice-aggregate-listing-3
     listing-requires
     slice-aggregate-put-listing-text
     slice-aggregate-put-listing-text-2
