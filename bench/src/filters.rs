@@ -4,9 +4,9 @@
 use crate::cases::{case, Case};
 use crate::proved::Proved;
 use crate::{listing, notation, quick, Lent};
-use second_engine::engine::RuleBook;
+use second_engine::engine::{self, RuleBook};
 use second_engine::sizes::Limits;
-use second_engine::{rules, section, selection, AllMatches, Listing, Match, Quick, SecondEngine};
+use second_engine::{rules, AllMatches, Listing, Match, Quick, SecondEngine, WORK};
 
 /// What becomes of the matches that don't decide.
 #[derive(Clone, Copy, PartialEq)]
@@ -189,10 +189,9 @@ const NO_LIMITS: Limits = Limits { matches: u128::MAX, strings: u128::MAX };
 /// The operand's list, and for each of its matches the list that the filter makes of it alone.
 fn lists(case: &Case) -> (AllMatches, Vec<AllMatches>) {
     let book = RuleBook::paper();
-    let section = section::read(&case.section).expect(&case.name);
-    let tree = selection::read(&case.selection).expect(&case.name);
-    let operand = book.build(&section, &tree.below[0]).expect(&case.name);
-    let alone = |m: &Match| book.list_within(NO_LIMITS, &section, &tree.rule, &[std::slice::from_ref(m)]);
+    let (searched, tree) = engine::check(&case.section, &case.families, &case.selection, WORK, None).expect(&case.name);
+    let operand = book.build(&searched, &tree.below[0]).expect(&case.name);
+    let alone = |m: &Match| book.list_within(NO_LIMITS, &searched, &tree.rule, &[std::slice::from_ref(m)]);
     let filtered = operand.iter().map(|m| alone(m).expect("no limits")).collect();
     (operand, filtered)
 }

@@ -3,6 +3,7 @@
 //! looks for the accepted inputs that cost most, some kinds left out, and `bench slower` for those that cost most beside the second engine.
 
 mod cases;
+mod families;
 mod filters;
 mod least;
 mod notation;
@@ -32,11 +33,13 @@ impl Lent {
 }
 
 fn listing(engine: &dyn Engine, case: &Case, lent: &mut Lent) -> Listing {
-    engine.listing(black_box(&case.section), black_box(&case.selection), &mut lent.work, &mut lent.buffer)
+    let (section, families, selection) = black_box((&case.section, &case.families, &case.selection));
+    engine.listing(section, families, selection, &mut lent.work, &mut lent.buffer)
 }
 
 fn quick(engine: &dyn Engine, case: &Case, lent: &mut Lent) -> Quick {
-    engine.quick(black_box(&case.section), black_box(&case.selection), &mut lent.work)
+    let (section, families, selection) = black_box((&case.section, &case.families, &case.selection));
+    engine.quick(section, families, selection, &mut lent.work)
 }
 
 type Least = fn(&[u32], u32) -> Option<bool>;
@@ -68,11 +71,11 @@ fn once() {
     }
 }
 
-/// A case a paragraph: its name, the section, the selection; each slice with its length first.
+/// A case a paragraph: its name, the section, the family table, the selection; each slice with its length first.
 fn print_cases(cases: &[Case]) {
     for case in cases {
         println!("{}", case.name);
-        for slice in [&case.section, &case.selection] {
+        for slice in [&case.section, &case.families, &case.selection] {
             let numbers: Vec<String> = slice.iter().map(u32::to_string).collect();
             println!("{} {}", slice.len(), numbers.join(" "));
         }

@@ -1,5 +1,5 @@
 //! A search for the accepted inputs that cost most, or most beside the second engine: hill climbing from random and from
-//! hand-made inputs, by time.
+//! hand-made inputs, by time. All have the empty table; what costs most with a table is `families::dearest`.
 
 use crate::cases::Case;
 use crate::notation;
@@ -7,7 +7,7 @@ use crate::proved::Proved;
 use crate::{listing, quick, Lent};
 use second_engine::gen::Rng;
 use second_engine::selection::{self, Code};
-use second_engine::{Engine, Listing, Quick, SecondEngine};
+use second_engine::{Engine, Listing, Quick, SecondEngine, EMPTY};
 use std::hint::black_box;
 use std::time::{Duration, Instant};
 
@@ -78,6 +78,7 @@ impl Input {
         Case {
             name: String::new(),
             section: notation::section_of(self.words.clone(), self.sentence, self.paragraph),
+            families: EMPTY.to_vec(),
             selection: selection::numbers(&self.codes),
             found: true,
         }

@@ -11,9 +11,16 @@ use std::time::{Duration, Instant};
 const ROUNDS: usize = 60;
 const ROUND: Duration = Duration::from_micros(500);
 
+/// Where a difference of two times is asked for, so that both have rounds in which the machine is fast.
+const MORE_ROUNDS: usize = 1_000;
+
 /// What the quick answer's time over the plain loop's is to be at most, and where.
 const TARGET: f64 = 0.15;
 const TARGET_CASE: &str = "absent word, 4,096 tokens";
+
+/// What the time on a word in a family of four is to be at most, over that on a plain one, and where besides.
+const FAMILY_TARGET: f64 = 4.0;
+const LISTED_CASE: &str = "common word, 4,096 tokens";
 
 /// Nanoseconds a call.
 fn time(call: &mut dyn FnMut()) -> f64 {
@@ -27,9 +34,13 @@ fn time(call: &mut dyn FnMut()) -> f64 {
 }
 
 /// The least of the rounds, for each call.
-pub fn times<const N: usize>(mut calls: [&mut dyn FnMut(); N]) -> [f64; N] {
+pub fn times<const N: usize>(calls: [&mut dyn FnMut(); N]) -> [f64; N] {
+    times_of(ROUNDS, calls)
+}
+
+fn times_of<const N: usize>(rounds: usize, mut calls: [&mut dyn FnMut(); N]) -> [f64; N] {
     let mut best = [f64::INFINITY; N];
-    for _ in 0..ROUNDS {
+    for _ in 0..rounds {
         for (call, best) in calls.iter_mut().zip(&mut best) {
             *best = best.min(time(call));
         }
@@ -47,6 +58,8 @@ struct Row {
 fn row(case: &Case) -> Row {
     let second = SecondEngine::new();
     let [mut a, mut b, mut c, mut d] = [(); 4].map(|()| Lent::new());
+    assert_eq!(listing(&Proved, case, &mut a), listing(&second, case, &mut b), "{}", case.name);
+    assert_eq!(quick(&Proved, case, &mut c), quick(&second, case, &mut d), "{}", case.name);
     assert_eq!(least::plain(&case.section, LOOKED_FOR), least::vectorised(&case.section, LOOKED_FOR), "{}", case.name);
     let [listing_proved, listing_second, quick_proved, quick_second, plain, vectorised] = times([
         &mut || _ = black_box(listing(&Proved, case, &mut a)),
@@ -72,7 +85,7 @@ fn answers(case: &Case) -> String {
     format!("{listed} | {answered}")
 }
 
-pub fn table() {
+fn print_heads() {
     let heads = [
         "case",
         "listing: yes or no, M, S",
@@ -90,40 +103,84 @@ pub fn table() {
     ];
     println!("| {} |", heads.join(" | "));
     println!("|{}", "-|".repeat(heads.len()));
-    let (mut named, mut all) = (vec![], vec![]);
-    let mut reached = f64::NAN;
-    for case in &cases::all() {
-        let Row { proved, second, plain, vectorised } = row(case);
-        let ratios = [second[0] / proved[0], second[1] / proved[1]];
-        all.push(ratios);
-        if !case.found {
-            named.push(ratios);
-        }
-        if case.name == TARGET_CASE {
-            reached = proved[1] / plain;
-        }
-        let call = |call: usize| {
-            format!("{:.2} | {:.2} | {:.1}", proved[call] / 1_000.0, second[call] / 1_000.0, ratios[call])
-        };
-        println!(
-            "| {} | {} | {} | {} | {:.2} | {:.2} | {:.2} | {:.2} |",
-            case.name,
-            answers(case),
-            call(0),
-            call(1),
-            plain / 1_000.0,
-            proved[1] / plain,
-            vectorised / 1_000.0,
-            proved[1] / vectorised,
-        );
-    }
-    let mean = |ratios: &[[f64; 2]], call: usize| {
-        let logs: f64 = ratios.iter().map(|ratios| ratios[call].ln()).sum();
-        (logs / ratios.len() as f64).exp()
+}
+
+fn print_row(case: &Case, Row { proved, second, plain, vectorised }: &Row) {
+    let call = |call: usize| {
+        let ratio = second[call] / proved[call];
+        format!("{:.2} | {:.2} | {ratio:.1}", proved[call] / 1_000.0, second[call] / 1_000.0)
     };
-    for (which, ratios) in [("the cases named", &named), ("all, with those found", &all)] {
-        let (listing, quick) = (mean(ratios, 0), mean(ratios, 1));
-        println!("\nGeometric means of second / proved over {which}: listing {listing:.1}, quick {quick:.1}.");
+    println!(
+        "| {} | {} | {} | {} | {:.2} | {:.2} | {:.2} | {:.2} |",
+        case.name,
+        answers(case),
+        call(0),
+        call(1),
+        plain / 1_000.0,
+        proved[1] / plain,
+        vectorised / 1_000.0,
+        proved[1] / vectorised,
+    );
+}
+
+type Which = fn(&Case) -> bool;
+
+fn print_means(cases: &[Case], rows: &[Row]) {
+    let mean = |which: Which, call: usize| {
+        let rows = cases.iter().zip(rows).filter(|(case, _)| which(case)).map(|(_, row)| row);
+        let logs: Vec<f64> = rows.map(|row| (row.second[call] / row.proved[call]).ln()).collect();
+        (logs.iter().sum::<f64>() / logs.len() as f64).exp()
+    };
+    let groups: [(&str, Which); 3] = [
+        ("the cases named without a table", |case| !case.found && !case.has_table()),
+        ("those with a table", |case| !case.found && case.has_table()),
+        ("all, with those found", |_| true),
+    ];
+    for (name, which) in groups {
+        let (listing, quick) = (mean(which, 0), mean(which, 1));
+        println!("\nGeometric means of second / proved over {name}: listing {listing:.1}, quick {quick:.1}.");
     }
+}
+
+/// What a table of 2,048 costs where the word isn't in it, and where it is in a family of four; timed by turns.
+fn print_family_reach(cases: &[Case]) {
+    let case = |name: &str, rest: &str| {
+        let name = format!("{name}{rest}");
+        cases.iter().find(|case| case.name == name).expect(&name)
+    };
+    let [absent, checked, absent_of_four] =
+        ["", ", table of 2,048", ", in a family of four"].map(|rest| case(TARGET_CASE, rest));
+    let [common, common_of_four] = ["", ", in a family of four"].map(|rest| case(LISTED_CASE, rest));
+    let [mut a, mut b, mut c, mut d, mut e] = [(); 5].map(|()| Lent::new());
+    let calls: [&mut dyn FnMut(); 5] = [
+        &mut || _ = black_box(quick(&Proved, absent, &mut a)),
+        &mut || _ = black_box(quick(&Proved, checked, &mut b)),
+        &mut || _ = black_box(quick(&Proved, absent_of_four, &mut c)),
+        &mut || _ = black_box(listing(&Proved, common, &mut d)),
+        &mut || _ = black_box(listing(&Proved, common_of_four, &mut e)),
+    ];
+    let [absent, checked, absent_of_four, common, common_of_four] = times_of(MORE_ROUNDS, calls);
+    let check = checked - absent;
+    println!("\nThe table's check, {TARGET_CASE}, table of 2,048: {check:.0} ns, {checked:.0} for {absent:.0}.");
+    println!(
+        "\nA word in a family of four, table of 2,048, over a plain word: the quick answer on {TARGET_CASE}: {:.2}, the listing of {LISTED_CASE}: {:.2}, to be at most {FAMILY_TARGET}.",
+        absent_of_four / absent,
+        common_of_four / common,
+    );
+}
+
+pub fn table() {
+    print_heads();
+    let cases = cases::all();
+    let mut rows = vec![];
+    for case in &cases {
+        let row = row(case);
+        print_row(case, &row);
+        rows.push(row);
+    }
+    print_means(&cases, &rows);
+    let target = cases.iter().position(|case| case.name == TARGET_CASE).expect("the target's case");
+    let reached = rows[target].proved[1] / rows[target].plain;
     println!("\nThe quick answer over the plain loop, {TARGET_CASE}: {reached:.2}, to be at most {TARGET}.");
+    print_family_reach(&cases);
 }
