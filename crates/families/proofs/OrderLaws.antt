@@ -8,7 +8,7 @@ use mathlib.Core.Option.{some, none}
 use borrow.Author.Tests.{le-leb, lt-leb}
 use lib.Dec.{leb}
 use Rattle.model.specs.Checks.{refusal, tried, outOfOrder, wrongFamilies, entryOutOfOrder, familiesRefusal}
-use Rattle.model.specs.Limits.{maxFamilies}
+use Rattle.model.specs.Limits.{maxEntries}
 use Rattle.model.specs.Lists.{first, fromTo}
 use Rattle.model.specs.Section.{firstAt, wellSized}
 use Rattle.model.proofs.ListsLaws.{first-range-later}
@@ -37,14 +37,14 @@ rises-on families p (suc n) m r h =
 -- ---- familiesRefusal
 
 module _ (families : List ℕ) where
-  pub wrong-size : wellSized 0 maxFamilies families ≡ false → familiesRefusal families ≡ some (refusal 13 0)
+  pub wrong-size : wellSized 0 maxEntries families ≡ false → familiesRefusal families ≡ some (refusal 13 0)
   unfolding familiesRefusal tried wrongFamilies
   wrong-size e = rw e
 
-  pub wrong-order : wellSized 0 maxFamilies families ≡ true → (place : ℕ) → entryOutOfOrder families ≡ some place → familiesRefusal families ≡ some (refusal 13 place)
+  pub wrong-order : wellSized 0 maxEntries families ≡ true → (place : ℕ) → entryOutOfOrder families ≡ some place → familiesRefusal families ≡ some (refusal 13 place)
   unfolding familiesRefusal tried wrongFamilies
   wrong-order e place f = rw (e, f)
 
-  pub right-order : wellSized 0 maxFamilies families ≡ true → entryOutOfOrder families ≡ none → familiesRefusal families ≡ none
+  pub right-order : wellSized 0 maxEntries families ≡ true → entryOutOfOrder families ≡ none → familiesRefusal families ≡ none
   unfolding familiesRefusal tried wrongFamilies
   right-order e f = rw (e, f)

@@ -4,13 +4,13 @@ use mathlib.Core.List.{List}
 use mathlib.Core.Option.{Option, some, none}
 use mathlib.Core.Path.{_≡_}
 use lib.ListN.{length}
-use Rattle.model.specs.Limits.{maxFamilies}
+use Rattle.model.specs.Limits.{maxEntries}
 use Rattle.model.specs.Section.{size, firstAt, secondAt}
 
 -- a slice of the right length for so many entries
 pub record TableSized (families : List ℕ) (m : ℕ) : Type 0 where
   pub m-is : m ≡ size families
-  pub few : m ≤ maxFamilies
+  pub few : m ≤ maxEntries
   pub sized : length families ≡ 1 + 2 * size families
 
 -- the words of the n entries after entry p are each above the one before it

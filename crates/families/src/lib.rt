@@ -4,7 +4,7 @@ mod order; // do the words rise?
 
 use model::Checked;
 use model::Fault;
-use model::MAX_FAMILIES;
+use model::MAX_ENTRIES;
 use model::Refusal;
 ghost use mathlib.Core.Path.{_≡_};
 ghost use Prim.Native.Nat.{_≤_};
@@ -24,7 +24,7 @@ pub const MOST_KIN: usize = 32;
 pub fn check_families(families: &[u32]) -> Checked
     ensures { λ r. ⌜ r ≡ checkedOf (size (now (families .entry))) (familiesRefusal (now (families .entry))) ⌝ }
 {
-    if !slices::well_sized(families, 0, MAX_FAMILIES) {
+    if !slices::well_sized(families, 0, MAX_ENTRIES) {
         return Checked::Refused(Refusal {
             number: 13,
             place: 0,

@@ -12,7 +12,7 @@ use lib.Dec.{eqb, leb, ltb}
 use lib.ListN.{length}
 use borrow.Author.Tests.{eqb-true, eq-eqb, ne-eqb, ltb-false, le-ltb, leb-false, lt-leb, not-false}
 use Rattle.model.specs.declared.Refusal.{Refusal}
-use Rattle.model.specs.Limits.{maxTokens, maxFamilies, maxCodes, maxWaiting}
+use Rattle.model.specs.Limits.{maxTokens, maxEntries, maxCodes, maxWaiting}
 use Rattle.model.specs.Lists.{allOf, anyOf, first}
 use Rattle.model.specs.Section.{size, firstAt, wellSized, sentenceAt, paragraphAt}
 use Rattle.model.specs.Selection.{kindAt, operandAt, codeOf}
@@ -262,7 +262,7 @@ unfolding familiesRefusal wrongFamilies
 accepted-families families h =
     let a = tried-cons _ _ families h in
     let b = tried-cons _ _ families (a .1) in
-    let w = well-sized 0 maxFamilies families (cond-none (wellSized 0 maxFamilies families) 0 (a .0)) in
+    let w = well-sized 0 maxEntries families (cond-none (wellSized 0 maxEntries families) 0 (a .0)) in
     record { sized = w .long; few = w .at-most; rising = entryOutOfOrder-none families .0 (b .0) }
 
 -- ---- wrongSelection, unknownKind, wrongOperand

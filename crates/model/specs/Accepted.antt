@@ -8,7 +8,7 @@ use mathlib.Core.Path.{_≡_}
 use lib.ListN.{length}
 use Rattle.model.specs.AllStrings.{RanksUpTo}
 use Rattle.model.specs.Checks.{operandFits, occursOverOther, mildOverNot, inputRefusal}
-use Rattle.model.specs.Limits.{maxTokens, maxFamilies, maxCodes, workLength}
+use Rattle.model.specs.Limits.{maxTokens, maxEntries, maxCodes, workLength}
 use Rattle.model.specs.Lists.{first}
 use Rattle.model.specs.Parts.{postfix, renumbered, wellFormed}
 use Rattle.model.specs.Section.{size, firstAt, sentenceAt, paragraphAt}
@@ -52,7 +52,7 @@ RisingStrictly number n = (i j : ℕ) → 1 ≤ i → i < j → j ≤ n → numb
 
 pub record AcceptedFamilies (families : List ℕ) : Type 0 where
   pub sized : length families ≡ 1 + 2 * size families
-  pub few : size families ≤ maxFamilies
+  pub few : size families ≤ maxEntries
   pub rising : RisingStrictly (firstAt families) (size families)
 
 -- A phrase has a word and a code of its own, so there are at most half as many phrases as codes.

@@ -6,7 +6,7 @@ use mathlib.Core.Option.{Option, some, none, Option·map}
 use lib.Dec.{leb, ltb, eqb}
 use Rattle.model.specs.declared.Pair.the-variants.{Or, And, MildNot}
 use Rattle.model.specs.declared.Refusal.{Refusal}
-use Rattle.model.specs.Limits.{maxTokens, maxFamilies, maxCodes, maxWaiting, maxWindow, maxDistance, maxTimes, workLength, bufferLength, radix}
+use Rattle.model.specs.Limits.{maxTokens, maxEntries, maxCodes, maxWaiting, maxWindow, maxDistance, maxTimes, workLength, bufferLength, radix}
 use Rattle.model.specs.Lists.{anyOf, first, fromTo}
 use Rattle.model.specs.Section.{size, firstAt, wellSized, sentenceAt, paragraphAt}
 use Rattle.model.specs.Selection.{kindAt, operandAt}
@@ -61,7 +61,7 @@ faultyPosition section = first (faultyAt section) (fromTo 2 (size section))
 
 -- F-6: 13, "place 0 for a wrong size or length"; "at the first entry out of order": of "word numbers rising strictly". Entry 1 has none before it.
 unfoldable pub wrongFamilies : List ℕ → Option ℕ
-wrongFamilies families = cond (wellSized 0 maxFamilies families) none (some 0)
+wrongFamilies families = cond (wellSized 0 maxEntries families) none (some 0)
 
 abbrev pub outOfOrder : List ℕ → ℕ → Bool
 outOfOrder families i = leb (firstAt families i) (firstAt families (i - 1))
@@ -173,11 +173,12 @@ inputRefusal section families selection =
     let later = otherwise (familiesRefusal families) last in
     otherwise (sectionRefusal section) later
 
--- "Takes section, selection, working memory (at least 12,800 u32) and a listing buffer (at least 1,282 u32)."
+-- "Takes section, selection, working memory (at least 12,800 u32) and a listing buffer (at least 1,282 u32)." F-6: and the
+-- family table.
 unfoldable pub listingChecks : List ℕ → List ℕ → List ℕ → ℕ → ℕ → Option Refusal
 listingChecks section families selection work buffer =
     otherwise (inputRefusal section families selection) (roomRefusal (leb workLength work && leb bufferLength buffer))
 
--- "Takes section, selection and working memory (at least 12,800 u32)."
+-- "Takes section, selection and working memory (at least 12,800 u32)." F-6: and the family table.
 unfoldable pub quickChecks : List ℕ → List ℕ → List ℕ → ℕ → Option Refusal
 quickChecks section families selection work = otherwise (inputRefusal section families selection) (roomRefusal (leb workLength work))

@@ -165,8 +165,8 @@ table : List ℕ → List ℕ → List ℕ
 table words numbers = length words ∷ (words ++ numbers)
 
 -- a word, and a phrase of two
-word : ℕ → List ℕ
-word w = select (0 ∷ 1 ∷ []) (w ∷ 1 ∷ [])
+single : ℕ → List ℕ
+single w = select (0 ∷ 1 ∷ []) (w ∷ 1 ∷ [])
 
 phraseOf : ℕ → ℕ → List ℕ
 phraseOf v w = select (0 ∷ 0 ∷ 1 ∷ []) (v ∷ w ∷ 2 ∷ [])
@@ -286,21 +286,28 @@ withoutFamilies =
     ∷ record { section = 2 ∷ 7 ∷ 7 ∷ (1 * radix + 1) ∷ 0 ∷ []; selection = select (0 ∷ 1 ∷ []) (7 ∷ 1 ∷ []); claims = refused 2 2 ∷ [] }
     ∷ []
 
--- F-6: 10 and 40 are one family; so are 20 and 21, of which 21 stands nowhere in the section. 30 is in the table alone of its family.
+-- F-6: 10 and 40 are one family; so are 20 and 21, of which 21 stands nowhere in the sections. 30 and 50 are alone of their families, whose numbers are 0, which
+-- is no family of the words out of the table, and 10, which is a word too.
+joined : List ℕ
+joined = table (10 ∷ 20 ∷ 21 ∷ 30 ∷ 40 ∷ 50 ∷ []) (1 ∷ 2 ∷ 2 ∷ 0 ∷ 1 ∷ 10 ∷ [])
+
 withFamilies : List Example
 withFamilies =
-    -- a word finds its family, itself too, and also where it stands nowhere itself; one that is alone, or out of the table, itself only
-    record { section = six; selection = word 10; claims = lists (one true 1 1 1 ∷ one true 1 4 4 ∷ one true 1 5 5 ∷ []) ∷ answers true ∷ [] }
-    ∷ record { section = six; selection = word 40; claims = lists (one true 1 1 1 ∷ one true 1 4 4 ∷ one true 1 5 5 ∷ []) ∷ [] }
-    ∷ record { section = six; selection = word 21; claims = lists (one true 1 2 2 ∷ one true 1 6 6 ∷ []) ∷ answers true ∷ [] }
-    ∷ record { section = six; selection = word 30; claims = lists (one true 1 3 3 ∷ []) ∷ [] }
-    ∷ record { section = four; selection = word 3; claims = lists (one true 1 3 3 ∷ []) ∷ [] }
-    ∷ record { section = four; selection = word 10; claims = lists [] ∷ answers false ∷ [] }
-    -- each word of a phrase by its family; both words of one family
+    -- a word finds its family, itself too, and also where it stands nowhere itself; one that is alone, or out of the table, itself only; nothing where none of its
+    -- family stands
+    record { section = six; selection = single 10; claims = lists (one true 1 1 1 ∷ one true 1 4 4 ∷ one true 1 5 5 ∷ []) ∷ answers true ∷ [] }
+    ∷ record { section = six; selection = single 40; claims = lists (one true 1 1 1 ∷ one true 1 4 4 ∷ one true 1 5 5 ∷ []) ∷ [] }
+    ∷ record { section = six; selection = single 21; claims = lists (one true 1 2 2 ∷ one true 1 6 6 ∷ []) ∷ answers true ∷ [] }
+    ∷ record { section = six; selection = single 30; claims = lists (one true 1 3 3 ∷ []) ∷ [] }
+    ∷ record { section = four; selection = single 3; claims = lists (one true 1 3 3 ∷ []) ∷ [] }
+    ∷ record { section = four; selection = single 10; claims = lists [] ∷ answers false ∷ [] }
+    ∷ record { section = six; selection = single 50; claims = lists [] ∷ answers false ∷ [] }
+    -- each word of a phrase by its family; both words of one family; a word alone of its family beside one that isn't
     ∷ record { section = six; selection = phraseOf 10 21; claims = lists (one true 1 1 2 ∷ one true 1 5 6 ∷ []) ∷ answers true ∷ [] }
     ∷ record { section = six; selection = phraseOf 40 40; claims = lists (one true 1 4 5 ∷ []) ∷ answers true ∷ [] }
     ∷ record { section = six; selection = phraseOf 30 10; claims = lists (one true 1 3 4 ∷ []) ∷ [] }
-    -- 30 and not 99, which is out of the table; 30 and not 40 in the same sentence, where a 10 excludes; in a window of two words, of which one has no 10
+    -- 30 and not 99, which is out of the table; 30 and not 40 in the same sentence, where a 10 excludes; in a window of two words: of the two around the 30,
+    -- one has no 10
     ∷ record { section = six; selection = select (0 ∷ 1 ∷ 0 ∷ 1 ∷ 4 ∷ 3 ∷ []) (30 ∷ 1 ∷ 99 ∷ 1 ∷ 0 ∷ 0 ∷ []); claims = answers true ∷ [] }
     ∷ record { section = six; selection = select (0 ∷ 1 ∷ 0 ∷ 1 ∷ 4 ∷ 3 ∷ 9 ∷ []) (30 ∷ 1 ∷ 40 ∷ 1 ∷ 0 ∷ 0 ∷ 0 ∷ []); claims = answers false ∷ [] }
     ∷ record { section = six; selection = select (0 ∷ 1 ∷ 0 ∷ 1 ∷ 4 ∷ 3 ∷ 7 ∷ []) (30 ∷ 1 ∷ 40 ∷ 1 ∷ 0 ∷ 0 ∷ 2 ∷ []); claims = answers true ∷ [] }
@@ -309,7 +316,7 @@ withFamilies =
 -- Refusal 13, beside others: after 2, before 3.
 refusedWith : ℕ → ℕ → List Example
 refusedWith number place =
-    record { section = six; selection = word 10; claims = refused number place ∷ [] }
+    record { section = six; selection = single 10; claims = refused number place ∷ [] }
     ∷ record { section = six; selection = []; claims = refused number place ∷ [] }
     ∷ record { section = inParagraph 1 (7 ∷ 7 ∷ []) (2 ∷ 1 ∷ []); selection = []; claims = refused 2 2 ∷ [] }
     ∷ []
@@ -317,17 +324,18 @@ refusedWith number place =
 pub entries : List WithTable
 entries =
     record { families = emptyTable; examples = withoutFamilies }
-    ∷ record { families = table (10 ∷ 20 ∷ 21 ∷ 30 ∷ 40 ∷ []) (1 ∷ 2 ∷ 2 ∷ 0 ∷ 1 ∷ []); examples = withFamilies }
-    -- no numbers; a wrong length; over 2,048 entries; equal words; a fall, and a later one
+    ∷ record { families = joined; examples = withFamilies }
+    -- no numbers; too short; too long, and with a fall; over 2,048 entries; equal words; a fall, and a later one
     ∷ record { families = []; examples = refusedWith 13 0 }
     ∷ record { families = 2 ∷ 10 ∷ 20 ∷ 1 ∷ []; examples = refusedWith 13 0 }
-    ∷ record { families = 2049 ∷ []; examples = refusedWith 13 0 }
+    ∷ record { families = 2 ∷ 20 ∷ 10 ∷ 1 ∷ 1 ∷ 1 ∷ []; examples = refusedWith 13 0 }
+    ∷ record { families = 2049 ∷ replicate 4098 0; examples = refusedWith 13 0 }
     ∷ record { families = table (10 ∷ 10 ∷ []) (1 ∷ 1 ∷ []); examples = refusedWith 13 2 }
     ∷ record { families = table (10 ∷ 30 ∷ 20 ∷ 10 ∷ []) (1 ∷ 1 ∷ 1 ∷ 1 ∷ []); examples = refusedWith 13 3 }
     ∷ []
 
 pub examples-hold : allOf right entries ≡ true
-unfolding eachSame sameStr sameMatch countsMatches countsStrings listingSays quickSays quickCounts sameRefusal listingRefuses quickRefuses buffered holds rightWith right inParagraph select one at these both six headed emptySection four sevens table word phraseOf occurs withoutFamilies withFamilies refusedWith entries
+unfolding eachSame sameStr sameMatch countsMatches countsStrings listingSays quickSays quickCounts sameRefusal listingRefuses quickRefuses buffered holds rightWith right inParagraph select one at these both six headed emptySection four sevens table single phraseOf occurs withoutFamilies joined withFamilies refusedWith entries
     xor allOf anyOf isEmpty keep first allPairs neighbours insertSorted sort choose upFrom fromTo flatMap wellSized entryOf familyOf wordFits upTo shapesOf firstMisfitFrom placeOf combine changeLast read readAll topTree treeOf parts strings
     standFrom phraseList andList notList mildNotList leastStart greatestEnd join kept windowEnds window inUnitFor joinedAll choicesOf atLeast fromToTimes filterList allMatches
     tried wrongSection lastNonzero faultyAt faultyPosition wrongFamilies entryOutOfOrder wrongSelection unknownKind filterOperandFits timesOperandFits operandFits wrongOperand wrongShape notOverPhrase notUnderMildNot sectionRefusal familiesRefusal selectionRefusal inputRefusal listingChecks quickChecks

@@ -12,7 +12,7 @@ use Rattle.model.specs.Section.{Section, size, firstAt, secondAt, sectio
 abbrev pub emptyTable : List ℕ
 emptyTable = 0 ∷ []
 
--- the entry that has a word, counted from 1, and the family there
+-- the first entry that has a word, counted from 1 (where words rise there is no other), and the family there
 unfoldable pub entryOf : List ℕ → ℕ → Option ℕ
 entryOf families word = first (λ i. eqb (firstAt families i) word) (fromTo 1 (size families))
 
@@ -37,6 +37,6 @@ pub record Searched : Type 0 where
 abbrev pub searchedOf : List ℕ → List ℕ → Searched
 searchedOf section families = record { section = sectionOf section; fits = wordFits families }
 
--- Document 01 alone: a word fits the tokens that it equals.
+-- Document 01 alone: a word fits the tokens that it equals. No part of the meaning: the promises on an empty table speak of it, and the search by equality.
 abbrev pub equalWords : List ℕ → Searched
 equalWords section = record { section = sectionOf section; fits = eqb }

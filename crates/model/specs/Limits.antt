@@ -44,8 +44,8 @@ abbrev pub radix : ℕ
 radix = 65536
 
 -- F-6: "a size of at most 2,048"
-abbrev pub maxFamilies : ℕ
-maxFamilies = 2048
+abbrev pub maxEntries : ℕ
+maxEntries = 2048
 
 -- F-1: "text of at most 2,048 bytes"
 abbrev pub maxText : ℕ

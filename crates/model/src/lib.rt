@@ -23,7 +23,7 @@ pub const BUFFER_LENGTH: usize = 1282;
 // "A place is paragraph × 65,536 + sentence"; a span and the operands of kinds 8 and 16 hold two numbers in the same way
 pub const RADIX: u32 = 65536;
 // Document 02, F-6: "a size of at most 2,048"
-pub const MAX_FAMILIES: u32 = 2048;
+pub const MAX_ENTRIES: u32 = 2048;
 // Document 02, F-1: "text of at most 2,048 bytes"
 pub const MAX_TEXT: usize = 2048;
 // "A phrase is one to eight word numbers"

@@ -19,7 +19,7 @@ use Rattle.model.specs.Answers.{answerUnless, listingRefusal, listingAnswer, li
 use Rattle.model.specs.Checks.{refusal, otherwise, tried, wrongFamilies, outOfOrder, entryOutOfOrder, sectionRefusal, familiesRefusal, selectionRefusal, roomRefusal}
 use Rattle.model.specs.Checks.{inputRefusal, listingChecks, quickChecks}
 use Rattle.model.specs.Families.{emptyTable, entryOf, familyOf, sameFamily, wordFits, Searched, searchedOf, equalWords}
-use Rattle.model.specs.Limits.{maxFamilies, workLength, bufferLength}
+use Rattle.model.specs.Limits.{maxEntries, workLength, bufferLength}
 use Rattle.model.specs.Lists.{Every, keep, first, upFrom, fromTo}
 use Rattle.model.specs.Matches.{Match}
 use Rattle.model.specs.Rules.{standFrom, found, phraseList}
@@ -125,16 +125,16 @@ module _ (families : List ℕ) where
       Iff·trans (first-exactly (outOfOrder families) NotAbove (λ j. (leb-true _ _, le-leb _ _)) (fromTo 2 (size families)) i)
       (Iff·trans (range-first NotAbove 2 (size families) i (omega arith)) (Iff·trans (first-out i) (range .1, range .0)))
 
-  place-zero-exactly : (place : ℕ) → (wrongFamilies families ≡ some place) ↔ ((place ≡ 0) × ((maxFamilies < size families) ⊎ (¬ (length families ≡ 1 + 2 * size families))))
+  place-zero-exactly : (place : ℕ) → (wrongFamilies families ≡ some place) ↔ ((place ≡ 0) × ((maxEntries < size families) ⊎ (¬ (length families ≡ 1 + 2 * size families))))
   unfolding wrongFamilies wellSized
-  place-zero-exactly place = rw (le-leb 0 (size families) (omega arith)) (at (leb (size families) maxFamilies) refl (eqb (length families) (1 + 2 * size families)) refl)
+  place-zero-exactly place = rw (le-leb 0 (size families) (omega arith)) (at (leb (size families) maxEntries) refl (eqb (length families) (1 + 2 * size families)) refl)
     where
       Wrong : Type 0
-      Wrong = (maxFamilies < size families) ⊎ (¬ (length families ≡ 1 + 2 * size families))
+      Wrong = (maxEntries < size families) ⊎ (¬ (length families ≡ 1 + 2 * size families))
 
-      at : (a : Bool) → leb (size families) maxFamilies ≡ a → (b : Bool) → eqb (length families) (1 + 2 * size families) ≡ b
+      at : (a : Bool) → leb (size families) maxEntries ≡ a → (b : Bool) → eqb (length families) (1 + 2 * size families) ≡ b
           → (cond (true && a && b) none (some 0) ≡ some place) ↔ ((place ≡ 0) × Wrong)
-      at true h true k = (λ e. absurd (Option·none-ne-some place e), λ w. ⊎-elim (λ l. absurd (omega (arith, l, leb-true (size families) maxFamilies h))) (λ n. absurd (n (eqb-true _ _ k))) (w .1))
+      at true h true k = (λ e. absurd (Option·none-ne-some place e), λ w. ⊎-elim (λ l. absurd (omega (arith, l, leb-true (size families) maxEntries h))) (λ n. absurd (n (eqb-true _ _ k))) (w .1))
       at true h false k = (λ e. let same : 0 ≡ place = cc in (sym same, inr (eqb-false _ _ k)), λ w. ap some (sym (w .0)))
       at false h b k = (λ e. let same : 0 ≡ place = cc in (sym same, inl (leb-false _ _ h)), λ w. ap some (sym (w .0)))
 

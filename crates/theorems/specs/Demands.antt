@@ -118,7 +118,7 @@ abbrev pub FirstToFall : List Row → Refusal → Type 0
 FirstToFall table r = FirstWith Falls table (row (r .number) (some (r .place)))
 
 -- Document 01: "Section and selection pass the checks where no refusal other than 8 falls on them before any list is built. Working memory is enough
--- from 12,800 u32." F-6: the table passes them too where it is "without a fault".
+-- from 12,800 u32." F-6: the family table passes them too where it is "without a fault".
 abbrev pub PassChecks : List ℕ → List ℕ → List ℕ → Type 0
 PassChecks section families selection = NoneFalls (inputRows section families selection)
 
@@ -176,7 +176,7 @@ pub record Demand2Of (section families selection : List ℕ) (work : ℕ) (buffe
   -- nonzero ones still never fall." Document 01, of paragraphs: "all zero (not reported) or all nonzero and never falling".
   pub units-exactly : (faultyPosition section ≡ none)
       ↔ (NonzeroNeverFall (sentenceAt section) (size section) × ReportedOrNot (paragraphAt section) (size section))
-  -- And what refusal 13 asks of a table's words, by F-6: "word numbers rising strictly".
+  -- And what refusal 13 asks of the words of a family table, by F-6: "word numbers rising strictly".
   pub words-exactly : (entryOutOfOrder families ≡ none) ↔ RisingStrictly (firstAt families) (size families)
   -- "is the AllMatches of that standard, as document 01 sets it down: the same matches, in the same order, with every include and exclude."
   -- M and S are the complete list's; the buffer holds its numbers, which are no other list's, and is otherwise unchanged.
@@ -223,7 +223,7 @@ pub record Demand3Of (section families selection : List ℕ) (work : ℕ) : Type
   pub no-exactly : PassChecks section families selection → Enough work → ((place : ℕ) → ¬ RefusesForSize (quickAnswer section families selection work) place)
       → QuickSays (quickAnswer section families selection work) false ↔ (¬ Has WithoutExcludes (completeList section families selection))
   -- "Where the listing is given for the same section and selection, the quick answer is given too, and both say yes or both say no."
-  -- The listing has working memory of its own length, and the same table.
+  -- The listing has working memory of its own length, and the same family table.
   pub agrees-with-listing : Enough work → (lent buffer m s : ℕ) (y : Bool) → listingAnswer section families selection lent buffer ≡ Listed m s y
       → QuickSays (quickAnswer section families selection work) y
   -- "With each yes or no it reports a count of codes: the walk's, and at most the selection's own."

@@ -29,7 +29,7 @@ use Rattle.model.specs.Checks.{refusal, otherwise, breaksOrder, faultyPosition,
 use Rattle.model.specs.Checks.{sectionRefusal, selectionRefusal, roomRefusal}
 use Rattle.model.specs.Families.{emptyTable, wordFits, Searched, searchedOf, equalWords}
 use Rattle.model.specs.Kinds.{negated, filtered, occurring}
-use Rattle.model.specs.Limits.{maxFamilies, maxCodes, maxText, workLength, bufferLength, radix, selectionLength}
+use Rattle.model.specs.Limits.{maxEntries, maxCodes, maxText, workLength, bufferLength, radix, selectionLength}
 use Rattle.model.specs.Lists.{Every, isEmpty, first, fromTo}
 use Rattle.model.specs.Matches.{Str, Match}
 use Rattle.model.specs.Productions.{FTSelection}
@@ -310,11 +310,12 @@ pub record TableOf (families : List ℕ) : Type 0 where
   -- the table of refusals, `inputRows`. By `words-exactly` of demand 2 no entry is out of order exactly where the words rise strictly.)
   pub entry-exactly : (entry : ℕ) → (entryOutOfOrder families ≡ some entry) ↔ FirstWith (OutOfOrder families) (fromTo 1 (size families)) entry
   pub place-zero-exactly : (place : ℕ)
-      → (wrongFamilies families ≡ some place) ↔ ((place ≡ 0) × ((maxFamilies < size families) ⊎ (¬ (length families ≡ 1 + 2 * size families))))
+      → (wrongFamilies families ≡ some place) ↔ ((place ≡ 0) × ((maxEntries < size families) ⊎ (¬ (length families ≡ 1 + 2 * size families))))
   -- A word of a phrase fits a token exactly as F-6 says, in a table whose words rise.
   pub fits-exactly : RisingStrictly (firstAt families) (size families) → (token word : ℕ) → (wordFits families token word ≡ true) ↔ Fits families token word
 
--- The calls before F-6: no table, so no refusal 13; and a word fits the tokens that it equals.
+-- The calls before F-6: no table, so no refusal 13; and a word fits the tokens that it equals. All else is the definitions as they stand, which F-6 left as they
+-- were.
 abbrev pub checksBefore : List ℕ → List ℕ → Bool → Option Refusal
 checksBefore section selection enough = otherwise (otherwise (sectionRefusal section) (selectionRefusal selection)) (roomRefusal enough)
 
@@ -337,7 +338,8 @@ bufferBefore section selection work buffer =
 abbrev pub quickBefore : List ℕ → List ℕ → ℕ → Quick
 quickBefore section selection work = walkUnless (checksBefore section selection (leb workLength work)) (walk (equalWords section) (treeOf selection))
 
--- for a section, a selection, working memory's length and the listing buffer: "An empty table .. gives the old answers."
+-- for a section, a selection, working memory's length and the listing buffer: "An empty table .. gives the old answers." Typed
+-- calls follow by `listing-of-codes` and `quick-of-codes`; `ftlist` lends this table (text/specs/Input.antt).
 pub record EmptyTableOf (section selection : List ℕ) (work : ℕ) (buffer : List ℕ) : Type 0 where
   pub listing-as-before : listingAnswer section emptyTable selection work (length buffer) ≡ listingBefore section selection work (length buffer)
   pub buffer-as-before : listingBuffer section emptyTable selection work buffer ≡ bufferBefore section selection work buffer
@@ -345,11 +347,15 @@ pub record EmptyTableOf (section selection : List ℕ) (work : ℕ) (buffer : Li
 
 pub record WordFamilies : Type 0 where
   pub tables : (families : List ℕ) → TableOf families
-  -- "A phrase fits where each word equals its token or both are in the table with the same family": its list has a match for each such place, and no other.
+  -- "'Needle' should find 'needles'." "A phrase fits where each word equals its token or both are in the table with the same family": its list has a match for
+  -- each such place, and no other. (That they ascend, each once, is `in-order` of F-3, at least 1.)
   pub phrase-exactly : (section families : List ℕ) → RisingStrictly (firstAt families) (size families) → (rank : ℕ) (words : List ℕ) (m : Match)
       → Has (λ l. l ≡ m) (phraseList (searchedOf section families) rank words)
       ↔ ((p : ℕ) × PhraseFitsFrom section families words p × (m ≡ found rank (length words) p))
-  -- "'Needle' should find 'needles'": whatever a phrase finds without a table it finds with any, in the same order, perhaps with more between.
+  -- A table only adds: what a phrase finds without one it finds with any, in the same order, perhaps with more among them.
   pub more-finds : (section families : List ℕ) (rank : ℕ) (words : List ℕ)
       → Sublistᴰ (phraseList (equalWords section) rank words) (phraseList (searchedOf section families) rank words)
   pub empty-table : (section selection : List ℕ) (work : ℕ) (buffer : List ℕ) → EmptyTableOf section selection work buffer
+  -- "All calls that find phrases take the table, and their meaning is over it from then on": the answers of the listing, the quick answer and both typed calls
+  -- have it as an argument, and the demands are of every table. "demand 3 then speaks of every table without a fault, the same one lent to both calls":
+  -- `Demand3Of`.
