@@ -63,7 +63,7 @@ uint32_t jullpinay_quick(const uint32_t *section, size_t section_count,
 size_t jullpinay_snippet(const uint32_t *section, size_t section_count, uint32_t from, uint32_t to);
 
 /* A typed search, as `"10" ftand "20" window 3 words`: its bytes, with no byte after them. Refusal 10 is a token that the grammar doesn't allow, 11 a number
- * or a text too large, both at the byte counted from 1; both come before every other refusal. */
+ * or a text too large, both at the byte counted from 1 (11 at 0 for a text too long); both come before every other refusal. */
 
 /* The full listing of a typed search: as jullpinay_listing answers for its codes. */
 uint32_t jullpinay_typed_listing(const uint32_t *section, size_t section_count,
