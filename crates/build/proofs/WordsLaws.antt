@@ -3,10 +3,10 @@
 use Prim.Native.Nat.{ℕ, zero, suc, _+_, _-_, _/_, _%_, _≤_, _<_}
 use native.Mathlib.Omega.{arith}
 use mathlib.Core.Path.{_≡_, refl, sym, ap, ap₂, _∙_, subst}
-use mathlib.Core.Bool.{true, false}
+use mathlib.Core.Bool.{Bool, true, false, _&&_, cond}
 use mathlib.Core.List.{List, [], _∷_, _++_}
-use lib.Dec.{leb}
-use lib.ListN.{length, take, drop, getD, length-append}
+use lib.Dec.{leb, ltb}
+use lib.ListN.{length, take, drop, getD, length-append, length-take}
 use lib.Seq.{drop-cons}
 use borrow.Author.Tests.{leb-true}
 use Rattle.model.specs.declared.Code.the-variants.{Phrase, Filter as Filtered, Occurs}
@@ -15,7 +15,7 @@ use Rattle.model.specs.declared.Times.the-variants.{FromTo}
 use Rattle.model.specs.Accepted.{AcceptedSelection}
 use Rattle.model.specs.Checks.{operandFits, filterOperandFits, timesOperandFits}
 use Rattle.model.specs.Kinds.{Shape, aWord, aPhrase, aPair, aChange, isWord, shapeAt}
-use Rattle.model.specs.Limits.{maxWindow, maxDistance, radix}
+use Rattle.model.specs.Limits.{maxWaiting, maxWindow, maxDistance, radix}
 use Rattle.model.specs.Parts.{stateAt}
 use Rattle.model.specs.Section.{size}
 use Rattle.model.specs.Selection.{codeAt, kindAt, operandAt, kindOf, operandOf, codeOf}
@@ -63,6 +63,20 @@ module _ (sel : List ℕ) (a : AcceptedSelection sel) (c : ℕ) (from-one : 1 �
       let f : operandFits 16 o ≡ true = ap (λ (n : ℕ). operandFits n o) k ∙ a .operands c from-one up-to in
       let up = leb-true (o / radix) (o % radix) (both-true (leb (o / radix) (o % radix)) (leb (o % radix) maxDistance) f .0) in
       omega (arith, up, l, m)
+
+  -- a phrase has no more words than its operand says, which fits
+  pub phrase-short : (k : ℕ) → codeAt sel c ≡ Phrase k → length (phraseWords sel c) ≤ maxWaiting
+  unfolding operandFits phraseWords
+  phrase-short k e =
+      let o = operandAt sel c in
+      let one : 1 ≡ kindAt sel c = ap kindOf (sym e) ∙ kind-code (kindAt sel c) o (a .known c from-one up-to) in
+      let f : operandFits 1 o ≡ true = ap (λ (n : ℕ). operandFits n o) one ∙ a .operands c from-one up-to in
+      let few = leb-true o maxWaiting (both-true (leb 1 o) (leb o maxWaiting) f .1) in
+      at (ltb o c && leb (size sel + c) (length sel)) few
+    where
+      at : (b : Bool) → operandAt sel c ≤ maxWaiting → length (cond b (take (operandAt sel c) (drop (size sel + c - operandAt sel c) sel)) []) ≤ maxWaiting
+      at true h = simp length-take (omega arith)
+      at false h = omega arith
 
   pub phrase-words : (k : ℕ) (ws : List ℕ) → codeAt sel c ≡ Phrase k → length ws ≡ k → Loose sel c ws → phraseWords sel c ≡ ws
   phrase-words k ws e l w =

@@ -4,6 +4,7 @@ use mathlib.Core.List.{List}
 use mathlib.Core.Option.{Option, some, none}
 use mathlib.Core.Path.{_≡_}
 use lib.ListN.{length}
+use Rattle.model.specs.Families.{entryOf}
 use Rattle.model.specs.Limits.{maxEntries}
 use Rattle.model.specs.Section.{size, firstAt, secondAt}
 
@@ -21,6 +22,11 @@ RisesFrom families p n = (i : ℕ) → i < n → firstAt families (p + i) < firs
 abbrev pub entryNumber : Option ℕ → ℕ
 entryNumber (some i) = i
 entryNumber none = 0
+
+-- the entry of a word, or 0
+pub record EntryIs (families : List ℕ) (word entry : ℕ) : Type 0 where
+  pub is : entry ≡ entryNumber (entryOf families word)
+  pub up-to : entry ≤ size families
 
 -- none of the entries from `from` on and before i has the family, and i isn't after the entry that would come after the last
 pub record PassedBy (families : List ℕ) (family from i : ℕ) : Type 0 where

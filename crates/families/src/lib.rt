@@ -12,9 +12,9 @@ ghost use lib.ListN.{length, take};
 ghost use Rattle.model.specs.Accepted.{AcceptedFamilies};
 ghost use Rattle.model.specs.Answers.{checkedOf};
 ghost use Rattle.model.specs.Checks.{familiesRefusal};
-ghost use Rattle.model.specs.Families.{entryOf, wordFits};
+ghost use Rattle.model.specs.Families.{wordFits};
 ghost use Rattle.model.specs.Section.{size};
-ghost use Rattle.families.specs.Entries.{entryNumber};
+ghost use Rattle.families.specs.Entries.{EntryIs};
 ghost use Rattle.families.specs.Kin.{KinOf, mostKin};
 
 // How many kin of a word are told at most.
@@ -41,8 +41,7 @@ pub fn check_families(families: &[u32]) -> Checked
 // The entry that has a word, or 0: the entries left are halved until none is. Both ways a turn goes on alike, so that no branch has to be foreseen.
 pub fn entry_of(families: &[u32], word: u32) -> usize
     requires { ⌜ AcceptedFamilies (now families) ⌝ }
-    ensures { λ r. ⌜ r ≡ entryNumber (entryOf (now (families .entry)) word) ⌝ }
-    ensures { λ r. ⌜ r ≤ size (now (families .entry)) ⌝ }
+    ensures { λ r. ⌜ EntryIs (now (families .entry)) word r ⌝ }
 {
     let mut low: usize = 0;
     let mut left = families[0] as usize;
@@ -62,24 +61,24 @@ pub fn entry_of(families: &[u32], word: u32) -> usize
     low
 }
 
-// "each word equals its token or both are in the table with the same family"
-pub fn fits(families: &[u32], token: u32, word: u32) -> bool
+// "each word equals its token or both are in the table with the same family": of a word whose entry is known, or 0
+pub fn fits(families: &[u32], token: u32, word: u32, entry: usize) -> bool
     requires { ⌜ AcceptedFamilies (now families) ⌝ }
+    requires { ⌜ EntryIs (now families) word entry ⌝ }
     ensures { λ r. ⌜ r ≡ wordFits (now (families .entry)) token word ⌝ }
 {
     if token == word {
         return true;
     }
+    if entry == 0 {
+        return false;
+    }
     let there = entry_of(families, token);
     if there == 0 {
         return false;
     }
-    let here = entry_of(families, word);
-    if here == 0 {
-        return false;
-    }
     let m = families[0] as usize;
-    families[m + there] == families[m + here]
+    families[m + there] == families[m + entry]
 }
 
 // The kin of a word, all words that fit it: how many; 0 where they are over 32, and then they aren't told.

@@ -1,15 +1,18 @@
 -- Where none of a word's kin stands, no phrase starts; a phrase whose words are out of the table is found by equality.
 use Prim.Native.Nat.{ℕ, zero, suc, _+_, _-_, _≤_, _<_}
+use native.Mathlib.Nat.{eq-or-lt-of-le}
 use native.Mathlib.Numerals.{add-one}
 use native.Mathlib.Omega.{arith}
 use mathlib.Core.Path.{_≡_, refl, sym, ap, subst, _∙_}
-use mathlib.Core.Bool.{Bool, true, false, _&&_, _||_, or-false}
+use mathlib.Core.Bool.{Bool, true, false, not, _&&_, _||_, or-false, false≢true}
 use mathlib.Core.List.{List, [], _∷_}
 use mathlib.Core.Logic.{⊎-elim}
-use borrow.Author.Tests.{eqb-false, ne-eqb, eq-eqb}
+use mathlib.Core.Option.{none}
+use borrow.Author.Count.{below-more}
+use borrow.Author.Tests.{eqb-true, eqb-false, ne-eqb, eq-eqb, not-false}
 use lib.Dec.{leb, eqb}
-use lib.ListN.{length, getD, take, drop, drop-of-length-le}
-use lib.Seq.{take-suc, take-all, drop-cons}
+use lib.ListN.{length, getD, take, drop, set, drop-of-length-le}
+use lib.Seq.{take-suc, take-all, drop-cons, getD-set-same, getD-set-other}
 use Rattle.model.specs.Accepted.{AcceptedSection}
 use Rattle.model.specs.Families.{entryOf, wordFits, searchedOf, equalWords}
 use Rattle.model.specs.Lists.{anyOf, keep, fromTo}
@@ -17,13 +20,15 @@ use Rattle.model.specs.Rules.{standFrom}
 use Rattle.model.specs.Section.{size, wordAt}
 use Rattle.model.proofs.FamiliesLaws.{fits-out}
 use Rattle.model.proofs.ListsLaws.{any-append}
+use Rattle.model.proofs.TestsLaws.{both-false}
 use Rattle.slices.specs.Blocks.{Lacks, blockSize}
+use Rattle.families.specs.Entries.{EntryIs}
 use Rattle.families.specs.Kin.{KinOf}
-use Rattle.families.proofs.KinLaws.{below-or-from}
+use Rattle.families.proofs.KinLaws.{below-or-from, entry-out}
 use Rattle.phrase.specs.Blocks.{NotKin, LacksKin, SkippedKin}
 use Rattle.phrase.specs.declared.Search.{Search}
 use Rattle.phrase.specs.declared.Search.the-variants.{Equal, Kin}
-use Rattle.phrase.specs.Searches.{OutOfTable, HasKin, SearchedBy}
+use Rattle.phrase.specs.Searches.{EntriesOf, OutOfTable, HasKin, SearchedBy}
 use Rattle.phrase.specs.Starts.{startsFrom, FitsAt, Skipped, FirstStart}
 use Rattle.phrase.proofs.RowsLaws.{stands-without}
 use Rattle.phrase.proofs.StartsLaws.{skipped-all, skipped-none}
@@ -151,3 +156,35 @@ module _ (families words kin : List ℕ) {search : Search} (s : SearchedBy famil
 
   pub searched-kin : {i count : ℕ} → search ≡ Kin i count → HasKin families words kin i count
   searched-kin e = subst (SearchedBy families words kin) e s
+
+-- ---- the words looked up
+
+-- the first i words are looked up: their entries are put down, and whether any is in the table
+pub record LookedUp (families words entries : List ℕ) (any : Bool) (i : ℕ) : Type 0 where
+  pub each : (j : ℕ) → j < i → EntryIs families (getD words j 0) (getD entries j 0)
+  pub none-there : any ≡ false → (j : ℕ) → j < i → entryOf families (getD words j 0) ≡ none
+  pub some-word : any ≡ true → 1 ≤ length words
+
+module _ {families words : List ℕ} where
+  pub looked-none : {entries : List ℕ} → LookedUp families words entries false 0
+  looked-none = record { each = λ j h. absurd (omega arith); none-there = λ e j h. absurd (omega arith); some-word = λ e. absurd (false≢true e) }
+
+  pub looked-next : {entries : List ℕ} {any : Bool} {i entry : ℕ} → LookedUp families words entries any i → i < length words → i < length entries
+      → EntryIs families (getD words i 0) entry → LookedUp families words (set entries i entry) (any || not (eqb entry 0)) (i + 1)
+  looked-next {entries} {any} {i} {entry} g h room e = record { each = each; none-there = none-there; some-word = λ t. omega arith }
+    where
+      each : (j : ℕ) → j < i + 1 → EntryIs families (getD words j 0) (getD (set entries i entry) j 0)
+      each j l =
+          let le : j ≤ i = omega arith in
+          ⊎-elim
+          (λ q. subst (λ (x : ℕ). EntryIs families (getD words x 0) (getD (set entries i entry) x 0)) (sym q) (subst (EntryIs families (getD words i 0)) (sym (getD-set-same entries i entry 0 room)) e))
+          (λ b. subst (EntryIs families (getD words j 0)) (sym (getD-set-other entries i j entry 0 (λ q. absurd (omega arith)))) (g .each j b)) (eq-or-lt-of-le le)
+
+      none-there : (any || not (eqb entry 0)) ≡ false → (j : ℕ) → j < i + 1 → entryOf families (getD words j 0) ≡ none
+      none-there t =
+          let b = both-false any (not (eqb entry 0)) t in
+          below-more _ _ (g .none-there (b .0)) (entry-out families (getD words i 0) (e .is) (eqb-true _ _ (not-false _ (b .1))))
+
+  pub looked-all : {entries : List ℕ} {any : Bool} {i : ℕ} → LookedUp families words entries any i → length words ≤ i → length words ≤ length entries
+      → EntriesOf families words entries
+  looked-all g h room = record { enough = room; each = λ j l. g .each j (omega arith) }

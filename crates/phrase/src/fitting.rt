@@ -11,6 +11,7 @@ ghost use Rattle.model.specs.Lists.{anyOf};
 ghost use Rattle.model.specs.Rules.{standFrom};
 ghost use Rattle.model.specs.Section.{size, wordAt};
 ghost use Rattle.families.specs.Kin.{KinOf};
+ghost use Rattle.phrase.specs.Searches.{EntriesOf};
 ghost use Rattle.phrase.specs.Starts.{FirstStart, FitsAt, RowWithin, SearchRange};
 
 // Is a number among some?
@@ -32,12 +33,14 @@ fn word_fits(
     section: &[u32],
     families: &[u32],
     words: &[u32],
+    entries: &[u32],
     p: usize,
     i: usize,
     known: usize,
 ) -> bool
     requires { ⌜ RowWithin (now section) (now words) p ⌝ }
     requires { ⌜ AcceptedFamilies (now families) ⌝ }
+    requires { ⌜ EntriesOf (now families) (now words) (now entries) ⌝ }
     requires { ⌜ i < length (now words) ⌝ }
     requires { ⌜ FitsAt (now section) (now families) (now words) p known ⌝ }
     ensures { λ r. ⌜ r ≡ wordFits (now (families .entry)) (wordAt (now (section .entry)) (p + i)) (getD (now (words .entry)) i 0) ⌝ }
@@ -45,19 +48,27 @@ fn word_fits(
     if i == known {
         return true;
     }
-    families::fits(families, section[p + i], words[i])
+    families::fits(families, section[p + i], words[i], entries[i] as usize)
 }
 
 // Do all words fit in the row? The word number `known`, if there is one, is known to.
-fn row_fits(section: &[u32], families: &[u32], words: &[u32], p: usize, known: usize) -> bool
+fn row_fits(
+    section: &[u32],
+    families: &[u32],
+    words: &[u32],
+    entries: &[u32],
+    p: usize,
+    known: usize,
+) -> bool
     requires { ⌜ RowWithin (now section) (now words) p ⌝ }
     requires { ⌜ AcceptedFamilies (now families) ⌝ }
+    requires { ⌜ EntriesOf (now families) (now words) (now entries) ⌝ }
     requires { ⌜ FitsAt (now section) (now families) (now words) p known ⌝ }
     ensures { λ r. ⌜ r ≡ standFrom (searchedOf (now (section .entry)) (now (families .entry))) (now (words .entry)) p ⌝ }
 {
     let mut i: usize = 0;
     while i < words.len() {
-        if !word_fits(section, families, words, p, i, known) {
+        if !word_fits(section, families, words, entries, p, i, known) {
             return false;
         }
         i += 1;
@@ -70,23 +81,25 @@ fn fits_by_kin(
     section: &[u32],
     families: &[u32],
     words: &[u32],
+    entries: &[u32],
     kin: &[u32],
     i: usize,
     p: usize,
 ) -> bool
     requires { ⌜ RowWithin (now section) (now words) p ⌝ }
     requires { ⌜ AcceptedFamilies (now families) ⌝ }
+    requires { ⌜ EntriesOf (now families) (now words) (now entries) ⌝ }
     requires { ⌜ i < length (now words) ⌝ }
     requires { ⌜ KinOf (now families) (getD (now words) i 0) (now kin) ⌝ }
     ensures { λ r. ⌜ r ≡ standFrom (searchedOf (now (section .entry)) (now (families .entry))) (now (words .entry)) p ⌝ }
 {
     if kin.len() == 0 {
-        return row_fits(section, families, words, p, words.len());
+        return row_fits(section, families, words, entries, p, words.len());
     }
     if !is_among(kin, section[p + i]) {
         return false;
     }
-    row_fits(section, families, words, p, i)
+    row_fits(section, families, words, entries, p, i)
 }
 
 // The first start from `from` on and before `to`, or `to`.
@@ -94,6 +107,7 @@ fn first_fitting(
     section: &[u32],
     families: &[u32],
     words: &[u32],
+    entries: &[u32],
     kin: &[u32],
     i: usize,
     from: usize,
@@ -101,13 +115,14 @@ fn first_fitting(
 ) -> usize
     requires { ⌜ SearchRange (now section) (now words) from to ⌝ }
     requires { ⌜ AcceptedFamilies (now families) ⌝ }
+    requires { ⌜ EntriesOf (now families) (now words) (now entries) ⌝ }
     requires { ⌜ i < length (now words) ⌝ }
     requires { ⌜ KinOf (now families) (getD (now words) i 0) (now kin) ⌝ }
     ensures { λ r. ⌜ FirstStart (searchedOf (now (section .entry)) (now (families .entry))) (now (words .entry)) from to r ⌝ }
 {
     let mut p = from;
     while p < to {
-        if fits_by_kin(section, families, words, kin, i, p) {
+        if fits_by_kin(section, families, words, entries, kin, i, p) {
             return p;
         }
         p += 1;
@@ -120,12 +135,14 @@ pub fn next_start(
     section: &[u32],
     families: &[u32],
     words: &[u32],
+    entries: &[u32],
     kin: &[u32],
     i: usize,
     from: usize,
 ) -> usize
     requires { ⌜ AcceptedSection (now section) ⌝ }
     requires { ⌜ AcceptedFamilies (now families) ⌝ }
+    requires { ⌜ EntriesOf (now families) (now words) (now entries) ⌝ }
     requires { ⌜ (from ≤ size (now section) + 1) × (i < length (now words)) ⌝ }
     requires { ⌜ KinOf (now families) (getD (now words) i 0) (now kin) ⌝ }
     ensures { λ r.
@@ -141,7 +158,7 @@ pub fn next_start(
     while p < to {
         let begin = blocks::skip_without_kin(section, kin, p, to, i);
         let end = blocks::block_end(begin, to);
-        let start = first_fitting(section, families, words, kin, i, begin, end);
+        let start = first_fitting(section, families, words, entries, kin, i, begin, end);
         if start < end {
             return start;
         }

@@ -25,8 +25,11 @@ ghost use Rattle.families.specs.Kin.{mostKin};
 ghost use Rattle.store.specs.Layout.{matchNumbers, slotSize};
 ghost use Rattle.store.specs.Outcome.{Outcome};
 ghost use Rattle.store.specs.Put.{Put};
-ghost use Rattle.phrase.specs.Searches.{OutOfTable, SearchedBy};
+ghost use Rattle.phrase.specs.Searches.{EntriesOf, OutOfTable, SearchedBy};
 ghost use Rattle.phrase.specs.Starts.{Findable, FirstStart};
+
+// The most words that a phrase has.
+const MAX_WORDS: usize = 8;
 
 // How a phrase is looked for.
 enum Search {
@@ -36,29 +39,34 @@ enum Search {
     Kin { word: usize, count: usize },
 }
 
-// Is any of the words in the family table?
-fn any_in_table(families: &[u32], words: &[u32]) -> bool
+// Looks the words up in the family table, and puts the entry of each down, 0 for none. Is any there?
+fn look_up(families: &[u32], words: &[u32], entries: &mut [u32]) -> bool
     requires { ⌜ AcceptedFamilies (now families) ⌝ }
+    requires { ⌜ length (now words) ≤ length (now entries) ⌝ }
     ensures { λ r. ⌜ (r ≡ true → 1 ≤ length (now (words .entry))) ⌝ }
     ensures { λ r. ⌜ (r ≡ false → OutOfTable (now (families .entry)) (now (words .entry))) ⌝ }
+    ensures { λ _. ⌜ EntriesOf (now (families .entry)) (now (words .entry)) (now (entries .exit)) ⌝ }
 {
+    let mut any = false;
     let mut i: usize = 0;
     while i < words.len() {
-        if families::entry_of(families, words[i]) != 0 {
-            return true;
-        }
+        let entry = families::entry_of(families, words[i]);
+        entries[i] = entry as u32;
+        any = any | (entry != 0);
         i += 1;
     }
-    false
+    any
 }
 
 // How to look for a phrase: by the first of its words whose kin are few enough to be told, and put down, unless none is in the table.
-fn search_for(families: &[u32], words: &[u32], kin: &mut [u32]) -> Search
+fn search_for(families: &[u32], words: &[u32], entries: &mut [u32], kin: &mut [u32]) -> Search
     requires { ⌜ AcceptedFamilies (now families) ⌝ }
+    requires { ⌜ length (now words) ≤ length (now entries) ⌝ }
     requires { ⌜ mostKin ≤ length (now kin) ⌝ }
+    ensures { λ _. ⌜ EntriesOf (now (families .entry)) (now (words .entry)) (now (entries .exit)) ⌝ }
     ensures { λ r. ⌜ SearchedBy (now (families .entry)) (now (words .entry)) (now (kin .exit)) r ⌝ }
 {
-    if !any_in_table(families, words) {
+    if !look_up(families, words, entries) {
         return Search::Equal;
     }
     let mut i: usize = 0;
@@ -77,6 +85,7 @@ fn next_start(
     section: &[u32],
     families: &[u32],
     words: &[u32],
+    entries: &[u32],
     kin: &[u32],
     search: Search,
     from: usize,
@@ -84,6 +93,7 @@ fn next_start(
     requires { ⌜ AcceptedSection (now section) ⌝ }
     requires { ⌜ AcceptedFamilies (now families) ⌝ }
     requires { ⌜ from ≤ size (now section) + 1 ⌝ }
+    requires { ⌜ EntriesOf (now families) (now words) (now entries) ⌝ }
     requires { ⌜ SearchedBy (now families) (now words) (now kin) search ⌝ }
     ensures { λ r.
         ⌜ FirstStart (searchedOf (now (section .entry)) (now (families .entry))) (now (words .entry)) from (size (now (section .entry)) + 1) r ⌝ }
@@ -91,7 +101,7 @@ fn next_start(
     match search {
         Search::Equal => equal::next_start(section, words, from),
         Search::Kin { word, count } => {
-            fitting::next_start(section, families, words, &kin[..count], word, from)
+            fitting::next_start(section, families, words, entries, &kin[..count], word, from)
         }
     }
 }
@@ -100,12 +110,14 @@ fn next_start(
 pub fn is_found(section: &[u32], families: &[u32], words: &[u32]) -> bool
     requires { ⌜ AcceptedSection (now section) ⌝ }
     requires { ⌜ AcceptedFamilies (now families) ⌝ }
+    requires { ⌜ length (now words) ≤ maxWaiting ⌝ }
     ensures { λ r. ⌜ ((rank : ℕ) → r ≡ not (isEmpty (phraseList (searchedOf (now (section .entry)) (now (families .entry))) rank (now (words .entry))))) ⌝ }
 {
     let n = section[0] as usize;
+    let mut entries = [0u32; MAX_WORDS];
     let mut kin = [0u32; MOST_KIN];
-    let search = search_for(families, words, &mut kin);
-    next_start(section, families, words, &kin, search, 1) <= n
+    let search = search_for(families, words, &mut entries, &mut kin);
+    next_start(section, families, words, &entries, &kin, search, 1) <= n
 }
 
 // Puts the find of k words at position p: a match with one contiguous include.
@@ -139,18 +151,19 @@ pub fn phrase_list(
         ⌜ Outcome (phraseList (searchedOf (now (section .entry)) (now (families .entry))) rank (now (words .entry))) (now (mem .entry)) (now (mem .exit)) at b ⌝ }
 {
     let n = section[0] as usize;
+    let mut entries = [0u32; MAX_WORDS];
     let mut kin = [0u32; MOST_KIN];
-    let search = search_for(families, words, &mut kin);
+    let search = search_for(families, words, &mut entries, &mut kin);
     let mut q = at + store::FIRST_MATCH;
     let mut matches = 0;
-    let mut p = next_start(section, families, words, &kin, search, 1);
+    let mut p = next_start(section, families, words, &entries, &kin, search, 1);
     while p <= n {
         if matches == MAX_MATCHES {
             return Built::TooLong;
         }
         q = put_found(mem, q, p, words.len(), rank);
         matches += 1;
-        p = next_start(section, families, words, &kin, search, p + 1);
+        p = next_start(section, families, words, &entries, &kin, search, p + 1);
     }
     store::put_slot_header(mem, at, matches, matches);
     Built::Made {

@@ -20,7 +20,7 @@ use Rattle.model.specs.declared.Quick.the-variants.{Answered, Refused}
 use Rattle.model.specs.declared.Times.{Times}
 use Rattle.model.specs.Accepted.{AcceptedSelection}
 use Rattle.model.specs.Kinds.{negated, occurring, Shape, aWord, aPair, aChange, shapeOf, shapeAt}
-use Rattle.model.specs.Limits.{maxCodes, workLength}
+use Rattle.model.specs.Limits.{maxCodes, maxWaiting, workLength}
 use Rattle.model.specs.Lists.{isEmpty}
 use Rattle.model.specs.Parts.{PartAt, isMildNot, partStart, postfix, rankAfter, codesOfTrees}
 use Rattle.model.specs.Rules.{phraseList}
@@ -36,7 +36,7 @@ use Rattle.model.proofs.SelectionLaws.{length-upTo, upTo-front, ends}
 use Rattle.model.proofs.TreesLaws.{partCount-le, length-parts}
 use Rattle.model.proofs.WalkLaws.{walk-is, length-walkReaches}
 use Rattle.selection.specs.Phrases.{phraseWords}
-use Rattle.build.proofs.WordsLaws.{Loose, phrase-words, one-word-after}
+use Rattle.build.proofs.WordsLaws.{Loose, phrase-short, phrase-words, one-word-after}
 use Rattle.walk.specs.Steps.{goesInto, decides, codesIn, passedUp}
 use Rattle.walk.specs.Walkable.{Walkable}
 
@@ -167,6 +167,9 @@ module _ {section families sel mem : List ℕ} {hi : ℕ} (w : Walkable section 
   word-walks {A} {code} {v} e c = word-at (shapeAt sel) hi (w .part) v (ap shapeOf (sym e ∙ c))
 
   -- a phrase
+  pub phrase-few : {code : Code} {k : ℕ} → code ≡ codeAt sel hi → code ≡ Phrase k → length (phraseWords sel hi) ≤ maxWaiting
+  phrase-few {code} {k} e c = phrase-short sel (w .in-selection) hi some-codes (w .up-to) k (sym e ∙ c)
+
   pub phrase-walks : {code : Code} {k : ℕ} {words : List ℕ} {r : Quick} → code ≡ codeAt sel hi → code ≡ Phrase k → words ≡ phraseWords sel hi
       → ((rank : ℕ) → r ≡ Answered (not (isEmpty (phraseList (searchedOf section families) rank words))) 1)
       → r ≡ walk (searchedOf section families) (w .part .tree)

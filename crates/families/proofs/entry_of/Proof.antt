@@ -54,7 +54,7 @@ loop-again c =
 returns : tie.Need-returns Inv-loop μ-loop
 returns c =
     let l = c .before .before in
-    (halved-none (l .before .before .pre) (l .loop .inv) (c .before .loop-test .left) (c .if2 .taken), omega arith)
+    record { is = halved-none (l .before .before .pre) (l .loop .inv) (c .before .loop-test .left) (c .if2 .taken); up-to = omega arith }
 
 mul-if3 : tie.Need-mul-if3 Inv-loop μ-loop
 mul-if3 c = search needs
@@ -65,12 +65,12 @@ shared-slice-read-if3 c = search needs
 returns-2 : tie.Need-returns-2 Inv-loop μ-loop
 returns-2 c =
     let l = c .before .before .before .before in
-    (halved-other (l .before .before .pre) (l .loop .inv) (c .before .before .before .loop-test .left) (pos-of-ne-zero (c .before .before .if2 .left)) (c .if3 .taken), omega arith)
+    record { is = halved-other (l .before .before .pre) (l .loop .inv) (c .before .before .before .loop-test .left) (pos-of-ne-zero (c .before .before .if2 .left)) (c .if3 .taken); up-to = omega arith }
 
 returns-3 : tie.Need-returns-3 Inv-loop μ-loop
 returns-3 c =
     let l = c .before .before .before .before in
-    (halved-here (l .before .before .pre) (l .loop .inv) (c .before .before .before .loop-test .left) (pos-of-ne-zero (c .before .before .if2 .left)) (c .if3 .left), omega (arith, l .loop .inv .within))
+    record { is = halved-here (l .before .before .pre) (l .loop .inv) (c .before .before .before .loop-test .left) (pos-of-ne-zero (c .before .before .if2 .left)) (c .if3 .left); up-to = omega (arith, l .loop .inv .within) }
 
 pub entry-of-spec : {M : Type 1} → statement M
 entry-of-spec =

@@ -18,7 +18,7 @@ same-length c = search needs
 returns : tie.Need-returns
 returns c =
     let a = c .before .before .before .before .args in
-    (omega arith, told-alone (a .families .now) (a .word) (a .kin .now) (omega arith) (entry-out _ _ (c .before .entry-of .ensures .0) (c .if1 .taken)))
+    (omega arith, told-alone (a .families .now) (a .word) (a .kin .now) (omega arith) (entry-out _ _ (c .before .entry-of .ensures .is) (c .if1 .taken)))
 
 shared-slice-read-m : tie.Need-shared-slice-read-m
 shared-slice-read-m c = search needs
@@ -46,7 +46,7 @@ returns-2 c =
     let g = c .before .before in
     let b = g .before .before .before .before in
     let e = b .before in
-    let entry = entry-in _ _ (e .entry-of .ensures .0) (pos-of-ne-zero (b .if1 .left)) in
+    let entry = entry-in _ _ (e .entry-of .ensures .is) (pos-of-ne-zero (b .if1 .left)) in
     (g .gather .ensures .0, told-gathered (e .before .before .before .pre .0) _ _ entry _ _ (g .gather .ensures .1))
 
 pub kin-of-spec : {M : Type 1} → statement M

@@ -17,23 +17,23 @@ enum-known-search c = search needs
 
 slice-aggregate-next-start : tie.Need-slice-aggregate-next-start
 slice-aggregate-next-start c =
-    let b = c .before .before .before .before .before .before .before .before in
+    let b = c .before .before .before .before .before .before .before .before .before in
     let a = b .args in
-    let kin = searched-kin (a .families .now) (a .words .now) (a .kin .now) (b .pre .1 .1 .1) (c .before .before .search .given .1) in
+    let kin = searched-kin (a .families .now) (a .words .now) (a .kin .now) (b .pre .1 .1 .1 .1) (c .before .before .search .given .1) in
     sym (length-take-le _ _ (kin .within))
 
 next-start-requires-2 : tie.Need-next-start-requires-2
 next-start-requires-2 c κs =
-    let b = c .before .before .before .before .before .before .before .before in
+    let b = c .before .before .before .before .before .before .before .before .before in
     let a = b .args in
-    let kin = searched-kin (a .families .now) (a .words .now) (a .kin .now) (b .pre .1 .1 .1) (c .before .before .search .given .1) in
-    (b .pre .0, (b .pre .1 .0, ((b .pre .1 .1 .0, kin .in-phrase), kin .are)))
+    let kin = searched-kin (a .families .now) (a .words .now) (a .kin .now) (b .pre .1 .1 .1 .1) (c .before .before .search .given .1) in
+    (b .pre .0, (b .pre .1 .0, (b .pre .1 .1 .1 .0, ((b .pre .1 .1 .0, kin .in-phrase), kin .are))))
 
 returns : tie.Need-returns
 returns c =
-    let b = c .before .before .before .before .before .before .before in
+    let b = c .before .before .before .before .before .before .before .before in
     let a = b .args in
-    equal-first (a .section .now) (a .families .now) (a .words .now) (searched-equal _ _ (a .kin .now) (b .pre .1 .1 .1) (c .before .enum-told .given .1)) (c .next-start .ensures)
+    equal-first (a .section .now) (a .families .now) (a .words .now) (searched-equal _ _ (a .kin .now) (b .pre .1 .1 .1 .1) (c .before .enum-told .given .1)) (c .next-start .ensures)
 
 returns-2 : tie.Need-returns-2
 returns-2 c = c .next-start2 .ensures

@@ -12,11 +12,11 @@ use Rattle.phrase.proofs.phrase_list.Statement.{statement}
 use Rattle.phrase.proofs.phrase_list.Tie as tie
 
 abbrev Inv-loop : tie.InvT-loop
-Inv-loop section families words rank mem₀ at n kin search q₀ matches₀ p₀ mem q matches p =
+Inv-loop section families words rank mem₀ at n entries kin search q₀ matches₀ p₀ mem q matches p =
     (matches ≤ maxMatches) × (length mem ≡ length mem₀) × Finding (searchedOf section families) words rank mem₀ mem at q p matches
 
 abbrev μ-loop : tie.MeasureT-loop
-μ-loop section families words rank mem₀ at n kin search q₀ matches₀ p₀ mem q matches p = n + 1 - p
+μ-loop section families words rank mem₀ at n entries kin search q₀ matches₀ p₀ mem q matches p = n + 1 - p
 
 shared-slice-read-n : tie.Need-shared-slice-read-n Inv-loop μ-loop
 shared-slice-read-n c = search needs
@@ -27,6 +27,9 @@ cast-n c = search needs
 slice-aggregate-search-for : tie.Need-slice-aggregate-search-for Inv-loop μ-loop
 slice-aggregate-search-for c = search needs
 
+slice-aggregate-search-for-2 : tie.Need-slice-aggregate-search-for-2 Inv-loop μ-loop
+slice-aggregate-search-for-2 c = search needs
+
 search-for-requires : tie.Need-search-for-requires Inv-loop μ-loop
 search-for-requires c κs = search needs
 
@@ -36,11 +39,14 @@ add-q c = search needs
 slice-aggregate-next-start : tie.Need-slice-aggregate-next-start Inv-loop μ-loop
 slice-aggregate-next-start c = search needs
 
+slice-aggregate-next-start-2 : tie.Need-slice-aggregate-next-start-2 Inv-loop μ-loop
+slice-aggregate-next-start-2 c = search needs
+
 next-start-requires : tie.Need-next-start-requires Inv-loop μ-loop
 next-start-requires c κs =
-    let f = c .before .before in
-    let b = f .before .before .before .before .before .before .before in
-    (b .pre .0, (b .pre .1 .0, (omega arith, f .search-for .ensures)))
+    let f = c .before .before .before .before in
+    let b = f .before .before .before .before .before .before .before .before in
+    (b .pre .0, (b .pre .1 .0, (omega arith, (f .search-for .ensures .0, f .search-for .ensures .1))))
 
 loop-holds : tie.Need-loop-holds Inv-loop μ-loop
 loop-holds c = (omega arith, refl, find-start _ _ _ (c .next-start .ensures))
@@ -57,26 +63,29 @@ put-found-requires c κs = search needs
 add-matches : tie.Need-add-matches Inv-loop μ-loop
 add-matches c = search needs
 
-slice-aggregate-next-start-2 : tie.Need-slice-aggregate-next-start-2 Inv-loop μ-loop
-slice-aggregate-next-start-2 c = search needs
+slice-aggregate-next-start-3 : tie.Need-slice-aggregate-next-start-3 Inv-loop μ-loop
+slice-aggregate-next-start-3 c = search needs
+
+slice-aggregate-next-start-4 : tie.Need-slice-aggregate-next-start-4 Inv-loop μ-loop
+slice-aggregate-next-start-4 c = search needs
 
 add-next-start : tie.Need-add-next-start Inv-loop μ-loop
 add-next-start c = search needs
 
 next-start-requires-2 : tie.Need-next-start-requires-2 Inv-loop μ-loop
 next-start-requires-2 c κs =
-    let i = c .before .before .before .before .before .before in
-    let f = i .before .before .before .before .before in
-    let b = f .before .before .before .before .before .before .before in
+    let i = c .before .before .before .before .before .before .before in
+    let f = i .before .before .before .before .before .before .before in
+    let b = f .before .before .before .before .before .before .before .before in
     let h = i .loop-test .taken in
-    (b .pre .0, (b .pre .1 .0, (omega (arith, h), f .search-for .ensures)))
+    (b .pre .0, (b .pre .1 .0, (omega (arith, h), (f .search-for .ensures .0, f .search-for .ensures .1))))
 
 loop-less : tie.Need-loop-less Inv-loop μ-loop
 loop-less c = search needs
 
 loop-again : tie.Need-loop-again Inv-loop μ-loop
 loop-again c =
-    let v = c .before .before .before .before in
+    let v = c .before .before .before .before .before in
     let i = v .before .before .before in
     (search needs, search needs, find-step (i .before .loop .inv .2) (i .loop-test .taken) (v .put-found .ensures) (c .next-start2 .ensures))
 
@@ -102,16 +111,19 @@ phrase-list-spec =
     shared-slice-read-n
     cast-n
     slice-aggregate-search-for
+    slice-aggregate-search-for-2
     search-for-requires
     add-q
     slice-aggregate-next-start
+    slice-aggregate-next-start-2
     next-start-requires
     loop-holds
     same-length
     returns
     put-found-requires
     add-matches
-    slice-aggregate-next-start-2
+    slice-aggregate-next-start-3
+    slice-aggregate-next-start-4
     add-next-start
     next-start-requires-2
     loop-less

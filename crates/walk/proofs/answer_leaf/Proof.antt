@@ -1,12 +1,16 @@
 -- By the code at hi: a phrase is looked for, a filter asked of its operand's matches, and every other part that the walk does not go into is built.
 use mathlib.Core.Bool.{Bool}
-use mathlib.Core.Path.{sym, ap, _∙_}
+use Prim.Native.Nat.{ℕ, _≤_}
+use mathlib.Core.List.{List}
+use mathlib.Core.Path.{sym, ap, subst, _∙_}
+use lib.ListN.{length}
 use borrow.Author.Needs.{needs}
 use Rattle.model.specs.declared.Code.{Code}
 use Rattle.model.specs.Kinds.{shapeOf}
 use Rattle.model.specs.declared.Quick.the-variants.{Answered}
+use Rattle.model.specs.Limits.{maxWaiting}
 use Rattle.walk.specs.Steps.{goesInto}
-use Rattle.walk.proofs.WalkLaws.{phrase-walks, leaf-builds}
+use Rattle.walk.proofs.WalkLaws.{phrase-few, phrase-walks, leaf-builds}
 use Rattle.walk.proofs.answer_leaf.Statement.{statement}
 use Rattle.walk.proofs.answer_leaf.Tie as tie
 
@@ -20,7 +24,10 @@ phrase-words-requires : tie.Need-phrase-words-requires
 phrase-words-requires c κs = search needs
 
 is-found-requires : tie.Need-is-found-requires
-is-found-requires c κs = search needs
+is-found-requires c κs =
+    let m = c .before .before .before in
+    let w = m .before .before .before .before .before .pre in
+    (w .in-section, (w .in-families, subst (λ (ws : List ℕ). length ws ≤ maxWaiting) (sym (c .phrase-words .ensures)) (phrase-few w (m .code-at .ensures) (c .before .enum-told .given .1))))
 
 answered-requires : tie.Need-answered-requires
 answered-requires c κs = search needs

@@ -10,10 +10,10 @@ use Rattle.phrase.proofs.fitting.first_fitting.Statement.{statement}
 use Rattle.phrase.proofs.fitting.first_fitting.Tie as tie
 
 abbrev Inv-loop : tie.InvT-loop
-Inv-loop section families words kin i from to p₀ p = Skipped (searchedOf section families) words from to p
+Inv-loop section families words entries kin i from to p₀ p = Skipped (searchedOf section families) words from to p
 
 abbrev μ-loop : tie.MeasureT-loop
-μ-loop section families words kin i from to p₀ p = to - p
+μ-loop section families words entries kin i from to p₀ p = to - p
 
 loop-holds : tie.Need-loop-holds Inv-loop μ-loop
 loop-holds c = skipped-none (search needs)

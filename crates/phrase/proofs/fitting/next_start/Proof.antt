@@ -10,10 +10,10 @@ use Rattle.phrase.proofs.fitting.next_start.Statement.{statement}
 use Rattle.phrase.proofs.fitting.next_start.Tie as tie
 
 abbrev Inv-loop : tie.InvT-loop
-Inv-loop section families words kin i from k n to p₀ p = Skipped (searchedOf section families) words from to p
+Inv-loop section families words entries kin i from k n to p₀ p = Skipped (searchedOf section families) words from to p
 
 abbrev μ-loop : tie.MeasureT-loop
-μ-loop section families words kin i from k n to p₀ p = to - p
+μ-loop section families words entries kin i from k n to p₀ p = to - p
 
 shared-slice-read-n : tie.Need-shared-slice-read-n Inv-loop μ-loop
 shared-slice-read-n c = search needs
@@ -31,7 +31,7 @@ add-result : tie.Need-add-result Inv-loop μ-loop
 add-result c = search needs
 
 returns : tie.Need-returns Inv-loop μ-loop
-returns c = first-none {to = c .before .before .before .before .before .before .args .from} (skipped-none (omega arith)) (omega arith) (c .if1 .taken)
+returns c = first-none {to = c .before .before .before .before .before .before .before .args .from} (skipped-none (omega arith)) (omega arith) (c .if1 .taken)
 
 add-to : tie.Need-add-to Inv-loop μ-loop
 add-to c = search needs
@@ -50,17 +50,17 @@ block-end-requires c κs = search needs
 
 first-fitting-requires : tie.Need-first-fitting-requires Inv-loop μ-loop
 first-fitting-requires c κs =
-    let b = c .before .before .before .before .before .before .before .before .before .before in
-    (record { accepted = b .pre .0; in-order = omega arith; rows-within = omega arith }, (b .pre .1 .0, (b .pre .1 .1 .0 .1, b .pre .1 .1 .1)))
+    let b = c .before .before .before .before .before .before .before .before .before .before .before in
+    (record { accepted = b .pre .0; in-order = omega arith; rows-within = omega arith }, (b .pre .1 .0, (b .pre .1 .1 .0, (b .pre .1 .1 .1 .0 .1, b .pre .1 .1 .1 .1))))
 
 returns-2 : tie.Need-returns-2 Inv-loop μ-loop
 returns-2 c =
     let s = c .before .before .before in
     let l = s .before .before in
-    let b = l .before .before .before .before .before .before .before in
+    let b = l .before .before .before .before .before .before .before .before in
     let a = b .args in
     let begin =
-    kin-skipped (a .section .now) (a .families .now) (a .words .now) (a .kin .now) (a .i) (b .pre .1 .1 .0 .1) (b .pre .1 .1 .1) (omega arith) (s .skip-without-kin .ensures) in
+    kin-skipped (a .section .now) (a .families .now) (a .words .now) (a .kin .now) (a .i) (b .pre .1 .1 .1 .0 .1) (b .pre .1 .1 .1 .1) (omega arith) (s .skip-without-kin .ensures) in
     first-on (skipped-on (l .loop .inv) begin (s .skip-without-kin .ensures .up-to)) (c .before .first-fitting .ensures) (omega arith) (λ h. c .if2 .taken)
 
 loop-less : tie.Need-loop-less Inv-loop μ-loop
@@ -70,10 +70,10 @@ loop-again : tie.Need-loop-again Inv-loop μ-loop
 loop-again c =
     let s = c .before .before .before in
     let l = s .before .before in
-    let b = l .before .before .before .before .before .before .before in
+    let b = l .before .before .before .before .before .before .before .before in
     let a = b .args in
     let begin =
-    kin-skipped (a .section .now) (a .families .now) (a .words .now) (a .kin .now) (a .i) (b .pre .1 .1 .0 .1) (b .pre .1 .1 .1) (omega arith) (s .skip-without-kin .ensures) in
+    kin-skipped (a .section .now) (a .families .now) (a .words .now) (a .kin .now) (a .i) (b .pre .1 .1 .1 .0 .1) (b .pre .1 .1 .1 .1) (omega arith) (s .skip-without-kin .ensures) in
     skipped-on (skipped-on (l .loop .inv) begin (s .skip-without-kin .ensures .up-to)) (first-missed (c .before .first-fitting .ensures) (c .if2 .left)) (omega arith)
 
 add-result-2 : tie.Need-add-result-2 Inv-loop μ-loop
