@@ -106,7 +106,8 @@ fn next_start(
     }
 }
 
-// Is there any start? Stops at the first.
+// Is there any start? Stops at the first. It asks either way itself: with a second caller each stays a function of its own, and `next_start` becomes a part of
+// the list's loop, so that a find by equality costs what it did before there were families.
 pub fn is_found(section: &[u32], families: &[u32], words: &[u32]) -> bool
     requires { ⌜ AcceptedSection (now section) ⌝ }
     requires { ⌜ AcceptedFamilies (now families) ⌝ }
@@ -117,7 +118,12 @@ pub fn is_found(section: &[u32], families: &[u32], words: &[u32]) -> bool
     let mut entries = [0u32; MAX_WORDS];
     let mut kin = [0u32; MOST_KIN];
     let search = search_for(families, words, &mut entries, &mut kin);
-    next_start(section, families, words, &entries, &kin, search, 1) <= n
+    match search {
+        Search::Equal => equal::next_start(section, words, 1) <= n,
+        Search::Kin { word, count } => {
+            fitting::next_start(section, families, words, &entries, &kin[..count], word, 1) <= n
+        }
+    }
 }
 
 // Puts the find of k words at position p: a match with one contiguous include.
