@@ -1,4 +1,7 @@
 // The list of a part of a selection, built code by code in the slots of working memory.
+
+#![tactic(auto)]
+
 mod steps; // one code's list, from the lists that wait
 
 ghost use Rattle.model.specs.Families.{searched_of};
@@ -9,7 +12,7 @@ use model::Refusal;
 use store::Built;
 
 // What building a part comes to.
-#[derive(Drop)]
+#[derive(Clone, Copy)]
 pub enum Part {
     // its list lies in the first slot
     Built,

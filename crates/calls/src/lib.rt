@@ -1,4 +1,7 @@
 // Document 01's calls. None has a requires: any slices of any lengths may come in, and each gets a result or one refusal.
+
+#![tactic(auto)]
+
 ghost use Rattle.std.specs.Prelude.{◌≡◌, ◌≤◌, length};
 ghost use Rattle.std.proofs.lemmas.List.Edits.{sets};
 ghost use Rattle.model.specs.Answers.{listed as listed_of, listing_answer, listing_buffer, listing_numbers, listing_values, quick_answer, quick_values, snippet_of, snippet_start, stands_at};

@@ -14,21 +14,21 @@ use strings::{end_of, start_of};
 const AHEAD: usize = 16;
 
 // The start of a match's first include, and the end of its last one.
-#[derive(Drop)]
+#[derive(Clone, Copy)]
 pub struct Edges {
     pub start: Position,
     pub end: Position,
 }
 
 // The positions from lo to hi.
-#[derive(Drop)]
+#[derive(Clone, Copy)]
 pub struct Range {
     pub lo: Position,
     pub hi: Position,
 }
 
 // The edges of several matches: all starts, and all ends.
-#[derive(Drop)]
+#[derive(Clone, Copy)]
 pub struct Ranges {
     pub start: Range,
     pub end: Range,

@@ -1,5 +1,8 @@
 // Which matches of R can cover all positions of a match of L: only those that cover its edges, the start of its first include and the end of its last one.
 // The edges of matches of L that follow each other mostly lie close together, so one part of R is enough for many of them.
+
+#![tactic(auto)]
+
 mod edges; // of the matches of L
 mod overlapping; // the matches of R that have positions in their ranges
 
@@ -13,7 +16,7 @@ use model::Position;
 use overlapping::{end_of_overlapping, first_overlapping};
 
 // A part of R, the matches from `from` up to `end`: no other one covers a position of each range.
-#[derive(Drop)]
+#[derive(Clone, Copy)]
 pub struct Candidates {
     pub ranges: Ranges,
     pub from: usize,

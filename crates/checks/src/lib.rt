@@ -1,5 +1,8 @@
 // The checks of the inputs, with the lengths of the lent memory: refusals 1 to 8, 12 and 13, or the selection's m. A call takes the answer apart with
 // `let .. else`.
+
+#![tactic(auto)]
+
 ghost use Rattle.std.specs.Prelude.{◌≡◌};
 ghost use Rattle.model.specs.Answers.{checked_of};
 ghost use Rattle.model.specs.Checks.{input_refusal, listing_checks, quick_checks};

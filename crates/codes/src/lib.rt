@@ -1,4 +1,7 @@
 // The codes of a selection: kinds and operands as `Code`. Every public function takes any slice.
+
+#![tactic(auto)]
+
 pub mod table; // kinds and operands against the table: refusals 4 and 5
 
 ghost use Rattle.std.specs.Prelude.{◌≡◌};

@@ -1,4 +1,7 @@
 // How far strings lie apart.
+
+#![tactic(auto)]
+
 ghost use Rattle.std.specs.Prelude.{◌≡◌, ◌||◌, map, ℕ, leb};
 ghost use Rattle.model.specs.Answers.{span_of};
 ghost use Rattle.model.specs.Rules.{between, distance, distance_of};

@@ -1,5 +1,8 @@
 // The engine's calls: document 01's, and those of typed searches. None has a requires: any slices of any lengths may come in, and each gets a result or
 // one refusal. A typed call answers by the answer that its text has; every text has exactly one (theorems/specs/Requests.antt).
+
+#![tactic(auto)]
+
 ghost use Rattle.std.specs.Prelude.{◌≡◌, length};
 ghost use Rattle.model.specs.Answers.{listing_values, quick_values};
 ghost use Rattle.model.specs.TextAnswer.{ForAnswer};

@@ -1,4 +1,7 @@
 // A family table, document 02's F-6: its check, whether a word fits a token, and all words that fit one.
+
+#![tactic(auto)]
+
 mod members; // the words of a family
 mod order; // do the words rise?
 

@@ -1,5 +1,8 @@
 // Each filter by its rule: window's own, or that of the nine which keep a match or drop it. Each of these is three things: a test on the includes, a test that
 // an exclude stays by, and whether the result holds the join.
+
+#![tactic(auto)]
+
 ghost use Rattle.std.specs.Prelude.{◌≡◌};
 ghost use Rattle.model.specs.Rules.{at_position};
 ghost use Rattle.model.specs.Section.{Section, section_of};
@@ -16,7 +19,7 @@ use units::different::{all_differ, differs};
 use units::same::{all_in_same, in_same};
 
 // A filter that keeps a match or drops it.
-#[derive(Drop)]
+#[derive(Clone, Copy)]
 pub enum Keeper {
     Ordered,
     Distance { least: u32, most: u32 },
@@ -30,7 +33,7 @@ pub enum Keeper {
 }
 
 // What a filter goes by.
-#[derive(Drop)]
+#[derive(Clone, Copy)]
 pub enum Rule {
     Window(u32),
     Keep(Keeper),

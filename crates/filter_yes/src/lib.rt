@@ -1,4 +1,7 @@
 // Whether what a filter gives has a match without excludes: told match by match, and nothing of the filter's own list is written.
+
+#![tactic(auto)]
+
 mod windows; // the windows around a match, and those that no exclude is inside
 
 ghost use Rattle.std.specs.Prelude.{true, ◌≡◌, ℕ};

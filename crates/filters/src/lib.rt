@@ -1,4 +1,7 @@
 // The nine filters that keep a match or drop it: one loop over a list's matches and one writer, by each filter's rule.
+
+#![tactic(auto)]
+
 mod writing;
 
 ghost use Rattle.std.specs.Prelude.{length};

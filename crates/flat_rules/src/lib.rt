@@ -1,5 +1,8 @@
 // The rules of the grammar in which no parenthesis stands: a phrase with its times, and the filters. Each reads the text from a position on and writes
 // the codes after the first `count`, two numbers each.
+
+#![tactic(auto)]
+
 pub mod steps; // what a rule answers, in one number
 
 ghost use Rattle.std.specs.Prelude.{◌&&◌, [], ◌∷◌, ◌≡◌, ℕ, ◌+◌, ◌≤◌, ◌<◌, leb};

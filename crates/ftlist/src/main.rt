@@ -1,4 +1,7 @@
 // ftlist: the full listing of a section and a selection that it reads from standard input.
+
+#![tactic(auto)]
+
 mod run; // from the bytes that it reads to the bytes that it prints
 
 use model::{BUFFER_LENGTH, WORK_LENGTH};

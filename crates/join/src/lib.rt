@@ -1,4 +1,7 @@
 // The join of the strings of a slice, as the two numbers of one string. Of no strings it is the string of zeros (`joined`).
+
+#![tactic(auto)]
+
 ghost use Rattle.std.specs.Prelude.{◌≡◌};
 ghost use Rattle.model.specs.Answers.{span_of, tag_of};
 ghost use Rattle.model.specs.Lists.{all_of};
@@ -11,7 +14,7 @@ use strings::positions::{earlier, later};
 use strings::{end_of, is_contiguous, query_of, span_of, start_of, tag_of};
 
 // Where strings begin and where they end.
-#[derive(Drop)]
+#[derive(Clone, Copy)]
 pub struct Extent {
     pub start: Position,
     pub end: Position,

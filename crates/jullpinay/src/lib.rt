@@ -1,4 +1,7 @@
 // The engine's calls for C and Rust: numbers pass as themselves, a slice as a pointer and a length, and an answer as the papers' own numbers.
+
+#![tactic(auto)]
+
 ghost use Rattle.std.specs.Prelude.{◌≡◌, drop, get_or, length, take};
 ghost use Rattle.std.proofs.lemmas.List.Edits.{sets};
 ghost use Rattle.model.specs.Answers.{listing_answer, listing_buffer, listing_values, quick_answer, quick_values, snippet_of};

@@ -1,12 +1,15 @@
 // "The reader goes over the lent text with a position in it": a struct that holds the text and a position. What a reader has left is copied into an
 // array, over which the rules go: a reference to an array costs a frame less than a slice. The functions over the struct are few and take it apart;
 // `text_of`, with plain parameters, is what callers use.
+
+#![tactic(auto)]
+
 ghost use Rattle.std.specs.Prelude.{◌≡◌, drop};
 ghost use Rattle.lent_text.specs.Copied.{copied};
 
 use model::MAX_TEXT;
 
-#[derive(Drop)]
+#[derive(Clone, Copy)]
 pub struct Reader<'a> {
     pub text: &'a [u8],
     pub at: usize,

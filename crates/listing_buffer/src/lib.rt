@@ -1,4 +1,7 @@
 // The listing of a list in a slot, written to the listing buffer.
+
+#![tactic(auto)]
+
 ghost use mathlib.Core.List.{flat_map, map};
 ghost use Rattle.std.specs.Prelude.{◌≡◌, ◌+◌, ◌≤◌, length};
 ghost use Rattle.std.proofs.lemmas.List.Edits.{sets};

@@ -10,7 +10,7 @@ use candidates::{Candidates, candidates_for, edges_at};
 use store::Bounds;
 
 // The answer for a match of L.
-#[derive(Drop)]
+#[derive(Clone, Copy)]
 pub struct Kept {
     // does each match of R leave a position of it uncovered?
     pub kept: bool,

@@ -1,4 +1,7 @@
 // Mild not: "L's matches in which, for every match of R, some position covered by an include isn't covered by R's includes."
+
+#![tactic(auto)]
+
 mod keeps;
 mod uncovered;
 

@@ -15,7 +15,7 @@ use strings::covering::run_end;
 use strings::{end_of, start_of};
 
 // A position that includes of a left match cover, and those of a right match don't.
-#[derive(Drop)]
+#[derive(Clone, Copy)]
 pub enum Found {
     At(Position),
     Nothing,

@@ -1,5 +1,7 @@
 // The types that the meaning of sections, selections and answers speaks of. Document 01's terms; what each means is in specs/.
 
+#![tactic(auto)]
+
 // "A section is n (0 to 4,096)"
 pub const MAX_TOKENS: u32 = 4096;
 // "A selection is m (1 to 64)"
@@ -36,17 +38,17 @@ pub const MAX_NUMBER: u64 = 4096;
 pub const SELECTION_LENGTH: usize = 129;
 
 // Three countings, none of which stands for another.
-#[derive(Drop)]
+#[derive(Clone, Copy)]
 pub struct Position(pub u32);
 
-#[derive(Drop)]
+#[derive(Clone, Copy)]
 pub struct Sentence(pub u32);
 
-#[derive(Drop)]
+#[derive(Clone, Copy)]
 pub struct Paragraph(pub u32);
 
 // A combination of the last two lists: kinds 2, 3 and 5.
-#[derive(Drop)]
+#[derive(Clone, Copy)]
 pub enum Pair {
     Or,
     And,
@@ -54,7 +56,7 @@ pub enum Pair {
 }
 
 // Kinds 6 to 15, window and distance with their numbers.
-#[derive(Drop)]
+#[derive(Clone, Copy)]
 pub enum Filter {
     Ordered,
     Window(u32),
@@ -69,14 +71,14 @@ pub enum Filter {
 }
 
 // F-3: how often a phrase occurs: kinds 16 and 17, with their numbers.
-#[derive(Drop)]
+#[derive(Clone, Copy)]
 pub enum Times {
     FromTo { least: u32, most: u32 },
     AtLeast(u32),
 }
 
 // One code of a selection.
-#[derive(Drop)]
+#[derive(Clone, Copy)]
 pub enum Code {
     // kind 0: a word of a phrase
     Word(u32),
@@ -93,28 +95,28 @@ pub enum Code {
 }
 
 // The place of the first fault that a check finds.
-#[derive(Drop)]
+#[derive(Clone, Copy)]
 pub enum Fault {
     At(u32),
     Nowhere,
 }
 
 // A refusal by number and place: what every answer that is refused holds.
-#[derive(Drop)]
+#[derive(Clone, Copy)]
 pub struct Refusal {
     pub number: u32,
     pub place: u32,
 }
 
 // What the checks say of lent slices. Accepted is given with what the caller needs next, the size of what was checked: a section's n, a selection's m.
-#[derive(Drop)]
+#[derive(Clone, Copy)]
 pub enum Checked {
     Accepted { size: u32 },
     Refused(Refusal),
 }
 
 // The full listing's answer.
-#[derive(Drop)]
+#[derive(Clone, Copy)]
 pub enum Listing {
     Listed {
         matches: u32,
@@ -125,14 +127,14 @@ pub enum Listing {
 }
 
 // The quick answer, with how many codes of kind 1 to 17 were walked or built.
-#[derive(Drop)]
+#[derive(Clone, Copy)]
 pub enum Quick {
     Answered { yes: bool, codes: u32 },
     Refused(Refusal),
 }
 
 // The reader's answer: how many codes a typed search has.
-#[derive(Drop)]
+#[derive(Clone, Copy)]
 pub enum Reading {
     Read { codes: u32 },
     Refused(Refusal),

@@ -1,5 +1,8 @@
 // Not: every choice of one string from each match of a list, each string turned to the other sort. The choices are numbered by mixed radix digits, the
 // first match's string being the digit of most weight, so that each is written from its number alone.
+
+#![tactic(auto)]
+
 mod choices; // the choices, written
 mod sizes; // how many choices there are
 

@@ -9,7 +9,7 @@ ghost use Rattle.occurs.specs.WithNot.{not_matches, not_strings};
 use model::{MAX_MATCHES, MAX_STRINGS};
 use store::Built;
 
-#[derive(Drop)]
+#[derive(Clone, Copy)]
 pub enum Counted {
     // so many choices, which have so many includes together; and how many of them are of a finds, the fewest
     Choices {

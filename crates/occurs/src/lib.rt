@@ -1,5 +1,8 @@
 // Occurs, of document 02's F-3: every choice of so many or more of a phrase's finds. The choices are counted first. Those of one size are numbered,
 // and each is written from its number alone, as a not's are.
+
+#![tactic(auto)]
+
 mod choices; // the choices, written
 mod counts; // how many choices there are, and how large the list is
 

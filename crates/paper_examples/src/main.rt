@@ -1,5 +1,8 @@
 // Runs the examples that it reads, each three lines: a name, the numbers of a section, the numbers of a selection. Its `stdin` has
 // document 01's examples of 'Six tokens', in the paper's words and order.
+
+#![tactic(auto)]
+
 mod reading; // lines and numbers
 mod showing; // what is printed of an example
 

@@ -2,7 +2,7 @@
 ghost use Rattle.std.specs.Prelude.{◌<◌, ◌≤◌, length};
 
 // How far the numbers of a line are read: so many are put, and the next is to come so many times.
-#[derive(Drop)]
+#[derive(Clone, Copy)]
 struct Read {
     put: usize,
     times: usize,

@@ -1,5 +1,8 @@
 // Phrase: "one match per start where the k words stand in a row, ascending, holding one contiguous include. Its query position is its rank".
 // Document 02, F-6: "A phrase fits where each word equals its token or both are in the table with the same family."
+
+#![tactic(auto)]
+
 mod blocks; // blocks of sixteen positions, skipped as a whole
 mod equal; // the first start by equality
 mod fitting; // the first start by families
@@ -28,7 +31,7 @@ use strings::{span_of, tag_of};
 const MAX_WORDS: usize = 8;
 
 // How a phrase is looked for.
-#[derive(Drop)]
+#[derive(Clone, Copy)]
 enum Search {
     // by equality: none of its words is in the family table
     Equal,

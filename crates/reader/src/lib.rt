@@ -1,4 +1,7 @@
 // A typed search: its codes as a selection.
+
+#![tactic(auto)]
+
 pub mod rules; // the rules that call each other
 
 ghost use Rattle.std.specs.Prelude.{◌≡◌, ◌≤◌, length, take};

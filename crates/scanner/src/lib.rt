@@ -1,5 +1,8 @@
 // The tokens of a text, one at a time, from a position in it. The text is the first `size` bytes of an array, and a token is one number: a reference to
 // an array and a number are passed in registers, a slice or a struct by a copy in the caller's frame, of which a parenthesis would take several.
+
+#![tactic(auto)]
+
 pub mod symbols;
 
 ghost use Rattle.std.specs.Prelude.{◌≡◌, ◌+◌, ◌-◌, ◌≤◌, ◌<◌, drop, take};

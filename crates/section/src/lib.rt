@@ -1,4 +1,7 @@
 // A section: what its slice says at a position, its check, and the snippet. Every function here takes any slice.
+
+#![tactic(auto)]
+
 mod looks;
 mod order;
 mod rises;

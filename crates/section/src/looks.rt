@@ -17,7 +17,7 @@ const BLOCK: usize = 64;
 const SMALL_BLOCK: usize = 16;
 
 // What a look at some positions tells.
-#[derive(Drop)]
+#[derive(Clone, Copy)]
 enum Looked {
     // the first that is faulty
     Faulty(u32),

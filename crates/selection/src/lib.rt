@@ -1,4 +1,7 @@
 // A selection: its parts, and its check. Every public function takes any slice.
+
+#![tactic(auto)]
+
 pub mod parts; // where a part starts, and what stands in it
 pub mod waiting; // the waiting rule: refusal 6
 

@@ -1,4 +1,7 @@
 // Lent slices of u32: a size first, then two parallel arrays. Any slice of any length may come in.
+
+#![tactic(auto)]
+
 pub mod blocks; // blocks of sixteen numbers
 
 ghost use Rattle.std.specs.Prelude.{◌≡◌, ◌+◌, ◌*◌, ◌≤◌, get_or, length};

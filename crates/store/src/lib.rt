@@ -1,5 +1,8 @@
 // Match lists in working memory. A list lies in a slot: its number of matches, its number of strings, then each match as a header and its strings.
 // Of nine slots eight are for the lists that wait, the first at 0; the ninth is to build in. Every function takes memory whole, with indices.
+
+#![tactic(auto)]
+
 mod copying;
 mod matches;
 mod slots;
@@ -28,7 +31,7 @@ pub const FIRST_STRING: usize = 1;
 pub const SCRATCH: usize = 10256;
 
 // What building a list comes to.
-#[derive(Drop)]
+#[derive(Clone, Copy)]
 pub enum Built {
     // the list is in its slot, with so many matches and strings
     Made { matches: u32, strings: u32 },

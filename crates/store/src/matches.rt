@@ -45,7 +45,7 @@ pub fn match_length(header: u32) -> usize
 }
 
 // Where a match lies: its includes, then its excludes, then what is after it.
-#[derive(Drop)]
+#[derive(Clone, Copy)]
 pub struct Bounds {
     pub includes: usize,
     pub excludes: usize,

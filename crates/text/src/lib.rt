@@ -1,4 +1,7 @@
 // What the program `ftlist` reads and what it prints, as functions on slices.
+
+#![tactic(auto)]
+
 pub mod printing; // an answer, and the listing after it
 pub mod reading; // little-endian numbers, and where the section ends among them
 mod lines; // a line a match

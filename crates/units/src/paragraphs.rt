@@ -9,7 +9,7 @@ use super::ranges;
 use model::Paragraph;
 
 // The paragraphs that a span starts and ends in.
-#[derive(Drop)]
+#[derive(Clone, Copy)]
 pub struct Paragraphs {
     pub first: Paragraph,
     pub last: Paragraph,

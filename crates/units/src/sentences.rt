@@ -9,7 +9,7 @@ use super::ranges;
 use model::Sentence;
 
 // The sentences that a span starts and ends in.
-#[derive(Drop)]
+#[derive(Clone, Copy)]
 pub struct Sentences {
     pub first: Sentence,
     pub last: Sentence,

@@ -1,4 +1,7 @@
 // The quick answer's walk, from the last code of a part.
+
+#![tactic(auto)]
+
 mod answers; // a part's answer in one number, and what a code makes of its sides' answers
 
 ghost use Rattle.std.specs.Prelude.{false, ◌≡◌, ◌+◌, ◌≤◌};

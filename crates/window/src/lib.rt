@@ -1,6 +1,9 @@
 // Window: "for each match with includes and each W from (greatest end − N + 1) up to least start, one match: the join, and the excludes inside W to
 // W + N − 1. W may be zero or negative. Equal copies are all listed. A match without includes is dropped." A window is named here by its last position,
 // W + N − 1, as in the definition.
+
+#![tactic(auto)]
+
 mod inside; // the excludes inside a window
 mod sizes; // how many matches and strings the windows have
 
