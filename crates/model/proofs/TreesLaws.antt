@@ -90,7 +90,7 @@ ranks-renumbered n p r (phrase c s ws) g h w = record { from_one = g; up_to = om
 ranks-renumbered n p r (pair k c t u) g h w =
     let a = all_split has_words (postfix t ++ postfix u) _ w in
     let b = all_split has_words (postfix t) (postfix u) a.0 in
-    (ranks-renumbered n p r t g (omega arith) b.0, ranks-renumbered n _ (r + phrases t) u (omega arith) (omega arith) b.1)
+    (ranks-renumbered n p r t g (omega arith) b.0, ranks-renumbered n (p + length (postfix t)) (r + phrases t) u (omega arith) (omega arith) b.1)
 ranks-renumbered n p r (change k c t) g h w = ranks-renumbered n p r t g h (all_split has_words (postfix t) _ w).0
 
 -- ranks run from the first phrase's on
