@@ -1,0 +1,25 @@
+use Prim.Native.Nat.{◌+◌, ◌≤◌}
+use native.Mathlib.Omega.{arith}
+use mathlib.Core.Logic.{⊎_elim}
+use mathlib.Core.Path.{◌≡◌, sym, ◌∙◌}
+use borrow.Author.Tests.{eq-eqb, ne_eqb}
+use lib.ListN.{get_or}
+use Rattle.distance.specs.Sorting.{counted, spans_within}
+use Rattle.distance.proofs.SortingLaws.{gathered_next, counted_swap, nearer_swap, passes_gathered}
+use Rattle.strings.proofs.StringsLaws.{left-start}
+use Rattle.distance.proofs.next_within.Goals as goal
+
+pub loop-i-init : goal.loop-i-init
+loop-i-init c = (omega arith, left-start _ _, left-start _ _)
+
+pub loop-i-preserved : goal.loop-i-preserved
+loop-i-preserved c =
+    let v = c.args.span in
+    let x = get_or c.args.strs.now c.loop-i.i 0 in
+    let one : counted v x c.loop-i.copies ≡ c.if-strs-i.copies = ⊎_elim (λ w. rw (eq-eqb x v w.0.taken) (sym w.1)) (λ w. rw (ne_eqb x v w.0.left) (sym w.1)) c.if-strs-i.branch-raw in
+    let few : c.if-strs-i.copies ≤ c.loop-i.i + 2 = ⊎_elim (λ w. omega arith) (λ w. omega arith) c.if-strs-i.branch-raw in
+    (few, gathered_next _ (counted_swap _) c.loop-i.invariant.1 c.loop-i-test.true _ one, gathered_next _ (nearer_swap _) c.loop-i.invariant.2 c.loop-i-test.true _ (sym c.nearer-above.ensures))
+
+pub returns : goal.returns
+returns c =
+    c.followed_within.ensures ∙ passes_gathered (spans_within c.args.least c.args.most) _ c.loop-i.invariant.1 c.loop-i.invariant.2 c.loop-i-test.false
