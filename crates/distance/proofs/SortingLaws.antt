@@ -6,7 +6,7 @@ use native.Mathlib.Omega.{arith}
 use mathlib.Core.Bool.{Bool, true, false, ◌&&◌, cond, and_assoc, and_comm, and-true, and-false, and_self_left, or-true}
 use mathlib.Core.List.{List, [], ◌∷◌, map, foldr}
 use mathlib.Core.Logic.{⊎_elim}
-use mathlib.Core.Path.{◌≡◌, refl, ap, ap₂, sym, ◌∙◌, fun_ext}
+use mathlib.Core.Path.{◌≡◌, refl, ap, ap₂, sym, subst, ◌∙◌, fun_ext}
 use borrow.Author.Tests.{leb-true, leb-false, eq-eqb, ne_eqb, le-leb, lt-leb}
 use lib.Dec.{leb, eqb}
 use lib.ListN.{length, drop, get_or}
@@ -179,7 +179,7 @@ module _ (r : ℕ → ℕ → Bool) where
 
   -- so no number up to v matters where its copies pass
   passes-up_to : (v y : ℕ) (xs : List ℕ) → r y y ≡ true → y ≤ v → passes r v (y ∷ xs) ≡ passes r v xs
-  passes-up_to v y xs e k = ⊎_elim (λ q. rw (← q) (passes_copy y xs e)) (passes_lesser v y xs) (eq-or-lt_of_le k)
+  passes-up_to v y xs e k = ⊎_elim (λ q. subst (λ (w : ℕ). passes r w (y ∷ xs) ≡ passes r w xs) q (passes_copy y xs e)) (passes_lesser v y xs) (eq-or-lt_of_le k)
 
   -- does each number pass?
   abbrev all_pass : List ℕ → Bool

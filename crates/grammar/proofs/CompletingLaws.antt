@@ -72,7 +72,7 @@ words_complete (suc left) k rest s h l no_word = let e : k + 0 ≡ k = omega ari
 words_complete zero k rest s h l (word_more n d) = absurd (omega arith)
 words_complete (suc left) k rest s h l (word_more {k = j} n d) =
     let e : k + 1 + j ≡ k + suc j = omega arith in
-    let later = words_complete left (k + 1) rest s (omega arith) (omega arith) d in
+    let later = words_complete {j = j} left (k + 1) rest s (omega arith) (omega arith) d in
     rw (number_symbol n, number-within n, later, e)
 
 times_complete : {us : List Token} {k : Times} (rest : Stream) → FTTimes us k → any_times (us ⊕ rest) ≡ read (Occurs k ∷ []) rest

@@ -5,6 +5,7 @@ use mathlib.Core.Logic.{⊎_elim}
 use Rattle.families.proofs.EntriesLaws.{halve_start, halve_up, halve_down, halved_none, halved_other, halved_here}
 use borrow.Author.Rules.{rules}
 use Rattle.families.proofs.entry_of.Goals as goal
+use Rattle.families.proofs.entry_of.Goals.{then-families-low, else-families-low}
 
 pub loop-left-init : goal.loop-left-init
 loop-left-init c = halve_start _ _ _ (search rules)
@@ -12,7 +13,10 @@ loop-left-init c = halve_start _ _ _ (search rules)
 pub loop-left-preserved : goal.loop-left-preserved
 loop-left-preserved c =
     let t = c.loop-left-test.true in
-    ⊎_elim (λ w. rw w.1 (halve_up c.requires c.loop-left.invariant t refl w.0.taken)) (λ w. rw w.1 (halve_down c.requires c.loop-left.invariant t refl w.0.left)) c.if-families-low.branch-raw
+    elim c.if-families-low.branch [
+        then-families-low w ↦ rw w.low-is (halve_up c.requires c.loop-left.invariant t refl w.if-families-low.true)
+        | else-families-low w ↦ rw w.low-is (halve_down c.requires c.loop-left.invariant t refl w.if-families-low.false)
+    ]
 
 pub returns-then-low-eq0 : goal.returns-then-low-eq0
 returns-then-low-eq0 c =

@@ -17,14 +17,14 @@ returns-then-not-operand_fits c =
     let s = c.args.selection.now in
     let e = c.number_at-m.ensures in
     let h : c.loop-c.c ≤ size s = omega (arith, e) in
-    ap fault_of (sym (first-range-here (is_outside s) c.loop-c.c (size s) h (outside s c.number_at-m.result c.loop-c.c e _ _ c.number_at.ensures c.number_at-in-loop-c.ensures _ c.operand_fits.ensures _ c.if-not-operand_fits.true)) ∙ c.loop-c.invariant.2)
+    ap fault_of (sym (first-range-here (is_outside s) c.loop-c.c (size s) h (outside s c.number_at-m.result c.loop-c.c e _ _ c.number_at.ensures c.number_at-in-loop-c.ensures _ c.operand_fits.ensures _ (ap not c.if-not-operand_fits.true))) ∙ c.loop-c.invariant.2)
 
 pub loop-c-preserved : goal.loop-c-preserved
 loop-c-preserved c =
     let s = c.args.selection.now in
     let e = c.number_at-m.ensures in
     let h : c.loop-c.c ≤ size s = omega (arith, e) in
-    (omega arith, omega arith, sym (first-range-later (is_outside s) c.loop-c.c (size s) h (outside s c.number_at-m.result c.loop-c.c e _ _ c.number_at.ensures c.number_at-in-loop-c.ensures _ c.operand_fits.ensures _ c.if-not-operand_fits.false)) ∙ c.loop-c.invariant.2)
+    (omega arith, omega arith, sym (first-range-later (is_outside s) c.loop-c.c (size s) h (outside s c.number_at-m.result c.loop-c.c e _ _ c.number_at.ensures c.number_at-in-loop-c.ensures _ c.operand_fits.ensures _ (ap not c.if-not-operand_fits.false))) ∙ c.loop-c.invariant.2)
 
 pub returns : goal.returns
 returns c =

@@ -12,7 +12,7 @@ loop-p-preserved c =
     let s = c.args.section.now in
     let here : c.args.n + c.loop-p.p + 1 ≡ size s + (c.loop-p.p + 1) = omega arith in
     let before : c.args.n + c.loop-p.p ≡ size s + c.loop-p.p = omega arith in
-    (omega arith, omega arith, summed_more s c.args.from c.loop-p.p c.loop-p.sum c.wrapping_sub_u32-step.result c.loop-p.invariant.0 c.wrapping_sub_u32-step.type_inv (rw (← here, ← before) c.wrapping_sub_u32-step.ensures) c.loop-p.invariant.2)
+    (omega arith, omega arith, summed_more s c.args.from c.loop-p.p c.loop-p.sum c.wrapping_sub_u32-step.result c.loop-p.invariant.0 c.wrapping_sub_u32-step.type_inv (rw (← here, ← before) c.wrapping_sub_u32-step.ensures.value) c.loop-p.invariant.2)
 
 pub returns : goal.returns
 returns c =
