@@ -1,0 +1,55 @@
+use Prim.Native.Nat.{suc, ◌-◌}
+use native.Mathlib.Omega.{arith}
+use mathlib.Core.Path.{◌≡◌, refl}
+use mathlib.Core.Logic.{⊎_elim}
+use Rattle.occurs.proofs.IncludesLaws.{Turn, start, turn, take_next, skip_next, finish}
+use Rattle.occurs.proofs.choices.put_includes.Goals as goal
+use Rattle.occurs.proofs.choices.put_includes.Goals.{In-loop-left}
+
+-- the turn's numbers
+inside : (c : In-loop-left) → Turn c.loop-left.mem c.loop-left.n c.loop-left.from c.loop-left.q c.loop-left.left c.loop-left.weight
+inside c =
+    let c.loop-left = c.loop-left in
+    turn (c.loop-left.invariant.1 c.requires) (c.loop-left.left - 1) (omega (arith, c.loop-left-test.true))
+
+pub loop-left-init : goal.loop-left-init
+loop-left-init c = (refl, λ w. start w c.slot_matches-n.ensures)
+
+pub overflow_mul-with_next : goal.overflow_mul-with_next
+overflow_mul-with_next c = omega (arith, (inside c).product)
+
+pub nonzero_div-with_next : goal.nonzero_div-with_next
+nonzero_div-with_next c = (inside c).some
+
+pub overflow_add-from-then-rest-with_next : goal.overflow_add-from-then-rest-with_next
+overflow_add-from-then-rest-with_next c = omega (arith, inside (goal.at.overflow_add-from-then-rest-with_next c).In-loop-left)
+
+pub copy_up-requires : goal.copy_up-requires
+copy_up-requires c = omega (arith, inside (goal.at.copy_up-requires c).In-loop-left)
+
+pub overflow_add-q : goal.overflow_add-q
+overflow_add-q c = omega (arith, (inside (goal.at.overflow_add-q c).In-loop-left).room)
+
+pub overflow_sub-weight : goal.overflow_sub-weight
+overflow_sub-weight c = (inside (goal.at.overflow_sub-weight c).In-loop-left).no_more
+
+pub overflow_sub-n : goal.overflow_sub-n
+overflow_sub-n c = omega (arith, (inside (goal.at.overflow_sub-n c).In-loop-left).some)
+
+pub overflow_add-from-in-loop-left : goal.overflow_add-from-in-loop-left
+overflow_add-from-in-loop-left c = omega (arith, (inside (goal.at.overflow_add-from-in-loop-left c).In-loop-left).below, (inside (goal.at.overflow_add-from-in-loop-left c).In-loop-left).room)
+
+pub loop-left-smaller : goal.loop-left-smaller
+loop-left-smaller c = omega (arith, (inside (goal.at.loop-left-smaller c).In-loop-left).some)
+
+pub loop-left-preserved : goal.loop-left-preserved
+loop-left-preserved c =
+    let e : c.loop-left.left ≡ suc (c.loop-left.left - 1) = omega (arith, c.loop-left-test.true) in
+    ⊎_elim
+    (λ w. rw (w.5, w.6, w.7, w.8, w.9)
+    (omega (arith, w.2.kept.0, c.loop-left.invariant.0), λ v. take_next (c.loop-left.invariant.1 v) (c.loop-left.left - 1) e w.0.taken w.2.ensures))
+    (λ w. rw (w.1, w.2, w.3, w.4, w.5) (c.loop-left.invariant.0, λ v. skip_next (c.loop-left.invariant.1 v) (c.loop-left.left - 1) e w.0.left))
+    c.if-rest-with_next.branch-raw
+
+pub returns : goal.returns
+returns c w = finish (c.loop-left.invariant.1 w) c.loop-left-test.false
