@@ -213,7 +213,7 @@ module _ (r : ℕ → ℕ → Bool) where
       less h = all_pass_less y z xs h a.1.0
 
       equal : y ≡ z → (r y z && all_pass (z ∷ xs)) ≡ all_pass (y ∷ z ∷ xs)
-      equal e = rw e (all_pass_copy z xs a.1.0)
+      equal e = subst (λ (w : ℕ). (r w z && all_pass (z ∷ xs)) ≡ all_pass (w ∷ z ∷ xs)) (sym e) (all_pass_copy z xs a.1.0)
 
   passes-sort : (xs : List ℕ) (v : ℕ) → passes r v (sort leb xs) ≡ passes r v xs
   passes-sort xs v = ap₂ (passing r v) (foldr_sort _ (counted_swap v) leb 0 xs) (foldr_sort _ (nearer_swap v) leb v xs)

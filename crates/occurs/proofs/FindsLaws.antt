@@ -60,7 +60,7 @@ find_at {mem} {from} (s ∷ ss) zero h k =
     let e : from + 1 ≡ from + 3 * 0 + 1 = omega arith in
     record { first = s; others = ss; is = refl; string = subst (λ p. Holds mem p (span_of s ∷ tag_of 0 s ∷ [])) e (first-find s ss h).string }
 find_at {mem} {from} (s ∷ ss) (suc d) h k =
-    let f = find_at ss d (first-find s ss h).after (omega arith) in
+    let f = find_at {from = from + 3} ss d (first-find s ss h).after (omega arith) in
     let t = f.first in
     let e : from + 3 + 3 * d + 1 ≡ from + 3 * suc d + 1 = omega arith in
     record { first = t; others = f.others; is = f.is; string = subst (λ p. Holds mem p (span_of t ∷ tag_of 0 t ∷ [])) e f.string }

@@ -14,8 +14,6 @@ one c = (here (c.loop-i.invariant.2 c.requires.column_at) c.loop-i-test.true).he
 room : (c : After-strings_in-strings) → Room c.args.mem.now c.loop-i.buffer c.loop-i.from c.loop-i.q c.strings_in-strings.result
 room c = column_room _ (c.loop-i.invariant.2 c.requires.column_at) c.loop-i-test.true c.strings_in-strings.ensures c.requires.column_at.room
 
-)
-
 pub loop-i-init : goal.loop-i-init
 loop-i-init c = (search rules, refl, λ w. start w.stream w.count)
 
@@ -43,6 +41,7 @@ loop-i-preserved c = (
   search rules,
   λ w. column_step _ (c.loop-i.invariant.2 w) c.loop-i-test.true c.strings_in-strings.ensures c.bounds_at-bounds.ensures c.requires.column_bound
       c.copy_every_second.ensures,
+)
 
 pub returns : goal.returns
 returns c w = finish (c.loop-i.invariant.2 w) c.loop-i-test.false

@@ -14,8 +14,6 @@ here-turn : (c : After-strings_in-weight)
     → Turn c.loop-i.mem c.args.sort c.bounds_at-bounds.result.includes c.loop-i.q c.loop-i.rest c.loop-i.weight c.strings_in-weight.result
 here-turn c = turn (c.loop-i.invariant.2 c.requires) c.loop-i-test.true c.bounds_at-bounds.ensures c.strings_in-weight.ensures
 
-)
-
 pub loop-i-init : goal.loop-i-init
 loop-i-init c = (search rules, refl, λ w. start w c.slot_matches-n.ensures)
 
@@ -51,6 +49,7 @@ loop-i-preserved c = (
   search rules,
   search rules,
   λ w. step (c.loop-i.invariant.2 w) c.loop-i-test.true c.bounds_at-bounds.ensures c.strings_in-weight.ensures c.put_turned-q.ensures,
+)
 
 pub returns : goal.returns
 returns c w = finish (c.loop-i.invariant.2 w) c.loop-i-test.false

@@ -9,7 +9,6 @@ use Rattle.occurs.proofs.choices.put_includes.Goals.{In-loop-left}
 -- the turn's numbers
 inside : (c : In-loop-left) → Turn c.loop-left.mem c.loop-left.n c.loop-left.from c.loop-left.q c.loop-left.left c.loop-left.weight
 inside c =
-    let c.loop-left = c.loop-left in
     turn (c.loop-left.invariant.1 c.requires) (c.loop-left.left - 1) (omega (arith, c.loop-left-test.true))
 
 pub loop-left-init : goal.loop-left-init

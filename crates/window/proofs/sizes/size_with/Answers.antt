@@ -14,5 +14,4 @@ size_around-requires c =
 
 pub returns : goal.returns
 returns c w =
-    let x = c.extent_of-extent.ensures in
-    size-counted w c.bounds_at-includes.ensures c.if-includes-excludes.false x.0 x.1 c.size_around.ensures
+    size-counted w c.bounds_at-includes.ensures c.if-includes-excludes.false c.extent_of-extent.ensures.start_value c.extent_of-extent.ensures.end_value c.size_around.ensures
