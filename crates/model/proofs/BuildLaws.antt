@@ -66,9 +66,9 @@ module _ (at : ℕ → Shape) (hi lo : ℕ) (w : PartAt at hi) (e : lo ≡ part_
   part-size = omega (arith, part-ends)
 
   -- the part's own codes are those after lo
-  pub part_codes : up_to (λ i. at (lo + i)) (hi - lo) ≡ postfix w.tree
+  pub part_codes_lem : up_to (λ i. at (lo + i)) (hi - lo) ≡ postfix w.tree
   unfolding codes_of_trees
-  part_codes =
+  part_codes_lem =
       sym (drop_at (up_to at lo) (up_to own (hi - lo)) lo (length-up_to at lo)) ∙ ap (drop lo) (sym (up_to_split at lo hi (omega (arith, part-ends))) ∙ w.spells)
       ∙ drop_at (codes_of_trees w.below) (postfix w.tree) lo (sym part-below)
 
@@ -84,12 +84,12 @@ module _ (at : ℕ → Shape) (hi lo : ℕ) (w : PartAt at hi) (e : lo ≡ part_
   built_tree =
       let p : lo + 1 ≡ place_after w.below = omega (arith, part-below) in
       let q : lo + 1 + length (postfix w.tree) ≡ hi + 1 = omega (arith, part-ends) in
-      state-read at lo rank (hi - lo) ∙ ap (λ (l : List Shape). read_all l (fresh (lo + 1) rank)) part_codes ∙ read-part w.tree [] (lo + 1) rank
+      state-read at lo rank (hi - lo) ∙ ap (λ (l : List Shape). read_all l (fresh (lo + 1) rank)) part_codes_lem ∙ read-part w.tree [] (lo + 1) rank
       ∙ ap₂ (λ (t : Tree) (k : ℕ). state (t ∷ []) [] k (rank + phrases w.tree)) (ap (λ (k : ℕ). renumbered k rank w.tree) p ∙ w.numbered) q
 
   module _ (fine : well_formed (postfix w.tree) ≡ true) where
     alone : well_formed (up_to own (hi - lo)) ≡ true
-    alone = ap well_formed part_codes ∙ fine
+    alone = ap well_formed part_codes_lem ∙ fine
 
     -- each of its codes fits where it stands
     pub built_fits : (n : ℕ) → n < hi - lo → Fits (at (lo + suc n)) (state_at at lo (rank_after w.below) n)

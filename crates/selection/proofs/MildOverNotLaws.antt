@@ -11,7 +11,7 @@ use Rattle.model.specs.Lists.{any_of}
 use Rattle.model.specs.Parts.{is_not_code, is_mild_not, postfix, PartAt, part_start}
 use Rattle.model.specs.Selection.{code_at}
 use Rattle.model.specs.Trees.{Tree, pair, parts}
-use Rattle.model.proofs.BuildLaws.{part_codes}
+use Rattle.model.proofs.BuildLaws.{part_codes_lem}
 use Rattle.model.proofs.ChecksLaws.{has_not_lem}
 use Rattle.model.proofs.ListsLaws.{any_append}
 use Rattle.model.proofs.PartsLaws.{word_at, pair-at, change-at, phrase-at}
@@ -39,7 +39,7 @@ mild_told_at at c = is_mild_not (at c) && any_of is_not_code (part_codes at c)
 
 pub mild_told : (at : ℕ → Shape) (c : ℕ) (w : PartAt at c) → mild_over_not w.tree ≡ mild_told_at at c
 unfolding part_codes
-mild_told at c w = mild_part at c w (at c) refl ∙ ap (λ cs. is_mild_not (at c) && any_of is_not_code cs) (sym (part_codes at c (part_start at c) w refl))
+mild_told at c w = mild_part at c w (at c) refl ∙ ap (λ cs. is_mild_not (at c) && any_of is_not_code cs) (sym (part_codes_lem at c (part_start at c) w refl))
 
 -- a mild not is no word
 pub mild_ends : (code : Shape) → is_mild_not code ≡ true → is_word code ≡ false

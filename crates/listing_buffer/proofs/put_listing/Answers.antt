@@ -10,10 +10,10 @@ use Rattle.listing_buffer.proofs.put_listing.Goals.{After-put_column, After-put_
 
 -- the buffer keeps its length
 long : (c : After-put_counts) → buffer_length ≤ length c.put_counts.new.buffer
-long c = omega (arith, simp length-set at c.put_counts.auto.1.1.1.0)
+long c = omega (arith, simp length-set at c.put_counts.auto.buffer)
 
 longer : (c : After-put_column) → buffer_length ≤ length c.put_column.new.buffer
-longer c = omega (arith, long c, c.put_column.auto.1.1.1.1.0)
+longer c = omega (arith, simp length-set at c.put_counts.auto.buffer,  c.put_column.auto.buffer)
 
 -- the two counts
 counts : (c : After-slot_strings-strings) → CountsAre c.args.mem.now c.args.src c.slot_matches-matches.result c.slot_strings-strings.result
@@ -33,11 +33,11 @@ put_column-requires-2 c = record { column_at = column_given c.requires.slot_at.s
 
 pub shape_of-buffer : goal.shape_of-buffer
 shape_of-buffer c =
-    c.put_column-2.auto.1.1.1.1.0 ∙ c.put_column.auto.1.1.1.1.0 ∙ c.put_counts.auto.1.1.1.0 ∙ simp length-set
+    c.put_column-2.auto.buffer ∙ c.put_column.auto.buffer ∙ c.put_counts.auto.buffer ∙ simp length-set
 
 pub returns : goal.returns
 returns c w =
     let s = w.slot in
     let k = counts (goal.at.returns c).After-slot_strings-strings in
-    listed s k _ (c.put_counts.ensures (counts_given s k)) (c.put_column.ensures (column_given s k _ (omega arith) (long c)))
-    (c.put_column-2.ensures (column_given s k _ (omega arith) (longer c)))
+    listed s k _ (c.put_counts.ensures (counts_given s k)) (c.put_column.ensures (column_given s k _ (omega arith) (long (goal.at.returns c).After-put_counts)))
+    (c.put_column-2.ensures (column_given s k _ (omega arith) (longer (goal.at.returns c).After-put_column)))

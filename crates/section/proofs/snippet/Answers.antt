@@ -46,4 +46,4 @@ returns c =
     let s = c.args.section.now in
     let o = checked_accepted (size s) (section_refusal s) (sym c.check_section-checked.ensures ∙ c.in-Accepted.is) in
     let e = within s c.args.from.0 c.args.to.0 o.0 c.if-from-lt1.false c.if-to-from.false (omega (arith, o.1, c.if-n-to.false)) in
-    record { result_value = the_words s c.args.from.0 c.args.to.0 e; ref_ptr_value = at_from s c.args.from.0 c.args.to.0 e c.args.section.ptr }
+    record { result_value = the_words s c.args.from.0 c.args.to.0 e; ref_ptr_value = at_from s c.args.from.0 c.args.to.0 e c.args.section.ref_ptr }

@@ -4,7 +4,7 @@ use mathlib.Core.Path.{◌≡◌, refl}
 use mathlib.Core.Logic.{⊎_elim}
 use Rattle.occurs.proofs.IncludesLaws.{Turn, start, turn, take_next, skip_next, finish}
 use Rattle.occurs.proofs.choices.put_includes.Goals as goal
-use Rattle.occurs.proofs.choices.put_includes.Goals.{In-loop-left}
+use Rattle.occurs.proofs.choices.put_includes.Goals.{In-loop-left, then-rest-with_next, else-rest-with_next}
 
 -- the turn's numbers
 inside : (c : In-loop-left) → Turn c.loop-left.mem c.loop-left.n c.loop-left.from c.loop-left.q c.loop-left.left c.loop-left.weight
@@ -44,11 +44,14 @@ loop-left-smaller c = omega (arith, (inside (goal.at.loop-left-smaller c).In-loo
 pub loop-left-preserved : goal.loop-left-preserved
 loop-left-preserved c =
     let e : c.loop-left.left ≡ suc (c.loop-left.left - 1) = omega (arith, c.loop-left-test.true) in
-    ⊎_elim
-    (λ w. rw (w.5, w.6, w.7, w.8, w.9)
-    (omega (arith, w.2.kept.0, c.loop-left.invariant.0), λ v. take_next (c.loop-left.invariant.1 v) (c.loop-left.left - 1) e w.0.taken w.2.ensures))
-    (λ w. rw (w.1, w.2, w.3, w.4, w.5) (c.loop-left.invariant.0, λ v. skip_next (c.loop-left.invariant.1 v) (c.loop-left.left - 1) e w.0.left))
-    c.if-rest-with_next.branch-raw
+    elim c.if-rest-with_next.branch [
+        then-rest-with_next w ↦
+            rw (w.mem-is, w.q-is, w.left-is, w.rest-is, w.weight-is)
+            (omega (arith, w.copy_up.auto.mem, c.loop-left.invariant.0), λ v. take_next (c.loop-left.invariant.1 v) (c.loop-left.left - 1) e w.if-rest-with_next.true w.copy_up.ensures)
+        | else-rest-with_next w ↦
+            rw (w.mem-is, w.q-is, w.left-is, w.rest-is, w.weight-is)
+            (c.loop-left.invariant.0, λ v. skip_next (c.loop-left.invariant.1 v) (c.loop-left.left - 1) e w.if-rest-with_next.false)
+    ]
 
 pub returns : goal.returns
 returns c w = finish (c.loop-left.invariant.1 w) c.loop-left-test.false
