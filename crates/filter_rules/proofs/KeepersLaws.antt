@@ -1,9 +1,8 @@
 -- What a keeper gives of a match is, by definition, what its filter gives.
+use Prim.Native.Nat.{ℕ}
 use mathlib.Core.Path.{◌≡◌, refl, ap}
 use mathlib.Core.Bool.{false}
-use mathlib.Core.List.{List, [], ◌∷◌, flat_map}
-use denote.Enum.Declared.{tag_of}
-use types.Run.{OneOf, miss}
+use mathlib.Core.List.{List, flat_map}
 use Rattle.model.specs.AllMatches.{filter_match, filter_list}
 use Rattle.model.specs.Matches.{Match}
 use Rattle.model.specs.Rules.{kept}
@@ -11,7 +10,6 @@ use Rattle.model.specs.Section.{Section}
 use Rattle.filter_rules.specs.declared.Keeper.{Keeper}
 use Rattle.filter_rules.specs.declared.Keeper.TheVariants.{Ordered, Distance, SameSentence, SameParagraph, DifferentSentence, DifferentParagraph, AtStart, AtEnd, EntireContent}
 use Rattle.filter_rules.specs.declared.Rule.TheVariants.{Keep}
-use Rattle.filter_rules.specs.contracts.Keeper.{the_type}
 use Rattle.filter_rules.specs.Keepers.{filter_of, keeping_of}
 
 pub keeper_match : (s : Section) (k : Keeper) → kept (keeping_of s k) ≡ filter_match s (filter_of (Keep k))
@@ -29,14 +27,14 @@ pub keeper_list : (s : Section) (k : Keeper) (ms : List Match) → flat_map (kep
 unfolding filter_list
 keeper_list s k ms = ap (λ F. flat_map F ms) (keeper_match s k)
 
--- no filter joins but distance, by their tags
-pub no_join : (s : Section) (k : Keeper) → OneOf (0 ∷ 2 ∷ 3 ∷ 4 ∷ 5 ∷ 6 ∷ 7 ∷ 8 ∷ []) (tag_of the_type k) → false ≡ (keeping_of s k).joins
-no_join s Ordered t = refl
-no_join s (Distance a b) t = absurd (miss (0 ∷ 2 ∷ 3 ∷ 4 ∷ 5 ∷ 6 ∷ 7 ∷ 8 ∷ []) 1 tt t)
-no_join s SameSentence t = refl
-no_join s SameParagraph t = refl
-no_join s DifferentSentence t = refl
-no_join s DifferentParagraph t = refl
-no_join s AtStart t = refl
-no_join s AtEnd t = refl
-no_join s EntireContent t = refl
+-- no filter joins but distance
+pub no_join : (s : Section) (k : Keeper) → ((least most : ℕ) → k ≡ Distance least most → ⊥) → false ≡ (keeping_of s k).joins
+no_join s Ordered other = refl
+no_join s (Distance a b) other = absurd (other a b refl)
+no_join s SameSentence other = refl
+no_join s SameParagraph other = refl
+no_join s DifferentSentence other = refl
+no_join s DifferentParagraph other = refl
+no_join s AtStart other = refl
+no_join s AtEnd other = refl
+no_join s EntireContent other = refl
