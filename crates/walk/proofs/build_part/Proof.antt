@@ -16,7 +16,7 @@ rank-at-requires c κs = search rules
 add-build : tie.Need-overflow-add-build
 add-build c =
     let s = c.before.before.before.before.before.before in
-    omega (arith, rank-few s.requires.0, c.before.rank-at.ensures, ap (λ (l : ℕ). phrases_in (up_to (shape_at s.args.selection.now) l)) s.requires.1, s.requires.0.up_to_lem, s.requires.0.in_selection.few)
+    omega (arith, rank-few s.requires.0, c.before.rank-at.ensures, ap (λ (l : ℕ). phrases_in (up_to (shape_at s.args.selection.now) l)) s.requires.1, s.requires.0.up_to, s.requires.0.in_selection.few)
 
 build-requires : tie.Need-build-requires
 build-requires c κs = buildable c.before.before.before.before.before.before.requires.0 c.before.before.before.before.before.before.requires.1 c.before.rank-at.ensures

@@ -1,0 +1,12 @@
+-- The last two lists that wait are the two slots; the product is built above them all, so that the rest is as it was.
+use Rattle.build.proofs.StepsLaws.{two_slots, two_unders, two_in_scratch, two_moved}
+use Rattle.build.proofs.steps.build_mild_not.Goals as goal
+
+pub mild_not_list-built-requires : goal.mild_not_list-built-requires
+mild_not_list-built-requires c = (two_slots c.requires, two_unders c.requires)
+
+pub move_from_scratch-requires : goal.move_from_scratch-requires
+move_from_scratch-requires c = two_in_scratch c.requires c.mild_not_list-built.ensures
+
+pub returns : goal.returns
+returns c w = two_moved w c.mild_not_list-built.ensures c.move_from_scratch.ensures
