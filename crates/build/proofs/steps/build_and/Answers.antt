@@ -3,7 +3,7 @@ use Rattle.build.proofs.StepsLaws.{two_slots, two_unders, two_in_scratch, two_mo
 use Rattle.build.proofs.steps.build_and.Goals as goal
 
 pub and_list-built-requires : goal.and_list-built-requires
-and_list-built-requires c = (two_slots c.requires, two_unders c.requires)
+and_list-built-requires c = record { two_slots = two_slots c.requires; slot_below = (two_unders c.requires).0; slot_below_2 = (two_unders c.requires).1 }
 
 pub move_from_scratch-requires : goal.move_from_scratch-requires
 move_from_scratch-requires c = two_in_scratch c.requires c.and_list-built.ensures
