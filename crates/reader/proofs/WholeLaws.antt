@@ -1,5 +1,5 @@
 -- The whole text: a selection and the end, as the grammar's functions say it, and so the text's answer.
-use Prim.Native.Nat.{ℕ, suc, ◌+◌, ◌-◌, ◌≤◌, ◌<◌}
+use Prim.Native.Nat.{ℕ, suc, ◌+◌, ◌≤◌, ◌<◌}
 use native.Mathlib.Omega.{arith}
 use mathlib.Core.Bool.{false}
 use mathlib.Core.List.{List, []}
@@ -15,7 +15,7 @@ use Rattle.model.specs.Limits.{max_codes, max_text}
 use Rattle.model.specs.TextAnswer.{TextAnswer, codes, error}
 use Rattle.grammar.specs.Stream.{Stream, ends, token, rest_of, stream_at}
 use Rattle.grammar.specs.Symbols.{symbol_in, no_more}
-use Rattle.grammar.specs.Grammar.{failed, read, prefixed, ◌then◌, expect, ft_selection, answer_in, outcome_of, read_text}
+use Rattle.grammar.specs.Grammar.{failed, read, prefixed, expect, ft_selection, answer_in, outcome_of, read_text}
 use Rattle.grammar.proofs.SymbolsLaws.{symbol_more}
 use Rattle.scanner.specs.Scanned.{Scanned, start_of, symbol_at}
 use Rattle.flat_rules.specs.Answers.{Answers, ReadsTo, Says, pairs}
