@@ -28,14 +28,13 @@ overflow_add-next c =
     omega (arith, c.phrases_ended-next.ensures, phrases_ended-le (shape_of c.code_at-code.result), rank-few c.requires (c.loop-place.invariant.2 c.requires), c.requires.in_selection.few)
 
 pub loop-place-preserved : goal.loop-place-preserved
-loop-place-preserved c =
-    (
-      search rules,
-      omega (arith, c.build_code-built.auto.mem, c.loop-place.invariant.1),
-      λ w.
-          go_on w (c.loop-place.invariant.2 w) c.loop-place-test.true refl c.code_at-code.ensures c.build_code-built.ensures c.in-Made.is c.build_code-built.auto.mem
-          c.lists_after-lists.ensures (ap (λ (k : ℕ). c.loop-place.next + k) c.phrases_ended-next.ensures),
-    )
+loop-place-preserved c = (
+  search rules,
+  omega (arith, c.build_code-built.auto.mem, c.loop-place.invariant.1),
+  λ w.
+      go_on w (c.loop-place.invariant.2 w) c.loop-place-test.true refl c.code_at-code.ensures c.build_code-built.ensures c.in-Made.is c.build_code-built.auto.mem
+      c.lists_after-lists.ensures (ap (λ (k : ℕ). c.loop-place.next + k) c.phrases_ended-next.ensures),
+)
 
 pub returns : goal.returns
 returns c w =

@@ -18,8 +18,8 @@ loop-i-preserved c =
     let v = c.args.span in
     let x = get_or c.args.strs.now c.loop-i.i 0 in
     let one : counted v x c.loop-i.copies ≡ c.if-strs-i.copies = elim c.if-strs-i.branch [
-        then-strs-i w ↦ rw (eq-eqb x v w.if-strs-i.true) (sym w.copies-is)
-        | else-strs-i w ↦ rw (ne_eqb x v w.if-strs-i.false) (sym w.copies-is)
+      | then-strs-i w ↦ rw (eq-eqb x v w.if-strs-i.true) (sym w.copies-is)
+      | else-strs-i w ↦ rw (ne_eqb x v w.if-strs-i.false) (sym w.copies-is)
     ] in
     let few : c.if-strs-i.copies ≤ c.loop-i.i + 2 = elim c.if-strs-i.branch [ then-strs-i w ↦ omega arith | else-strs-i w ↦ omega arith ] in
     (few, gathered_next _ (counted_swap _) c.loop-i.invariant.1 c.loop-i-test.true _ one, gathered_next _ (nearer_swap _) c.loop-i.invariant.2 c.loop-i-test.true _ (sym c.nearer-above.ensures))

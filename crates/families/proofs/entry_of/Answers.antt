@@ -13,8 +13,8 @@ pub loop-left-preserved : goal.loop-left-preserved
 loop-left-preserved c =
     let t = c.loop-left-test.true in
     elim c.if-families-low.branch [
-        then-families-low w ↦ rw w.low-is (halve_up c.requires c.loop-left.invariant t refl w.if-families-low.true)
-        | else-families-low w ↦ rw w.low-is (halve_down c.requires c.loop-left.invariant t refl w.if-families-low.false)
+      | then-families-low w ↦ rw w.low-is (halve_up c.requires c.loop-left.invariant t refl w.if-families-low.true)
+      | else-families-low w ↦ rw w.low-is (halve_down c.requires c.loop-left.invariant t refl w.if-families-low.false)
     ]
 
 pub returns-then-low-eq0 : goal.returns-then-low-eq0

@@ -27,12 +27,11 @@ pub overflow_add-at : goal.overflow_add-at
 overflow_add-at c = omega (arith, one (goal.at.overflow_add-at c).In-loop-i, c.match_length-at.ensures)
 
 pub loop-i-preserved : goal.loop-i-preserved
-loop-i-preserved c =
-    (
-      search rules,
-      simp length-set c.loop-i.invariant.1,
-      λ w. count_step (c.loop-i.invariant.2 w) c.loop-i-test.true c.strings_in.ensures c.match_length-at.ensures,
-    )
+loop-i-preserved c = (
+  search rules,
+  simp length-set c.loop-i.invariant.1,
+  λ w. count_step (c.loop-i.invariant.2 w) c.loop-i-test.true c.strings_in.ensures c.match_length-at.ensures,
+)
 
 pub returns : goal.returns
 returns c w = count_finish (c.loop-i.invariant.2 w) c.loop-i-test.false

@@ -13,7 +13,7 @@ long : (c : After-put_counts) → buffer_length ≤ length c.put_counts.new.buff
 long c = omega (arith, simp length-set at c.put_counts.auto.buffer)
 
 longer : (c : After-put_column) → buffer_length ≤ length c.put_column.new.buffer
-longer c = omega (arith, simp length-set at c.put_counts.auto.buffer,  c.put_column.auto.buffer)
+longer c = omega (arith, simp length-set at c.put_counts.auto.buffer, c.put_column.auto.buffer)
 
 -- the two counts
 counts : (c : After-slot_strings-strings) → CountsAre c.args.mem.now c.args.src c.slot_matches-matches.result c.slot_strings-strings.result

@@ -16,11 +16,11 @@ overflow_add-n c = omega (arith, c.parts_ended-n.ensures, parts_ended-le (shape_
 
 pub loop-c-preserved : goal.loop-c-preserved
 loop-c-preserved c = (
-      omega arith,
-      omega arith,
-      omega (arith, c.parts_ended-n.ensures, parts_ended-le (shape_of c.code_at-code.result)),
-      part_count-more (shape_at c.args.selection.now) c.loop-c.c _ _ _ _ (ap shape_of c.code_at-code.ensures) c.loop-c.invariant.3 c.parts_ended-n.ensures,
-    )
+  omega arith,
+  omega arith,
+  omega (arith, c.parts_ended-n.ensures, parts_ended-le (shape_of c.code_at-code.result)),
+  part_count-more (shape_at c.args.selection.now) c.loop-c.c _ _ _ _ (ap shape_of c.code_at-code.ensures) c.loop-c.invariant.3 c.parts_ended-n.ensures,
+)
 
 pub returns : goal.returns
 returns c = let z : c.loop-c.c ≡ c.args.hi = omega arith in

@@ -14,13 +14,12 @@ put_window-next-requires c =
     each-window c.requires (c.loop-last.invariant.1 c.requires) c.loop-last-test.true
 
 pub loop-last-preserved : goal.loop-last-preserved
-loop-last-preserved c =
-    (
-      search rules,
-      λ w.
-          let g = c.loop-last.invariant.1 w in
-          each_next w g c.loop-last-test.true (c.put_window-next.ensures (each-window w g c.loop-last-test.true)),
-    )
+loop-last-preserved c = (
+  search rules,
+  λ w.
+      let g = c.loop-last.invariant.1 w in
+      each_next w g c.loop-last-test.true (c.put_window-next.ensures (each-window w g c.loop-last-test.true)),
+)
 
 pub returns : goal.returns
 returns c w = each-end w (c.loop-last.invariant.1 w) (omega arith) c.loop-last-test.false

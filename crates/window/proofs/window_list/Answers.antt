@@ -26,14 +26,13 @@ pub put_windows-q-requires : goal.put_windows-q-requires
 put_windows-q-requires c = record { window_size = c.requires.window_size; one_at = here (goal.at.put_windows-q-requires c).In-loop-i }
 
 pub loop-i-preserved : goal.loop-i-preserved
-loop-i-preserved c =
-    (
-      search rules,
-      search rules,
-      λ w.
-          let g = c.loop-i.invariant.2 w in
-          step g c.loop-i-test.true (c.put_windows-q.ensures (item g c.loop-i-test.true)) c.match_end-end.ensures,
-    )
+loop-i-preserved c = (
+  search rules,
+  search rules,
+  λ w.
+      let g = c.loop-i.invariant.2 w in
+      step g c.loop-i-test.true (c.put_windows-q.ensures (item g c.loop-i-test.true)) c.match_end-end.ensures,
+)
 
 pub returns : goal.returns
 returns c w =

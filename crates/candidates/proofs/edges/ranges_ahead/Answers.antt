@@ -21,13 +21,12 @@ pub match_end-at-requires : goal.match_end-at-requires
 match_end-at-requires c = (one (goal.at.match_end-at-requires c).In-loop-i).held.header
 
 pub loop-i-preserved : goal.loop-i-preserved
-loop-i-preserved c =
-    (
-      omega arith,
-      λ w.
-          let g = c.loop-i.invariant.1 w in
-          widening_next g c.loop-i-test.true c.if-i-eq-AHEAD.false (c.with_match-ranges.ensures (widening_at g c.loop-i-test.true)) c.match_end-at.ensures,
-    )
+loop-i-preserved c = (
+  omega arith,
+  λ w.
+      let g = c.loop-i.invariant.1 w in
+      widening_next g c.loop-i-test.true c.if-i-eq-AHEAD.false (c.with_match-ranges.ensures (widening_at g c.loop-i-test.true)) c.match_end-at.ensures,
+)
 
 pub returns : goal.returns
 returns c w = widening_end (c.loop-i.invariant.1 w) c.loop-i-test.false

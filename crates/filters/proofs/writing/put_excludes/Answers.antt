@@ -14,11 +14,10 @@ put_exclude-q-requires c =
     exclude-fits (keeping_of (section_of c.args.section.now) c.args.keeper) c.requires (c.loop-k.invariant.1 c.requires) c.loop-k-test.true
 
 pub loop-k-preserved : goal.loop-k-preserved
-loop-k-preserved c =
-    (
-      search rules,
-      λ w. stay_step (keeping_of (section_of c.args.section.now) c.args.keeper) w (c.loop-k.invariant.1 w) c.loop-k-test.true c.put_exclude-q.ensures,
-    )
+loop-k-preserved c = (
+  search rules,
+  λ w. stay_step (keeping_of (section_of c.args.section.now) c.args.keeper) w (c.loop-k.invariant.1 w) c.loop-k-test.true c.put_exclude-q.ensures,
+)
 
 pub returns : goal.returns
 returns c w =

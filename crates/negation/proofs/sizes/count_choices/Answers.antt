@@ -28,12 +28,11 @@ pub overflow_add-at-in-loop-i : goal.overflow_add-at-in-loop-i
 overflow_add-at-in-loop-i c = omega (arith, one (goal.at.overflow_add-at-in-loop-i c).In-loop-i, c.match_length-at.ensures)
 
 pub loop-i-preserved : goal.loop-i-preserved
-loop-i-preserved c =
-    (
-      search rules,
-      omega (arith, c.product-total.ensures),
-      λ w. step (c.loop-i.invariant.2 w) c.loop-i-test.true c.strings_in.ensures c.product-total.ensures c.match_length-at.ensures,
-    )
+loop-i-preserved c = (
+  search rules,
+  omega (arith, c.product-total.ensures),
+  λ w. step (c.loop-i.invariant.2 w) c.loop-i-test.true c.strings_in.ensures c.product-total.ensures c.match_length-at.ensures,
+)
 
 pub returns : goal.returns
 returns c w = finish (c.loop-i.invariant.2 w) c.loop-i.invariant.1 c.loop-i-test.false

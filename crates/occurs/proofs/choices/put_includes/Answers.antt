@@ -45,12 +45,12 @@ pub loop-left-preserved : goal.loop-left-preserved
 loop-left-preserved c =
     let e : c.loop-left.left ≡ suc (c.loop-left.left - 1) = omega (arith, c.loop-left-test.true) in
     elim c.if-rest-with_next.branch [
-        then-rest-with_next w ↦
-            rw (w.mem-is, w.q-is, w.left-is, w.rest-is, w.weight-is)
-            (omega (arith, w.copy_up.auto.mem, c.loop-left.invariant.0), λ v. take_next (c.loop-left.invariant.1 v) (c.loop-left.left - 1) e w.if-rest-with_next.true w.copy_up.ensures)
-        | else-rest-with_next w ↦
-            rw (w.mem-is, w.q-is, w.left-is, w.rest-is, w.weight-is)
-            (c.loop-left.invariant.0, λ v. skip_next (c.loop-left.invariant.1 v) (c.loop-left.left - 1) e w.if-rest-with_next.false)
+      | then-rest-with_next w ↦
+          rw (w.mem-is, w.q-is, w.left-is, w.rest-is, w.weight-is)
+          (omega (arith, w.copy_up.auto.mem, c.loop-left.invariant.0), λ v. take_next (c.loop-left.invariant.1 v) (c.loop-left.left - 1) e w.if-rest-with_next.true w.copy_up.ensures)
+      | else-rest-with_next w ↦
+          rw (w.mem-is, w.q-is, w.left-is, w.rest-is, w.weight-is)
+          (c.loop-left.invariant.0, λ v. skip_next (c.loop-left.invariant.1 v) (c.loop-left.left - 1) e w.if-rest-with_next.false)
     ]
 
 pub returns : goal.returns

@@ -12,13 +12,12 @@ use Rattle.or_and.proofs.and.and_size.Goals.{After-slot_strings-right}
 few : (c : After-slot_strings-right)
     → (c.slot_matches-m.result ≤ max_matches) × (c.slot_matches-n.result ≤ max_matches)
     × (c.slot_strings-left.result ≤ max_strings) × (c.slot_strings-right.result ≤ max_strings)
-few c =
-    (
-      omega (arith, c.slot_matches-m.ensures, c.requires.left.header),
-      omega (arith, c.slot_matches-n.ensures, c.requires.right.header),
-      omega (arith, c.slot_strings-left.ensures, c.requires.left.header),
-      omega (arith, c.slot_strings-right.ensures, c.requires.right.header),
-    )
+few c = (
+  omega (arith, c.slot_matches-m.ensures, c.requires.left.header),
+  omega (arith, c.slot_matches-n.ensures, c.requires.right.header),
+  omega (arith, c.slot_strings-left.ensures, c.requires.left.header),
+  omega (arith, c.slot_strings-right.ensures, c.requires.right.header),
+)
 
 pub overflow_mul-m : goal.overflow_mul-m
 overflow_mul-m c = omega (arith, mul-le-mul (few c).0 (few c).1)

@@ -19,13 +19,12 @@ pub put_joined-q-requires : goal.put_joined-q-requires
 put_joined-q-requires c = one (goal.at.put_joined-q-requires c).In-loop-j
 
 pub loop-j-preserved : goal.loop-j-preserved
-loop-j-preserved c =
-    (
-      search rules,
-      search rules,
-      λ w. let g = c.loop-j.invariant.2 w in
-          row_step w.row g c.loop-j-test.true (c.put_joined-q.ensures (row-item w.row g c.loop-j-test.true)) c.match_end-end.ensures,
-    )
+loop-j-preserved c = (
+  search rules,
+  search rules,
+  λ w. let g = c.loop-j.invariant.2 w in
+      row_step w.row g c.loop-j-test.true (c.put_joined-q.ensures (row-item w.row g c.loop-j-test.true)) c.match_end-end.ensures,
+)
 
 pub returns : goal.returns
 returns c w = row_finish w.row (c.loop-j.invariant.2 w) c.loop-j-test.false

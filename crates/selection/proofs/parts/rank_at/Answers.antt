@@ -14,12 +14,11 @@ pub overflow_add-rank : goal.overflow_add-rank
 overflow_add-rank c = omega (arith, c.phrases_ended-rank.ensures, phrases_ended-le (shape_of c.code_at-code.result))
 
 pub loop-c-preserved : goal.loop-c-preserved
-loop-c-preserved c =
-    (
-      omega arith,
-      omega (arith, c.phrases_ended-rank.ensures, phrases_ended-le (shape_of c.code_at-code.result)),
-      phrases_in-more (shape_at c.args.selection.now) c.loop-c.c _ (ap shape_of c.code_at-code.ensures) _ _ c.loop-c.invariant.2 c.phrases_ended-rank.ensures,
-    )
+loop-c-preserved c = (
+  omega arith,
+  omega (arith, c.phrases_ended-rank.ensures, phrases_ended-le (shape_of c.code_at-code.result)),
+  phrases_in-more (shape_at c.args.selection.now) c.loop-c.c _ (ap shape_of c.code_at-code.ensures) _ _ c.loop-c.invariant.2 c.phrases_ended-rank.ensures,
+)
 
 pub returns : goal.returns
 returns c =
