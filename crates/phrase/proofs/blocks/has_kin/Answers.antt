@@ -1,6 +1,4 @@
-use Prim.Native.Nat.{◌-◌}
 use native.Mathlib.Omega.{arith}
-use mathlib.Core.Bool.{false}
 use Rattle.model.proofs.TestsLaws.{both_false}
 use Rattle.phrase.proofs.KinLaws.{lacking_start, lacking_next, lacking_all}
 use borrow.Author.Rules.{rules}

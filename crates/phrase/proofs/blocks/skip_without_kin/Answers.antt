@@ -1,4 +1,3 @@
-use Prim.Native.Nat.{◌-◌}
 use Rattle.phrase.proofs.KinLaws.{kin_skipped-none, kin_skipped_block}
 use borrow.Author.Rules.{rules}
 use Rattle.phrase.proofs.blocks.skip_without_kin.Goals as goal

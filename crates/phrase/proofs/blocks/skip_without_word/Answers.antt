@@ -1,4 +1,3 @@
-use Prim.Native.Nat.{◌-◌}
 use Rattle.phrase.proofs.BlocksLaws.{skip_block}
 use Rattle.phrase.proofs.StartsLaws.{skipped-none}
 use Rattle.phrase.proofs.blocks.skip_without_word.Goals as goal

@@ -1,4 +1,3 @@
-use Prim.Native.Nat.{◌-◌}
 use native.Mathlib.Omega.{arith}
 use Rattle.phrase.proofs.KinLaws.{kin_skipped}
 use Rattle.phrase.proofs.StartsLaws.{skipped-none, skipped-on, first_on, first_missed, first-none}

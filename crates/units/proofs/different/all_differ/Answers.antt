@@ -1,4 +1,3 @@
-use Prim.Native.Nat.{◌-◌}
 use mathlib.Core.Path.{sym, ◌∙◌}
 use Rattle.model.specs.Section.{section_of}
 use Rattle.units.specs.Units.{unit_in}

@@ -1,4 +1,3 @@
-use Prim.Native.Nat.{◌-◌}
 use mathlib.Core.Path.{sym, ◌∙◌}
 use Rattle.strings.proofs.StringsLaws.{left-start, decides_all, decided_here, decided_later, decided_end}
 use Rattle.units.proofs.different.differs.Goals as goal
