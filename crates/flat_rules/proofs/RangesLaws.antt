@@ -117,9 +117,9 @@ module _ (last : ℕ) (f : ℕ → Code) (g : ℕ → ℕ → Code) (ts : Stream
   unfolding range
   range_exactly h = rw h
 
-  pub range_from_lem : symbol_in ts ≡ k_from → range last f g ts ≡ range_from last g (rest_of ts)
+  pub range_from_to : symbol_in ts ≡ k_from → range last f g ts ≡ range_from last g (rest_of ts)
   unfolding range
-  range_from_lem h = rw h
+  range_from_to h = rw h
 
   pub range_at_lem : symbol_in ts ≡ k_at → range last f g ts ≡ range_at last f g (rest_of ts)
   unfolding range ◌then◌

@@ -19,7 +19,7 @@ use Rattle.model.specs.Tokens.{Token, quote, value_of}
 use Rattle.grammar.specs.Stream.{Stream, rest_of}
 use Rattle.grammar.specs.Symbols.{k_ordered, k_window, k_distance, k_same, k_different, k_at, k_entire, k_start, k_end, k_sentence, k_paragraph, k_content, k_occurs, k_words, k_times, s_quote, symbol_of, symbol_in}
 use Rattle.grammar.specs.Grammar.{read, Rule, ◌then◌, refused, expect, number, coded, measured, distance as distanceRule, times as timesRule, words, any_times, phrase, either, filter}
-use Rattle.grammar.proofs.GoingLaws.{Production, Within, Joins, NumberJoins, Viable, Went, went-map, Seq, seq, went-both, Wrote, wrote, went-read, went-refused, Taken, went_case, went_keyword, One, one, a_word, a_word_lem, a_sign_lem, a_sign, went-word, went-number}
+use Rattle.grammar.proofs.GoingLaws.{Production, Within, Joins, NumberJoins, Viable, Went, went-map, Seq, seq, went-both, Wrote, wrote, went-read, went-refused, Taken, went_case, went_keyword, One, one, a_word, a_keyword, a_sign_lem, a_sign, went-word, went-number}
 use Rattle.grammar.proofs.RangesLaws.{Coded, coded_by, Measured, measured_by, range_by, went-coded, went-measured, went-range, Distances, Occurrences}
 use Rattle.grammar.proofs.SymbolsLaws.{spelling, is_keyword, symbol_sort}
 
@@ -96,7 +96,7 @@ went-filter ts =
     (went_keyword k_different refl different f5 different-join ts (went-either k_sentence refl _ k_paragraph refl _)
     (went_keyword k_at refl at f6 at_join ts (went-either k_start refl _ k_end refl _)
     (went-map entire_join (went-both (expect k_entire) content
-    (record { more = a_word "content" ∷ []; codes = Filtered EntireContent ∷ []; holds = coded_by (a_word_lem "content") })
+    (record { more = a_word "content" ∷ []; codes = Filtered EntireContent ∷ []; holds = coded_by (a_keyword "content") })
     ts (went-word k_entire refl ts) (went-coded k_content refl _))))))))
 
 -- ---- phrases

@@ -223,8 +223,8 @@ module _ {R A : Production} (n : ℕ) (k : is_keyword n ≡ true) (a b : Rule) (
 abbrev pub a_word : String → Token
 a_word w = record { sort = letter; place = 0; bytes = bytes w }
 
-pub a_word_lem : (w : String) → Keyword w (a_word w)
-a_word_lem w = record { letters = refl; spelled = refl }
+pub a_keyword : (w : String) → Keyword w (a_word w)
+a_keyword w = record { letters = refl; spelled = refl }
 
 abbrev pub a_sign_lem : ℕ → Token
 a_sign_lem b = record { sort = b; place = 0; bytes = b ∷ [] }
@@ -240,10 +240,10 @@ unfolding number_from
 a_number most = record { digits = refl; within = omega arith }
 
 pub went-word : (n : ℕ) → is_keyword n ≡ true → (ts : Stream) → Went (One (Keyword (spelling n))) (λ i. expect n) ts (expect n ts)
-went-word n k ts = went-one (a_word (spelling n)) n (keyword_taken n k) (a_word_lem (spelling n)) ts
+went-word n k ts = went-one (a_word (spelling n)) n (keyword_taken n k) (a_keyword (spelling n)) ts
 
 pub word_some : (w : String) → Viable (One (Keyword w)) []
-word_some w = one-some (a_word w) (a_word_lem w)
+word_some w = one-some (a_word w) (a_keyword w)
 
 pub went_sign : (b : ℕ) (ts : Stream) → Went (One (Sign b)) (λ i. expect (100 + b)) ts (expect (100 + b) ts)
 went_sign b ts = went-one (a_sign_lem b) (100 + b) (sign_taken b) (a_sign b) ts

@@ -10,7 +10,7 @@ use lib.Dec.{eqb, leb}
 use lib.ListN.{length, take, drop, take-append-drop, length-drop}
 use lib.Seq.{take_at, drop_at}
 use Rattle.model.specs.Lists.{Every}
-use Rattle.model.specs.Tokens.{Token, blank, digit, letter, Letter, Digit, Stops, stops_end, stops_other, Tokens, no_more, a_blank, a_word_lem, a_number, a_sign}
+use Rattle.model.specs.Tokens.{Token, blank, digit, letter, Letter, Digit, Stops, stops_end, stops_other, Tokens, no_more, a_blank, a_keyword, a_number, a_sign}
 use Rattle.grammar.specs.Stream.{Stream, token, sort_of, makes_runs, alone, pieces_from, without_blanks, run_length, stream_at}
 use Rattle.grammar.proofs.JoiningLaws.{list_of, tokens_of}
 use Rattle.grammar.proofs.StreamLaws.{sort-letter, sort-digit, sort-low, sort_middle, sort-high, no_runs, runs_letter, runs_digit, before-alone, pieces_run, blanks_keep}
@@ -138,7 +138,7 @@ module _ (T : ℕ → Type 0) (s : ℕ) (to : (b : ℕ) → T b → sort_of b �
 parts_are : {p : ℕ} {bs : List ℕ} {ts : List Token} → Tokens p bs ts → parts_of p bs ≡ ts
 parts_are (no_more {p = p}) = none p
 parts_are (a_blank {p = p} {bs = bs} d) = blank-parts p bs ∙ parts_are d
-parts_are (a_word_lem {p = p} {b = b} {bs = bs} {more = more} t e k d) =
+parts_are (a_keyword {p = p} {b = b} {bs = bs} {more = more} t e k d) =
     run_parts Letter letter letter-sort sort_is-letter runs_letter (λ h. omega arith) p b bs more t e k
     ∙ ap (λ ts. record { sort = letter; place = p; bytes = b ∷ bs } ∷ ts) (parts_are d)
 parts_are (a_number {p = p} {b = b} {bs = bs} {more = more} t e k d) =
@@ -166,7 +166,7 @@ byte_parted p b bs later = at (class_of b) (eqb b blank) refl where
   at (of_letters h) x e =
       let every = every_run Letter letter letter-sort sort_is-letter bs in
       let stops = stops_run Letter letter letter-sort sort_is-letter bs in
-      run letter (λ more f d. record { tokens = _; parts = a_word_lem h every (rw f stops) d.parts })
+      run letter (λ more f d. record { tokens = _; parts = a_keyword h every (rw f stops) d.parts })
   at (of_digits h) x e =
       let every = every_run Digit digit digit-sort sort_is-digit bs in
       let stops = stops_run Digit digit digit-sort sort_is-digit bs in

@@ -13,12 +13,12 @@ use Rattle.model.specs.declared.Filter.TheVariants.{Distance}
 use Rattle.model.specs.declared.Times.TheVariants.{FromTo, AtLeast}
 use Rattle.model.specs.Bytes.{bytes}
 use Rattle.model.specs.Limits.{max_distance, max_number}
-use Rattle.model.specs.Productions.{Keyword, Number, FTRange, range_exactly, range_least, range_most, range_from_lem}
+use Rattle.model.specs.Productions.{Keyword, Number, FTRange, range_exactly, range_least, range_most, range_from_to}
 use Rattle.model.specs.Tokens.{Token, value_of}
 use Rattle.grammar.specs.Stream.{Stream, rest_of, value_in}
 use Rattle.grammar.specs.Symbols.{k_at, k_exactly, k_from, k_to, k_least, k_most, keywords, same_bytes, number_among, symbol_of, symbol_in}
 use Rattle.grammar.specs.Grammar.{read, Rule, prefixed, ◌then◌, writes, expect, coded, measured, range_from, range_at, range}
-use Rattle.grammar.proofs.GoingLaws.{Production, Within, Joins, NumberJoins, Viable, Went, went-map, Seq, seq, went-both, Wrote, wrote, wrote-some, went-read, went_keyword, One, one, a_word, a_word_lem, a_number_lem, a_number, went-word, went-number}
+use Rattle.grammar.proofs.GoingLaws.{Production, Within, Joins, NumberJoins, Viable, Went, went-map, Seq, seq, went-both, Wrote, wrote, wrote-some, went-read, went_keyword, One, one, a_word, a_keyword, a_number_lem, a_number, went-word, went-number}
 use Rattle.grammar.proofs.JoiningLaws.{◌⊕◌}
 use Rattle.grammar.proofs.SymbolsLaws.{spelling, is_keyword, keyword_symbol, number_symbol, number-within}
 
@@ -51,7 +51,7 @@ module _ {last : String} (z : ℕ) (is : number_among 1 keywords (bytes last) �
   range_complete code rest (range_exactly b n) e = rw (keyword_symbol b, number_symbol n, number-within n, last_symbol e)
   range_complete code rest (range_least b c n) e = rw (keyword_symbol b, keyword_symbol c, number_symbol n, number-within n, last_symbol e)
   range_complete code rest (range_most b c n) e = rw (keyword_symbol b, keyword_symbol c, number_symbol n, number-within n, last_symbol e)
-  range_complete code rest (range_from_lem b m c n) e =
+  range_complete code rest (range_from_to b m c n) e =
       rw (keyword_symbol b, number_symbol m, number-within m, keyword_symbol c, number_symbol n, number-within n, last_symbol e)
 
 -- ---- how the rules go
@@ -64,11 +64,11 @@ unfolding coded
 went-coded n k c ts = went-map (coded-join c) (went-both (expect n) (writes c) (wrote-some (c ∷ [])) ts (went-word n k ts) (went-read (c ∷ [])))
 
 coded-some : (w : String) (c : Code) → Viable (Coded (Keyword w) c) []
-coded-some w c = record { more = a_word w ∷ []; codes = c ∷ []; holds = coded_by (a_word_lem w) }
+coded-some w c = record { more = a_word w ∷ []; codes = c ∷ []; holds = coded_by (a_keyword w) }
 
 module _ (w : String) (f : ℕ → Code) where
   measured-some : Viable (Measured w f) []
-  measured-some = record { more = a_number_lem ∷ a_word w ∷ []; codes = _; holds = measured_by (a_number max_number) (a_word_lem w) }
+  measured-some = record { more = a_number_lem ∷ a_word w ∷ []; codes = _; holds = measured_by (a_number max_number) (a_keyword w) }
 
   measured-join : NumberJoins max_number (λ v. Coded (Keyword w) (f v)) (Measured w f)
   measured-join t vs ds n (coded_by e) = measured_by n e
@@ -117,7 +117,7 @@ module _ {A : Type 0} (last : ℕ) (k : is_keyword last ≡ true) (code : A → 
   most-join vs ds (seq (one c) (measured_by n e)) u b = range_by (range_most b c n) e
 
   from-join : NumberJoins max_number (λ v. ToNumber w (code_between v)) (After "from" R)
-  from-join t vs ds m (seq (one c) (measured_by n e)) u b = range_by (range_from_lem b m c n) e
+  from-join t vs ds m (seq (one c) (measured_by n e)) u b = range_by (range_from_to b m c n) e
 
   at_join : Within (Seq (One (Keyword "at")) (After "at" R)) R
   at_join vs ds (seq (one b) d) = d _ b
@@ -126,7 +126,7 @@ module _ {A : Type 0} (last : ℕ) (k : is_keyword last ≡ true) (code : A → 
   at_some = record {
     more = a_word "most" ∷ a_number_lem ∷ a_word w ∷ [];
     codes = _;
-    holds = λ t b. range_by (range_most b (a_word_lem "most") (a_number max_number)) (a_word_lem w);
+    holds = λ t b. range_by (range_most b (a_keyword "most") (a_number max_number)) (a_keyword w);
   }
 
   went-from : (ts : Stream) → Went (After "from" R) (λ i. range_from last code_between) ts (range_from last code_between ts)
@@ -137,7 +137,7 @@ module _ {A : Type 0} (last : ℕ) (k : is_keyword last ≡ true) (code : A → 
       (λ v l. record {
         more = a_word "to" ∷ (measured-some w (code_between v)).more;
         codes = _;
-        holds = seq (one (a_word_lem "to")) (measured-some w (code_between v)).holds;
+        holds = seq (one (a_keyword "to")) (measured-some w (code_between v)).holds;
       })
       ts (λ t us e n. went_worded last k k_to refl (code_between (value_of t)) us)
 

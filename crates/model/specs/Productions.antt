@@ -59,7 +59,7 @@ pub data FTRange {A : Type 0} (least : ℕ → A) (between : ℕ → ℕ → A) 
   range_least : {b c n : Token} → Keyword "at" b → Keyword "least" c → Number max_number n → FTRange least between (b ∷ c ∷ n ∷ []) (least (value_of n))
   range_most : {b c n : Token} → Keyword "at" b → Keyword "most" c → Number max_number n
       → FTRange least between (b ∷ c ∷ n ∷ []) (between 0 (value_of n))
-  range_from_lem : {b m c n : Token} → Keyword "from" b → Number max_number m → Keyword "to" c → Number max_number n
+  range_from_to : {b m c n : Token} → Keyword "from" b → Number max_number m → Keyword "to" c → Number max_number n
       → FTRange least between (b ∷ m ∷ c ∷ n ∷ []) (between (value_of m) (value_of n))
 
 -- F-3: "`at least` is kind 17", the other ranges kind 16

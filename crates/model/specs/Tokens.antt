@@ -45,7 +45,7 @@ pub data Stops (T : ℕ → Type 0) : List ℕ → Type 0 where
 pub data Tokens : ℕ → List ℕ → List Token → Type 0 where
   no_more : {p : ℕ} → Tokens p [] []
   a_blank : {p : ℕ} {bs : List ℕ} {ts : List Token} → Tokens (suc p) bs ts → Tokens p (blank ∷ bs) ts
-  a_word_lem : {p b : ℕ} {bs more : List ℕ} {ts : List Token} → Letter b → Every Letter bs → Stops Letter more → Tokens (suc p + length bs) more ts
+  a_keyword : {p b : ℕ} {bs more : List ℕ} {ts : List Token} → Letter b → Every Letter bs → Stops Letter more → Tokens (suc p + length bs) more ts
       → Tokens p (b ∷ (bs ++ more)) (record { sort = letter; place = p; bytes = b ∷ bs } ∷ ts)
   a_number : {p b : ℕ} {bs more : List ℕ} {ts : List Token} → Digit b → Every Digit bs → Stops Digit more → Tokens (suc p + length bs) more ts
       → Tokens p (b ∷ (bs ++ more)) (record { sort = digit; place = p; bytes = b ∷ bs } ∷ ts)

@@ -12,7 +12,7 @@ use Rattle.model.specs.declared.Times.{Times}
 use Rattle.model.specs.Limits.{max_number, radix}
 use Rattle.model.specs.Lists.{Every}
 use Rattle.model.specs.Parts.{most_of}
-use Rattle.model.specs.Productions.{Words, no_word, word_more, FTWords, quoted, FTRange, range_exactly, range_least, range_most, range_from_lem, FTTimes, times, FTPosFilter, ordered, window, distance, same_sentence, same_paragraph, different_sentence, different_paragraph, at_start, at_end, entire_content, FTSelection, selection_or, selection_filter, or_and, or_more, and_mild, and_more, mild_unary, mild_more, unary_primary, unary_not, phrase, phrase_times, nested}
+use Rattle.model.specs.Productions.{Words, no_word, word_more, FTWords, quoted, FTRange, range_exactly, range_least, range_most, range_from_to, FTTimes, times, FTPosFilter, ordered, window, distance, same_sentence, same_paragraph, different_sentence, different_paragraph, at_start, at_end, entire_content, FTSelection, selection_or, selection_filter, or_and, or_more, and_mild, and_more, mild_unary, mild_more, unary_primary, unary_not, phrase, phrase_times, nested}
 use Rattle.model.specs.Selection.{code_at, code_of, kind_of, operand_of, up_to}
 use Rattle.model.specs.Tokens.{Token}
 use Rattle.model.specs.Typed.{selection_of}
@@ -38,7 +38,7 @@ module _ {A : Type 0} (code : A → Code) {least : ℕ → A} {between : ℕ →
   range_small (range_exactly b n) = small-between _ _ n.within n.within
   range_small (range_least b c n) = small_least _ n.within
   range_small (range_most b c n) = small-between _ _ (omega arith) n.within
-  range_small (range_from_lem b m c n) = small-between _ _ m.within n.within
+  range_small (range_from_to b m c n) = small-between _ _ m.within n.within
 
 times-small : {ts : List Token} {k : Times} → FTTimes ts k → Small (Occurs k)
 times-small (times a r z) = range_small Occurs (λ n h. omega arith) (λ m n g h. omega arith) r

@@ -287,9 +287,9 @@ module _ (section selection : List ℕ) where
       ap (λ (o : Option Refusal). otherwise (otherwise o (room_refusal (leb work_length work && leb buffer_length buffer))) (Option.map (refusal 9) (first_too_long (searched_of section empty_table) (parts (tree_of selection))))) input_before
       ∙ ap (λ (s : Searched). otherwise (checks_before section selection (leb work_length work && leb buffer_length buffer)) (Option.map (refusal 9) (first_too_long s (parts (tree_of selection))))) (searched_empty section)
 
-  empty_table_lem : (work : ℕ) (buffer : List ℕ) → EmptyTableOf section selection work buffer
+  with_empty_table : (work : ℕ) (buffer : List ℕ) → EmptyTableOf section selection work buffer
   unfolding listing_answer listing_buffer quick_answer quick_checks
-  empty_table_lem work buffer =
+  with_empty_table work buffer =
       let refused = refusal-before work (length buffer) in
       record {
         listing_as_before = rw refused (ap (λ (s : Searched). answer_unless (listing_refusal_before section selection work (length buffer)) (all_matches s (tree_of selection))) (searched_empty section));
@@ -304,5 +304,5 @@ word-families = record {
   tables = table_of;
   phrase_exactly = λ section families rising rank words. phrase_exactly section families rank words rising;
   more_finds = more_finds;
-  empty_table_lem = empty_table_lem;
+  with_empty_table = with_empty_table;
 }

@@ -351,7 +351,7 @@ pub record WordFamilies : Type 0 where
   -- A table only adds: what a phrase finds without one it finds with any, in the same order, perhaps with more among them.
   pub more_finds : (section families : List ℕ) (rank : ℕ) (words : List ℕ)
       → Sublistᴰ (phrase_list (equal_words section) rank words) (phrase_list (searched_of section families) rank words)
-  pub empty_table_lem : (section selection : List ℕ) (work : ℕ) (buffer : List ℕ) → EmptyTableOf section selection work buffer
+  pub with_empty_table : (section selection : List ℕ) (work : ℕ) (buffer : List ℕ) → EmptyTableOf section selection work buffer
   -- "All calls that find phrases take the table, and their meaning is over it from then on": the answers of the listing, the quick answer and both typed calls
   -- have it as an argument, and the demands are of every table. "demand 3 then speaks of every table without a fault, the same one lent to both calls":
   -- `Demand3Of`.
