@@ -2,7 +2,7 @@
  * and as codes; a typed search with a mistake; the quick answer to 'not 99', which is read once and kept as codes; and the snippet of the listing's
  * first match.
  *
- *   rt staticlib jullpinay
+ *   bash examples/build.sh jullpinay
  *   cc -Iinclude examples/panel.c target/staticlib/libjullpinay.a -o target/panel && target/panel
  */
 #include <inttypes.h>

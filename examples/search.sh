@@ -3,12 +3,8 @@
 set -euo pipefail
 cd "$(dirname "${BASH_SOURCE[0]}")/.."
 
-bash examples/prove.sh jullpinay >&2
-echo "Building the library and the tool: some twenty seconds." >&2
-if ! said=$(rt staticlib jullpinay 2>&1); then
-  echo "$said" >&2
-  exit 1
-fi
+bash examples/build.sh jullpinay
+echo "Building the tool: some twenty seconds." >&2
 cargo build --offline --release --quiet --manifest-path manual/Cargo.toml --target-dir manual/target
 mkdir -p target/bin
 cp manual/target/release/manual target/bin/

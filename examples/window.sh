@@ -8,7 +8,7 @@ sentences=(1 1 1 2 2 2)
 kinds=(0 1 0 1 3 7)
 operands=(10 1 20 1 0 3)
 
-bash examples/prove.sh ftlist >&2
+bash examples/build.sh ftlist
 
 # a row of a table: a name, then numbers
 row() {

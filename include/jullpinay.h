@@ -5,7 +5,7 @@
  * included, may overlap anything else that is passed. Every pointer is aligned for its numbers, and none is null, also where its count is 0. Nothing is
  * kept between calls, and nothing else is touched.
  *
- * Link with the archive that `rt staticlib jullpinay` writes, target/staticlib/libjullpinay.a. */
+ * Link with the archive that `bash examples/build.sh jullpinay` writes, target/staticlib/libjullpinay.a. */
 #ifndef JULLPINAY_H
 #define JULLPINAY_H
 

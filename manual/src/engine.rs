@@ -3,7 +3,7 @@
 use std::fmt;
 
 #[cfg(not_built)]
-compile_error!("target/staticlib/libjullpinay.a is not there: build it by `rt staticlib jullpinay`");
+compile_error!("target/staticlib/libjullpinay.a is not there: build it by `bash examples/build.sh jullpinay`");
 
 #[allow(dead_code)]
 #[path = "../../include/jullpinay.rs"]

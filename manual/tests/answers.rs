@@ -1236,7 +1236,7 @@ fn ftlist(input: &[u8]) -> String {
     let path = concat!(env!("CARGO_MANIFEST_DIR"), "/../target/bin/ftlist");
     let mut command = Command::new(path);
     let child = command.stdin(Stdio::piped()).stdout(Stdio::piped()).spawn();
-    let mut child = child.unwrap_or_else(|error| panic!("{path}: {error}; `rt check ftlist` builds it"));
+    let mut child = child.unwrap_or_else(|error| panic!("{path}: {error}; `bash examples/build.sh ftlist` builds it"));
     child.stdin.take().unwrap().write_all(input).unwrap();
     String::from_utf8(child.wait_with_output().unwrap().stdout).unwrap()
 }

@@ -1,6 +1,6 @@
 //! The proved engine beside the second one: every example, and random cases. Typed searches have a file of their own, typed.rs.
 //!
-//! `rt staticlib jullpinay` builds the library that this is linked with. A case that fails is printed as a test, to be
+//! `bash examples/build.sh jullpinay` builds the library that this is linked with. A case that fails is printed as a test, to be
 //! pasted in here.
 
 mod examples;

@@ -6,7 +6,7 @@ use std::process::{Command, Stdio};
 
 fn path() -> PathBuf {
     let path = Path::new(env!("CARGO_MANIFEST_DIR")).join("../target/bin/ftlist");
-    assert!(path.is_file(), "no program {}: `rt check ftlist` builds it", path.display());
+    assert!(path.is_file(), "no program {}: `bash examples/build.sh ftlist` builds it", path.display());
     path
 }
 

@@ -5,7 +5,7 @@
 use second_engine::{Engine, Listing, Quick, Refusal};
 
 #[cfg(not_built)]
-compile_error!("target/staticlib/libjullpinay.a is not there: build it by `rt staticlib jullpinay`");
+compile_error!("target/staticlib/libjullpinay.a is not there: build it by `bash examples/build.sh jullpinay`");
 
 pub mod typed;
 
