@@ -6,13 +6,11 @@ use mathlib.Core.Bool.{Bool, true, false, not, cond}
 use mathlib.Core.List.{List, [], ◌∷◌, ◌++◌, map, append-nil}
 use mathlib.Core.Option.{Option, some, none}
 use lib.ListN.{length, length-append}
-use types.Run.{OneOf, miss}
-use denote.Enum.Declared.{tag_of}
 use borrow.Author.Tests.{not-false}
-use Rattle.model.specs.contracts.Code.{the_type}
 use lib.Seq.{append_snoc}
 use Rattle.model.specs.declared.Code.{Code}
 use Rattle.model.specs.declared.Code.TheVariants.{Word, Phrase, Combine, Not, Filter as Filtered, Occurs}
+use Rattle.model.specs.declared.Filter.{Filter}
 use Rattle.model.specs.declared.Pair.{Pair}
 use Rattle.model.specs.declared.Pair.TheVariants.{Or, And, MildNot}
 use Rattle.model.specs.declared.Quick.{Quick}
@@ -204,23 +202,23 @@ module _ {section families sel mem : List ℕ} {hi : ℕ} (w : Walkable section 
       rw p.is (sym (mild_builds (searched_of section families) k hi p.left.tree p.right.tree m))
 
   -- any other part that the walk does not go into
-  pub leaf_builds : (code : Code) → code ≡ code_at sel hi → OneOf (0 ∷ 2 ∷ 3 ∷ 5 ∷ []) (tag_of the_type code) → goes_into (shape_of code) ≡ false
+  pub leaf_builds : (code : Code) → code ≡ code_at sel hi → ((k : ℕ) → code ≡ Phrase k → ⊥) → ((f : Filter) → code ≡ Filtered f → ⊥) → goes_into (shape_of code) ≡ false
       → build (searched_of section families) w.part.tree ≡ walk (searched_of section families) w.part.tree
-  leaf_builds (Word v) e o g = word_walks e refl
-  leaf_builds (Phrase k) e o g = absurd (miss (0 ∷ 2 ∷ 3 ∷ 5 ∷ []) 1 tt o)
-  leaf_builds (Combine k) e o g = mild_walks e refl (not-false (is_mild_not (a_pair k)) g)
-  leaf_builds Not e o g = false-true (sym g)
-  leaf_builds (Filtered f) e o g = absurd (miss (0 ∷ 2 ∷ 3 ∷ 5 ∷ []) 4 tt o)
-  leaf_builds (Occurs k) e o g = occurs_walks (ap shape_of (sym e))
+  leaf_builds (Word v) e p f g = word_walks e refl
+  leaf_builds (Phrase k) e p f g = absurd (p k refl)
+  leaf_builds (Combine k) e p f g = mild_walks e refl (not-false (is_mild_not (a_pair k)) g)
+  leaf_builds Not e p f g = false-true (sym g)
+  leaf_builds (Filtered k) e p f g = absurd (f k refl)
+  leaf_builds (Occurs k) e p f g = occurs_walks (ap shape_of (sym e))
 
 -- the codes of the arm that takes no not and no combination
-pub leaf_code : (code : Code) → OneOf (0 ∷ 1 ∷ 4 ∷ 5 ∷ []) (tag_of the_type code) → goes_into (shape_of code) ≡ false
-leaf_code (Word v) o = refl
-leaf_code (Phrase k) o = refl
-leaf_code (Combine k) o = absurd (miss (0 ∷ 1 ∷ 4 ∷ 5 ∷ []) 2 tt o)
-leaf_code Not o = absurd (miss (0 ∷ 1 ∷ 4 ∷ 5 ∷ []) 3 tt o)
-leaf_code (Filtered f) o = refl
-leaf_code (Occurs k) o = refl
+pub leaf_code : (code : Code) → ((k : Pair) → code ≡ Combine k → ⊥) → (code ≡ Not → ⊥) → goes_into (shape_of code) ≡ false
+leaf_code (Word v) c n = refl
+leaf_code (Phrase k) c n = refl
+leaf_code (Combine k) c n = absurd (c k refl)
+leaf_code Not c n = absurd (n refl)
+leaf_code (Filtered f) c n = refl
+leaf_code (Occurs k) c n = refl
 
 -- ---- the loop: from a part to what is under its not, or to its right side
 
