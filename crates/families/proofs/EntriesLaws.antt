@@ -2,17 +2,16 @@
 use Prim.Native.Nat.{ℕ, zero, suc, ◌+◌, ◌-◌, ◌/◌, ◌≤◌, ◌<◌}
 use native.Mathlib.Nat.{eq-or-lt_of_le, lt_of_not-le}
 use native.Mathlib.Omega.{arith}
-use mathlib.Core.Path.{◌≡◌, refl, sym, ap, subst}
+use mathlib.Core.Path.{◌≡◌, sym, ap, subst}
 use mathlib.Core.List.{List}
 use mathlib.Core.Logic.{⊎_elim}
-use mathlib.Core.Option.{some, none}
 use lib.ListN.{get_or}
 use Rattle.model.specs.Accepted.{AcceptedFamilies}
 use Rattle.model.specs.Families.{entry_of}
 use Rattle.model.specs.Section.{size, first_at, second_at}
 use Rattle.model.proofs.FamiliesLaws.{entry_none, entry_at}
 use Rattle.slices.specs.Blocks.{Lacks, block_size}
-use Rattle.families.specs.Entries.{entry_number, PassedBy, NextMember}
+use Rattle.families.specs.Entries.{entry_number, PassedBy}
 
 -- ---- entry_of
 

@@ -2,7 +2,7 @@
 use Rattle.std.specs.Prelude.{ℕ, ◌≤◌, ◌<◌, true, false, List, ◌≡◌, eqb, length}
 use Rattle.model.specs.Families.{word_fits}
 use Rattle.model.specs.Lists.{any_of}
-use Rattle.model.specs.Section.{size, first_at, second_at}
+use Rattle.model.specs.Section.{first_at, second_at}
 
 -- the most kin that are told; src/lib.rt has the same number for the code
 abbrev pub most_kin : ℕ

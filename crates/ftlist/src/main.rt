@@ -5,12 +5,13 @@
 mod run; // from the bytes that it reads to the bytes that it prints
 
 use model::{BUFFER_LENGTH, WORK_LENGTH};
+use std::io;
 use text::{MAX_INPUT, MAX_NUMBERS, TEXT_LENGTH};
 
-fn main() {
+fn main(rt: HostRuntime) -> io::Result<()> {
     // one byte more than it takes: what is longer shows
     let mut input = [0u8; MAX_INPUT + 1];
-    let length = io::read_full(0, &mut input);
+    let length = input::read_full(&mut rt.stdin(), &mut input)?;
     let mut numbers = [0u32; MAX_NUMBERS];
     let mut work = [0u32; WORK_LENGTH];
     let mut buffer = [0u32; BUFFER_LENGTH];
@@ -22,5 +23,5 @@ fn main() {
         &mut buffer,
         &mut text,
     );
-    io::write_all(1, &text[..printed]);
+    rt.write_all(&text[..printed])
 }

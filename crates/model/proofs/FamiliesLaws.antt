@@ -1,7 +1,7 @@
 -- Where a word stands in a family table, and what fits it.
-use Prim.Native.Nat.{ℕ, ◌+◌, ◌-◌, ◌≤◌, ◌<◌}
+use Prim.Native.Nat.{ℕ, ◌+◌, ◌-◌, ◌≤◌}
 use native.Mathlib.Omega.{arith}
-use mathlib.Core.Path.{◌≡◌, refl, sym, ap, ◌∙◌, fun_ext}
+use mathlib.Core.Path.{◌≡◌, refl, ap, ◌∙◌, fun_ext}
 use mathlib.Core.Bool.{Bool, false, ◌||◌, or-false}
 use mathlib.Core.List.{List}
 use mathlib.Core.Option.{Option, some, none, or_else}
@@ -9,7 +9,7 @@ use lib.Dec.{eqb}
 use borrow.Author.Tests.{eqb-true, eq-eqb, ne_eqb}
 use Rattle.model.specs.Accepted.{RisingStrictly}
 use Rattle.model.specs.Families.{empty_table, entry_of, family_of, same_family, word_fits, searched_of, equal_words}
-use Rattle.model.specs.Lists.{first, up_from, from_to}
+use Rattle.model.specs.Lists.{first, from_to}
 use Rattle.model.specs.Section.{size, first_at, second_at}
 use Rattle.model.proofs.ListsLaws.{range-append, first-append, first-range-here, range-first-none, first-range-some}
 

@@ -6,37 +6,50 @@
 mod reading; // lines and numbers
 mod showing; // what is printed of an example
 
-ghost use Rattle.std.specs.Prelude.{◌<◌, ◌≤◌, length};
+ghost use Rattle.std.specs.Prelude.{◌<◌, ◌≤◌, IfOk, length};
 
 use reading::{line_end, read_numbers};
+use std::io;
 
 // The example whose first line begins at `name`. Answers where it ends.
-fn run(text: &[u8], name: usize, section: &mut [u32], selection: &mut [u32]) -> usize
+fn run(
+    rt: &impl Print,
+    text: &[u8],
+    name: usize,
+    section: &mut [u32],
+    selection: &mut [u32],
+) -> io::Result<usize>
     requires { name < length text.now }
-    ensures { (name < result) × (result ≤ length text.now) }
+    ensures { IfOk result (λ end. (name < end) × (end ≤ length text.now)) }
 {
     let second = line_end(text, name);
     let third = line_end(text, second);
     let end = line_end(text, third);
     let n = read_numbers(text, second, third, section);
     let m = read_numbers(text, third, end, selection);
-    io::write_all(1, &text[name..second]);
-    showing::show(&section[..n], &selection[..m]);
-    end
+    rt.write_all(&text[name..second])?;
+    showing::show(rt, &section[..n], &selection[..m])?;
+    Ok(end)
 }
 
-fn run_all(text: &[u8], section: &mut [u32], selection: &mut [u32]) {
+fn run_all(
+    rt: &impl Print,
+    text: &[u8],
+    section: &mut [u32],
+    selection: &mut [u32],
+) -> io::Result<()> {
     let mut at = 0;
     while at < text.len() {
-        at = run(text, at, section, selection);
+        at = run(rt, text, at, section, selection)?;
     }
+    Ok(())
 }
 
-fn main() {
+fn main(rt: HostRuntime) -> io::Result<()> {
     let mut text = [0u8; 4096];
-    let length = io::read_full(0, &mut text);
+    let length = input::read_full(&mut rt.stdin(), &mut text)?;
     // a section of 4,097 tokens and a selection of 65 codes: the least that are too long
     let mut section = [0u32; 8195];
     let mut selection = [0u32; 131];
-    run_all(&text[..length], &mut section, &mut selection);
+    run_all(&rt, &text[..length], &mut section, &mut selection)
 }

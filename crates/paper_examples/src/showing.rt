@@ -1,63 +1,61 @@
 // What is printed of an example after its name: its listing as `ftlist` prints it, and its quick answer.
 use super::reading::line_end;
 use model::{BUFFER_LENGTH, Listing, Quick, Refusal, WORK_LENGTH};
+use std::io;
 use text::TEXT_LENGTH;
 
 // The text of a listing, or only its first line if it has over 20 matches.
-fn show_text(answer: Listing, text: &[u8]) {
+fn show_text(rt: &impl Print, answer: Listing, text: &[u8]) -> io::Result<()> {
     if let Listing::Listed { matches, .. } = answer {
         if 20 < matches {
             let end = line_end(text, 0);
-            io::write_all(1, &text[..end]);
-            return;
+            return rt.write_all(&text[..end]);
         }
     }
-    io::write_all(1, text);
+    rt.write_all(text)
 }
 
-fn show_listing(section: &[u32], selection: &[u32]) {
+fn show_listing(rt: &impl Print, section: &[u32], selection: &[u32]) -> io::Result<()> {
     let mut work = [0u32; WORK_LENGTH];
     let mut buffer = [0u32; BUFFER_LENGTH];
     let mut text = [0u8; TEXT_LENGTH];
     let answer = calls::listing(section, &[0], selection, &mut work, &mut buffer);
     let end = text::put_listing_text(answer, &buffer, &mut text);
-    show_text(answer, &text[..end]);
+    show_text(rt, answer, &text[..end])
 }
 
-fn show_answer(yes: bool, codes: u32) {
+fn show_answer(rt: &impl Print, yes: bool, codes: u32) -> io::Result<()> {
     if yes {
-        io::write_all(1, b"yes, ");
+        print!(rt; "yes, ")?;
     } else {
-        io::write_all(1, b"no, ");
+        print!(rt; "no, ")?;
     }
-    io::print_decimal(1, codes as u64);
+    print!(rt; "{codes}")?;
     if codes == 1 {
-        io::write_all(1, b" code\n");
+        println!(rt; " code")
     } else {
-        io::write_all(1, b" codes\n");
+        println!(rt; " codes")
     }
 }
 
-fn show_refusal(refusal: Refusal) {
-    io::write_all(1, b"refused ");
-    io::print_decimal(1, refusal.number as u64);
-    io::write_all(1, b" ");
-    io::print_decimal(1, refusal.place as u64);
-    io::write_all(1, b"\n");
+fn show_refusal(rt: &impl Print, refusal: Refusal) -> io::Result<()> {
+    let number = refusal.number;
+    let place = refusal.place;
+    println!(rt; "refused {number} {place}")
 }
 
-fn show_quick(section: &[u32], selection: &[u32]) {
+fn show_quick(rt: &impl Print, section: &[u32], selection: &[u32]) -> io::Result<()> {
     let mut work = [0u32; WORK_LENGTH];
     let quick = calls::quick(section, &[0], selection, &mut work);
-    io::write_all(1, b"quick: ");
+    print!(rt; "quick: ")?;
     match quick {
-        Quick::Answered { yes, codes } => show_answer(yes, codes),
-        Quick::Refused(refusal) => show_refusal(refusal),
+        Quick::Answered { yes, codes } => show_answer(rt, yes, codes),
+        Quick::Refused(refusal) => show_refusal(rt, refusal),
     }
 }
 
-pub fn show(section: &[u32], selection: &[u32]) {
-    show_listing(section, selection);
-    show_quick(section, selection);
-    io::write_all(1, b"\n");
+pub fn show(rt: &impl Print, section: &[u32], selection: &[u32]) -> io::Result<()> {
+    show_listing(rt, section, selection)?;
+    show_quick(rt, section, selection)?;
+    println!(rt)
 }

@@ -1,7 +1,6 @@
 use native.Mathlib.Nat.{pos_of_ne-zero}
 use native.Mathlib.Omega.{arith}
 use mathlib.Core.Path.{refl}
-use mathlib.Core.Logic.{⊎_elim}
 use Rattle.families.proofs.EntriesLaws.{halve_start, halve_up, halve_down, halved_none, halved_other, halved_here}
 use borrow.Author.Rules.{rules}
 use Rattle.families.proofs.entry_of.Goals as goal

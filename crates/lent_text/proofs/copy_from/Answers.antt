@@ -1,8 +1,6 @@
 use mathlib.Core.Path.{refl}
 use native.Mathlib.Omega.{arith}
 use Rattle.lent_text.proofs.CopyLaws.{copy_more, copy_full, copy_end}
-use Rattle.lent_text.proofs.copy_from.Reads as reads
-use Rattle.lent_text.proofs.copy_from.Lts as lts
 use Rattle.lent_text.proofs.copy_from.Goals as goal
 
 pub loop-p-init : goal.loop-p-init

@@ -2,8 +2,6 @@
 use Prim.Native.Nat.{◌-◌}
 use lib.ListN.{length}
 use Rattle.lent_text.proofs.CopyLaws.{Copying}
-use Rattle.lent_text.proofs.copy_from.Reads as reads
-use Rattle.lent_text.proofs.copy_from.Lts as lts
 use Rattle.lent_text.proofs.copy_from.Given as goal
 
 abbrev pub invariant-loop-p : goal.invariant-loop-p

@@ -1,5 +1,4 @@
 use mathlib.Core.Path.{sym, ◌∙◌}
-use Rattle.model.specs.Rules.{agree}
 use Rattle.strings.proofs.StringsLaws.{left-start, decides_all, decided_here, decided_later, decided_end}
 use Rattle.strings.proofs.ordering.agrees_with_all.Goals as goal
 

@@ -1,0 +1,9 @@
+-- Each arm stores its values from the front on, as `sets` does.
+use mathlib.Core.Path.{refl}
+use Rattle.jullpinay.proofs.put_reading.Goals as goal
+
+pub returns-in-Read : goal.returns-in-Read
+returns-in-Read c = rw c.in-Read.is (record { value = refl; answer_after = refl })
+
+pub returns-in-Refused : goal.returns-in-Refused
+returns-in-Refused c = rw c.in-Refused.is (record { value = refl; answer_after = refl })
