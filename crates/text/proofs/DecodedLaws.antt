@@ -49,7 +49,7 @@ texts-strings sort [] h f a b = refl
 texts-strings {buffer} {s} {t} sort (x ∷ ss) h f a b =
     ap₂ ◌∷◌
     (ap₂ text_of (get_d_head (map span_of ss) a) (get_d_head (map (tag_of sort) ss) b) ∙ text_of-string sort x h f.0)
-    (texts-strings sort ss h f.1 (holds_tail (map span_of ss) a) (holds_tail (map (tag_of sort) ss) b))
+    (texts-strings {buffer = buffer} {s = s + 1} {t = t + 1} sort ss h f.1 (holds_tail (map span_of ss) a) (holds_tail (map (tag_of sort) ss) b))
 
 -- the strings of a match
 texts_match : {buffer : List ℕ} {s t : ℕ} (m : Match) → AllMatch ValidStr m → Holds buffer s (spans_in m) → Holds buffer t (tags_in m) → texts_at buffer s t (strings_in m) ≡ string_texts m
@@ -79,12 +79,12 @@ matches_texts {buffer} {c} {s} {t} (m ∷ ms) f a b d =
     let j : t + length (tags_in m) ≡ t + get_or buffer c 0 = ap (λ n. t + n) (length_columns (tag_of 0) (tag_of 1) m ∙ sym k) in
     ap₂ ◌∷◌
     (ap (texts_at buffer s t) k ∙ texts_match m f.0 (holds-left (spans_in m) (flat_map spans_in ms) b) (holds-left (tags_in m) (flat_map tags_in ms) d))
-    (matches_texts ms f.1 (holds_tail (map strings_in ms) a) (rw i at (holds-right (spans_in m) (flat_map spans_in ms) b)) (rw j at (holds-right (tags_in m) (flat_map tags_in ms) d)))
+    (matches_texts {buffer = buffer} {c = c + 1} {s = s + get_or buffer c 0} {t = t + get_or buffer c 0} ms f.1 (holds_tail (map strings_in ms) a) (rw i at (holds-right (spans_in m) (flat_map spans_in ms) b)) (rw j at (holds-right (tags_in m) (flat_map tags_in ms) d)))
 
 matches_strings : {buffer : List ℕ} {c : ℕ} (ms : List Match) → Holds buffer c (map strings_in ms) → total_at buffer c (length ms) ≡ strings ms
 unfolding total_at strings
 matches_strings [] a = refl
-matches_strings (m ∷ ms) a = ap₂ ◌+◌ (get_d_head (map strings_in ms) a) (matches_strings ms (holds_tail (map strings_in ms) a))
+matches_strings {buffer = buffer} {c = c} (m ∷ ms) a = ap₂ ◌+◌ (get_d_head (map strings_in ms) a) (matches_strings {buffer = buffer} {c = c + 1} ms (holds_tail (map strings_in ms) a))
 
 length_rows : (f : Match → List ℕ) → ((m : Match) → length (f m) ≡ strings_in m) → (ms : List Match) → length (flat_map f ms) ≡ strings ms
 unfolding flat_map strings

@@ -1,6 +1,6 @@
 -- Texts as document 01 shows them, as entries of one list checked by one fact: its example under `ftlist` from the four matches and from the bytes
 -- that the program reads, and a line of each other form.
-use Rattle.std.specs.Prelude.{ℕ, ◌+◌, ◌/◌, ◌%◌, ◌≡◌, refl, Bool, true, false, ◌&&◌, eqb}
+use Rattle.std.specs.Prelude.{ℕ, ◌/◌, ◌%◌, ◌≡◌, refl, Bool, true, false, ◌&&◌, eqb}
 use Prim.Native.String.{String}
 use Rattle.std.proofs.Math.Bool.{xor}
 use mathlib.Core.List.{List, [], ◌∷◌, ◌++◌, flat_map}

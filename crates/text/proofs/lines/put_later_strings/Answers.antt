@@ -2,11 +2,6 @@ use mathlib.Core.Path.{refl, ◌∙◌}
 use Rattle.text.proofs.LinesLaws.{later-start, later-room, later_step, later_finish}
 use borrow.Author.Rules.{rules}
 use Rattle.text.proofs.lines.put_later_strings.Goals as goal
-use Rattle.text.proofs.lines.put_later_strings.Goals.{Need-shared-slice-read-put-later-string-2}
-
-shared-slice-read-put-later-string-2 :
-    Need-shared-slice-read-put-later-string-2
-shared-slice-read-put-later-string-2 c = search rules
 
 pub loop-i-init : goal.loop-i-init
 loop-i-init c = (search rules, refl, later-start c.args.buffer.now c.args.s c.args.t c.args.n)
@@ -17,7 +12,7 @@ put_later_string-q-requires c =
 
 pub loop-i-preserved : goal.loop-i-preserved
 loop-i-preserved c =
-    (search rules, c.put_later_string-q.auto.1.1.0 ∙ c.loop-i.invariant.1, later_step c.args.buffer.now c.args.s c.args.t c.args.n _ c.loop-i.invariant.2 c.loop-i-test.true c.put_later_string-q.ensures)
+    (search rules, c.put_later_string-q.auto.text ∙ c.loop-i.invariant.1, later_step c.args.buffer.now c.args.s c.args.t c.args.n _ c.loop-i.invariant.2 c.loop-i-test.true c.put_later_string-q.ensures)
 
 pub returns : goal.returns
 returns c =

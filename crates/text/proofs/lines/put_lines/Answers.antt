@@ -23,7 +23,7 @@ overflow_add-tag c =
 
 pub loop-i-preserved : goal.loop-i-preserved
 loop-i-preserved c =
-    (search rules, c.put_line-q.auto.1.1.1.1.0 ∙ c.loop-i.invariant.1, lines_step c.loop-i.invariant.2 c.loop-i-test.true c.put_line-q.ensures)
+    (search rules, c.put_line-q.auto.text ∙ c.loop-i.invariant.1, lines_step c.loop-i.invariant.2 c.loop-i-test.true c.put_line-q.ensures)
 
 pub returns : goal.returns
 returns c = lines_finish c.loop-i.invariant.2 c.loop-i-test.false

@@ -10,4 +10,9 @@ loop-i-preserved c =
     (search rules, rw (c.number_at.ensures, c.loop-i.invariant.1) more, simp length-set c.loop-i.invariant.2)
 
 pub returns : goal.returns
-returns c = record { numbers_after = c.loop-i.invariant.1 ∙ read_all c.args.bytes.now c.args.numbers.now c.loop-i.i c.loop-i-test.false; value = (sym (length-numbers_of c.args.bytes.now), search rules); upper_bound =  }
+returns c =
+    record {
+      numbers_after = c.loop-i.invariant.1 ∙ read_all c.args.bytes.now c.args.numbers.now c.loop-i.i c.loop-i-test.false;
+      value = sym (length-numbers_of c.args.bytes.now);
+      upper_bound = search rules;
+    }

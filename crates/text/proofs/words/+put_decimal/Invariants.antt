@@ -1,0 +1,5 @@
+-- Measure: the number.
+use Rattle.text.proofs.words.+put_decimal.Given as goal
+
+abbrev pub decreases-put_decimal : goal.decreases-put_decimal
+decreases-put_decimal l = l.n
