@@ -27,7 +27,7 @@ use Rattle.store.specs.Layout.{Holds, BoundsOf, header_between, matches_numbers}
 use Rattle.store.specs.Indices.{CopyUp, ClosingMatch}
 use Rattle.store.specs.Put.{Put}
 use Rattle.store.specs.Slot.{SlotHolds}
-use Rattle.store.proofs.DecodeLaws.{includes-held, excludes-held, length-held, includes_hold, excludes_hold, includes-within, includes-length, str_back}
+use Rattle.store.proofs.DecodeLaws.{includes-held, excludes-held, includes_hold, excludes_hold, includes-within, includes-length, str_back}
 use Rattle.store.proofs.EachLaws.{flat_map-small}
 use Rattle.store.proofs.LayoutLaws.{length-strs_of, strs_of-flat_map, length_match, matches_kept}
 use Rattle.store.proofs.MemoryLaws.{part_apart, get_d_head, holds_tail}

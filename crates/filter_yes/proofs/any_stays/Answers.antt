@@ -1,4 +1,3 @@
-use Prim.Native.Nat.{◌-◌}
 use mathlib.Core.Path.{sym, ◌∙◌}
 use Rattle.strings.proofs.StringsLaws.{left-start, decides_any, decided_here, decided_later, decided_end}
 use Rattle.filter_yes.proofs.any_stays.Goals as goal

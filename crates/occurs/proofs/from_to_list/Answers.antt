@@ -4,7 +4,7 @@ use Prim.Native.Nat.{◌≤◌}
 use native.Mathlib.Omega.{arith}
 use mathlib.Core.Path.{◌≡◌}
 use mathlib.Core.Logic.{⊎_elim}
-use borrow.Author.Tests.{ltb-true, ltb-false}
+use borrow.Author.Tests.{ltb-true}
 use Rattle.occurs.proofs.OutcomeLaws.{excess_at, from_to_made, from_to-refused}
 use Rattle.occurs.proofs.from_to_list.Goals as goal
 use Rattle.occurs.proofs.from_to_list.Goals.{Joined-else-excess-gt1}

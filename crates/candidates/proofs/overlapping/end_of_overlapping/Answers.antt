@@ -1,7 +1,6 @@
 use native.Mathlib.Omega.{arith}
 use Rattle.store.specs.Stream.{Header}
 use Rattle.store.proofs.StreamLaws.{next-at}
-use Rattle.candidates.specs.Overlapping.{overlap_both}
 use Rattle.candidates.proofs.PassingLaws.{ending_start, ending_here, ending_later, ending_none}
 use Rattle.candidates.proofs.overlapping.end_of_overlapping.Goals as goal
 use Rattle.candidates.proofs.overlapping.end_of_overlapping.Goals.{In-loop-at}

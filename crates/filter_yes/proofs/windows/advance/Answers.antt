@@ -1,4 +1,3 @@
-use Prim.Native.Nat.{◌-◌}
 use Rattle.strings.proofs.StringsLaws.{left-start}
 use Rattle.filter_yes.proofs.WindowsLaws.{advanced-next, advanced-end}
 use Rattle.filter_yes.proofs.windows.advance.Goals as goal

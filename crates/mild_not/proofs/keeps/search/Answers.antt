@@ -1,4 +1,4 @@
-use Rattle.std.proofs.Common.{◌+◌, ◌-◌, ap, arith}
+use Rattle.std.proofs.Common.{◌+◌, ap, arith}
 use Rattle.store.specs.Stream.{Header}
 use Rattle.store.proofs.StreamLaws.{next-at}
 use Rattle.mild_not.proofs.KeepsLaws.{against_start, against_covered, against_left, against_next, against_end}

@@ -1,4 +1,3 @@
-use Rattle.std.proofs.Common.{◌-◌}
 use Rattle.mild_not.proofs.UncoveredLaws.{search_start, search_found, search_on, search_none}
 use Rattle.mild_not.proofs.uncovered.find_uncovered.Goals as goal
 

@@ -1,4 +1,4 @@
-use Rattle.std.proofs.Common.{ℕ, ◌+◌, ◌-◌, ◌<◌, List, length, drop, sym, ◌∙◌, subst}
+use Rattle.std.proofs.Common.{ℕ, ◌+◌, ◌<◌, List, length, drop, sym, ◌∙◌, subst}
 use Rattle.model.specs.AllStrings.{AllStrs}
 use Rattle.model.specs.Lists.{Every}
 use Rattle.store.specs.ValidStr.{ValidStr}

@@ -1,4 +1,4 @@
-use Rattle.std.proofs.Common.{◌+◌, ◌-◌, arith}
+use Rattle.std.proofs.Common.{◌+◌, arith}
 use Rattle.store.specs.Stream.{Header}
 use Rattle.store.proofs.DecodeLaws.{valid-within}
 use Rattle.store.proofs.StreamLaws.{next-at, search_start}

@@ -1,4 +1,4 @@
-use Rattle.std.proofs.Common.{◌+◌, ◌-◌, get_or, arith}
+use Rattle.std.proofs.Common.{◌+◌, get_or, arith}
 use Rattle.store.specs.Layout.{BoundsOf}
 use Rattle.store.specs.Stream.{Header}
 use Rattle.store.proofs.DecodeLaws.{valid-within}

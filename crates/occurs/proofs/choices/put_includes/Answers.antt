@@ -1,7 +1,6 @@
 use Prim.Native.Nat.{suc, ◌-◌}
 use native.Mathlib.Omega.{arith}
 use mathlib.Core.Path.{◌≡◌, refl}
-use mathlib.Core.Logic.{⊎_elim}
 use Rattle.occurs.proofs.IncludesLaws.{Turn, start, turn, take_next, skip_next, finish}
 use Rattle.occurs.proofs.choices.put_includes.Goals as goal
 use Rattle.occurs.proofs.choices.put_includes.Goals.{In-loop-left, then-rest-with_next, else-rest-with_next}
