@@ -3,15 +3,14 @@ use Prim.Native.Nat.{ℕ, ◌+◌, ◌*◌, ◌/◌, ◌%◌, ◌≤◌, ◌<◌
 use native.Mathlib.Omega.{arith}
 use mathlib.Core.Path.{◌≡◌, refl, sym, ap, ap₂, ◌∙◌}
 use mathlib.Core.Bool.{Bool, true, false, not, cond}
-use lib.Dec.{leb, eqb}
+use lib.Dec.{eqb}
 use mir.Val.{bool_byte}
-use borrow.Author.Tests.{le-leb, lt-leb, eq-eqb, ne_eqb}
+use borrow.Author.Tests.{le-leb, lt-leb}
 use Rattle.model.specs.declared.Pair.{Pair}
 use Rattle.model.specs.declared.Pair.TheVariants.{Or, And, MildNot}
-use Rattle.model.specs.declared.Quick.{Quick}
 use Rattle.model.specs.declared.Quick.TheVariants.{Answered, Refused}
 use Rattle.model.specs.Checks.{refusal}
-use Rattle.walk.specs.Steps.{answer_of, codes_in, decides, passed_up}
+use Rattle.walk.specs.Steps.{answer_of, decides, passed_up}
 
 -- ---- answer_of
 

@@ -4,7 +4,7 @@ use Rattle.selection.proofs.PhrasesLaws.{phrases_ended-le}
 use mathlib.Core.Path.{refl, ap}
 use borrow.Author.Rules.{rules}
 use native.Mathlib.Omega.{arith}
-use Prim.Native.Nat.{ℕ, ◌+◌, ◌-◌}
+use Prim.Native.Nat.{ℕ, ◌+◌}
 use Rattle.build.proofs.build.Goals as goal
 
 pub loop-place-init : goal.loop-place-init

@@ -3,7 +3,7 @@ use Rattle.model.proofs.TreesLaws.{parts_ended-le}
 use Rattle.model.specs.Kinds.{shape_of, shape_at}
 use Rattle.model.specs.Selection.{up_to}
 use Rattle.model.specs.Parts.{part_count}
-use Prim.Native.Nat.{ℕ, ◌-◌}
+use Prim.Native.Nat.{ℕ}
 use native.Mathlib.Omega.{arith}
 use mathlib.Core.Path.{◌≡◌, ap, ◌∙◌}
 use Rattle.walk.proofs.count_codes.Goals as goal
