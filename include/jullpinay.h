@@ -32,7 +32,7 @@ extern "C" {
 
 /* The most bytes of stack that a call takes, its return address included, as the archive is compiled for x86-64. It needs no heap. */
 #define JULLPINAY_LISTING_STACK 1408
-#define JULLPINAY_QUICK_STACK 4544
+#define JULLPINAY_QUICK_STACK 3328
 #define JULLPINAY_SNIPPET_STACK 128
 
 /* The same of the typed calls, for the deepest text, one of opening parentheses; and the most that each nested parenthesis takes of it. */

@@ -230,6 +230,8 @@ fn range(
 }
 
 // FTWords FTTimes?, after the opening quote. "Typed, `occurs` with one of the four ranges and `times` follows a phrase; `at least` is kind 17."
+// A call of its own, so that a parenthesis doesn't pay for what it keeps.
+#[inline(never)]
 pub fn phrase(text: &[u8; 2048], size: usize, at: u32, codes: &mut [u32; 128], count: u32) -> u64
     requires { Ready text.now size at count }
     ensures { Answers (λ _. phrase_rule) text.now size at codes.old codes.new count (step_of result) }
