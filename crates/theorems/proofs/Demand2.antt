@@ -1,4 +1,4 @@
--- The listing is decided by its table (`listing-table`); a given one holds the complete list, which is within the limits, and its numbers determine
+-- The listing is decided by its table (`listing_table_lem`); a given one holds the complete list, which is within the limits, and its numbers determine
 -- that list since every span ends within the section.
 use Prim.Native.Nat.{ℕ, ◌≤◌, ◌<◌}
 use native.Mathlib.Omega.{arith}

@@ -1,5 +1,5 @@
 -- Where the checks pass, the quick answer refuses at the first list too long that its walk builds, and else answers for the complete list
--- (`quick_answer-is`); whatever is lent, it is decided by its table (`quick-table`). A given answer tells that the checks pass.
+-- (`quick_answer-is`); whatever is lent, it is decided by its table (`quick_table_lem`). A given answer tells that the checks pass.
 use Prim.Native.Nat.{ℕ, ◌≤◌}
 use native.Mathlib.Omega.{arith}
 use mathlib.Core.Bool.{Bool, true, false}

@@ -1,4 +1,4 @@
--- The last nonzero sentence before a position, where there is one, stands somewhere (`last_found`, `last-is`); before F-5 a fault of a sentence was any
+-- The last nonzero sentence before a position, where there is one, stands somewhere (`last_found`, `last_is`); before F-5 a fault of a sentence was any
 -- that is one now, and more. What same and different sentence keep has passed their tests for nonzero sentences.
 use Prim.Native.Nat.{ℕ, zero, suc, ◌+◌, ◌-◌, ◌≤◌, ◌<◌}
 use native.Mathlib.Omega.{arith}

@@ -240,7 +240,7 @@ AllNonzero unit n = (p : ℕ) → 1 ≤ p → p ≤ n → 1 ≤ unit p
 -- for a section
 pub record HeadingsOf (section : List ℕ) : Type 0 where
   -- "For sentences, refusal 2 falls on a nonzero one below the last nonzero one before it." "Paragraphs keep their rule." The place is the first position
-  -- of either sort, from 2 on. (By `units-exactly` of demand 2 it falls on every section but those in which "the nonzero
+  -- of either sort, from 2 on. (By `units_exactly` of demand 2 it falls on every section but those in which "the nonzero
   -- ones still never fall" and paragraphs keep their rule.)
   pub refused_exactly : (p : ℕ)
       → (faulty_position section ≡ some p) ↔ FirstWith (λ q. SentenceFalls section q ⊎ ParagraphBreaks section q) (from_to 2 (size section)) p
@@ -303,7 +303,7 @@ OutOfOrder families entry = (before : ℕ) × (1 ≤ before) × (before < entry)
 -- for a table
 pub record TableOf (families : List ℕ) : Type 0 where
   -- "Errors: 13 at the first entry out of order, place 0 for a wrong size or length, tried after 2." (That place 0 comes before an entry, and 13 after 2, is in
-  -- the table of refusals, `input_rows`. By `words-exactly` of demand 2 no entry is out of order exactly where the words rise strictly.)
+  -- the table of refusals, `input_rows`. By `words_exactly` of demand 2 no entry is out of order exactly where the words rise strictly.)
   pub entry_exactly : (entry : ℕ) → (entry_out_of_order families ≡ some entry) ↔ FirstWith (OutOfOrder families) (from_to 1 (size families)) entry
   pub place_zero_exactly : (place : ℕ)
       → (wrong_families families ≡ some place) ↔ ((place ≡ 0) × ((max_entries < size families) ⊎ (¬ (length families ≡ 1 + 2 * size families))))
@@ -335,7 +335,7 @@ abbrev pub quick_before : List ℕ → List ℕ → ℕ → Quick
 quick_before section selection work = walk_unless (checks_before section selection (leb work_length work)) (walk (equal_words section) (tree_of selection))
 
 -- for a section, a selection, working memory's length and the listing buffer: "An empty table .. gives the old answers." Typed
--- calls follow by `listing-of-codes` and `quick-of-codes`; `ftlist` lends this table (text/specs/Input.antt).
+-- calls follow by `listing_of_codes` and `quick_of_codes`; `ftlist` lends this table (text/specs/Input.antt).
 pub record EmptyTableOf (section selection : List ℕ) (work : ℕ) (buffer : List ℕ) : Type 0 where
   pub listing_as_before : listing_answer section empty_table selection work (length buffer) ≡ listing_before section selection work (length buffer)
   pub buffer_as_before : listing_buffer section empty_table selection work buffer ≡ buffer_before section selection work buffer
