@@ -1,4 +1,4 @@
--- In each arm the combination's rule is that of its name (pair-as).
+-- In each arm the combination's rule is that of its name (pair_as).
 use Rattle.build.proofs.StepsLaws.{pair_as, pair_pushed}
 use Rattle.build.proofs.steps.build_pair.Goals as goal
 

@@ -1,4 +1,4 @@
--- A match without includes has no window; the windows of any other are told by its join (free-some).
+-- A match without includes has no window; the windows of any other are told by its join (free_some).
 use mathlib.Core.Path.{◌∙◌}
 use Rattle.filter_yes.proofs.WindowsLaws.{free_none, free_some, start-low}
 use Rattle.filter_yes.proofs.windows.has_free_window.Goals as goal

@@ -1,4 +1,4 @@
--- Where another word stands in its place, the row doesn't stand (stands-without).
+-- Where another word stands in its place, the row doesn't stand (stands_without).
 use mathlib.Core.Path.{sym}
 use Rattle.model.specs.Families.{equal_words}
 use Rattle.phrase.proofs.RowsLaws.{stands_without}
