@@ -24,7 +24,7 @@ pub returns-then-selection-lt-SELECTION_LENGTH : goal.returns-then-selection-lt-
 returns-then-selection-lt-SELECTION_LENGTH c =
     let found = reading_read (read_text c.args.text.now) c.read-reading.ensures.value c.in-Read.is in
     let parts = read_typed c.args.text.now c.args.selection.now
-    (read-codes c.args.text.now c.args.selection.now found.0 found.1 (read_short found.0 _ found.2 c.args.selection.now c.if-codes-gt-MAX_CODES.false c.if-selection-lt-SELECTION_LENGTH.true)) in
+    (read-codes c.args.text.now c.args.selection.now found.0 found.1 (read_short found.0 _ found.2 c.args.selection.now (omega arith) c.if-selection-lt-SELECTION_LENGTH.true)) in
     record { for_answer = parts.0; for_answer_2 = parts.1.0; for_answer_3 = parts.1.1 }
 
 pub slice_bounds-own-end : goal.slice_bounds-own-end
@@ -42,8 +42,8 @@ copy-requires c =
 pub returns : goal.returns
 returns c =
     let found = reading_read (read_text c.args.text.now) c.read-reading.ensures.value c.in-Read.is in
-    let put = text-put-few c.args.text.now found.0 _ _ _ _ refl c.read-reading.ensures.selection_after found.1 found.2 c.typed_size-size.ensures c.if-codes-gt-MAX_CODES.false in
+    let put = text-put-few c.args.text.now found.0 _ _ _ _ refl c.read-reading.ensures.selection_after found.1 found.2 c.typed_size-size.ensures (omega arith) in
     let parts = read_typed c.args.text.now c.args.selection.now
     (read-codes c.args.text.now c.args.selection.now found.0 found.1
-    (read_given found.0 _ found.2 c.args.selection.now c.if-codes-gt-MAX_CODES.false _ c.if-selection-lt-SELECTION_LENGTH.false (c.copy.ensures ∙ put c.args.selection.now))) in
+    (read_given found.0 _ found.2 c.args.selection.now (omega arith) _ c.if-selection-lt-SELECTION_LENGTH.false (c.copy.ensures ∙ put c.args.selection.now))) in
     record { for_answer = parts.0; for_answer_2 = parts.1.0; for_answer_3 = parts.1.1 }
