@@ -1,4 +1,4 @@
--- What the program `ftlist` needs of the parts: that its checks of the input are programText's, and that what the full listing answers and leaves in
+-- What the program `ftlist` needs of the parts: that its checks of the input are `program_text`'s, and that what the full listing answers and leaves in
 -- the buffer can be printed, as the complete AllMatches.
 use Prim.Native.Nat.{ℕ, ◌%◌, ◌≤◌, ◌<◌}
 use native.Mathlib.Omega.{arith}
