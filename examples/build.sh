@@ -6,7 +6,7 @@ set -euo pipefail
 cd "$(dirname "${BASH_SOURCE[0]}")/.."
 crate=${1:-}
 case $crate in
-  jullpinay) command=lib made=libjullpinay.a target=target/staticlib/libjullpinay.a ;;
+  jullpinay) crate=jullpinay_c command=lib made=libjullpinay_c.a target=target/staticlib/libjullpinay.a ;;
   ftlist) command=run made=ftlist target=target/bin/ftlist ;;
   *)
     echo "examples/build.sh jullpinay, or examples/build.sh ftlist" >&2

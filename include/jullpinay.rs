@@ -1,5 +1,5 @@
 //! The engine's calls for Rust, a module as it stands. `include/jullpinay.h` declares the same for C, and says what each
-//! answers and what its caller owes. Nothing holds these declarations to `crates/jullpinay/src/lib.rt`: keep them alike.
+//! answers and what its caller owes. Nothing holds these declarations to `crates/jullpinay_c/src/lib.rt`: keep them alike.
 
 #[link(name = "jullpinay", kind = "static")]
 extern "C" {

@@ -1,4 +1,4 @@
-// The engine's calls for C and Rust: numbers pass as themselves, a slice as a pointer and a length, and an answer as the papers' own numbers.
+// The engine's calls with their answers as the papers' own numbers. `jullpinay_c` exports them to C and Rust.
 
 #![tactic(auto)]
 
@@ -36,8 +36,7 @@ fn put_listing(listing: Listing, answer: &mut [u32; 4]) -> u32
 }
 
 // The full listing. The answer is 0, M, S and 1 for yes or 0 for no; or a refusal's number and place, with the rest of it unchanged.
-#[unsafe(no_mangle)]
-pub extern "C" fn jullpinay_listing(
+pub fn jullpinay_listing(
     section: &[u32],
     families: &[u32],
     selection: &[u32],
@@ -74,8 +73,7 @@ fn put_quick(quick: Quick, answer: &mut [u32; 3]) -> u32
 }
 
 // The quick answer. The answer is 0, 1 for yes or 0 for no, and the count of codes; or a refusal's number and place, with the rest of it unchanged.
-#[unsafe(no_mangle)]
-pub extern "C" fn jullpinay_quick(
+pub fn jullpinay_quick(
     section: &[u32],
     families: &[u32],
     selection: &[u32],
@@ -90,8 +88,7 @@ pub extern "C" fn jullpinay_quick(
 }
 
 // The snippet's length. It stands in the section from the index `from` on.
-#[unsafe(no_mangle)]
-pub extern "C" fn jullpinay_snippet(section: &[u32], from: u32, to: u32) -> usize
+pub fn jullpinay_snippet(section: &[u32], from: u32, to: u32) -> usize
     ensures value { result ≡ length (snippet_of section.now from to) }
     ensures section_value { take result (drop from section.now) ≡ snippet_of section.now from to }
 {
@@ -100,8 +97,7 @@ pub extern "C" fn jullpinay_snippet(section: &[u32], from: u32, to: u32) -> usiz
 }
 
 // The full listing of a typed search, with the listing's answer; 10 and 11 are the text's errors.
-#[unsafe(no_mangle)]
-pub extern "C" fn jullpinay_typed_listing(
+pub fn jullpinay_typed_listing(
     section: &[u32],
     families: &[u32],
     text: &[u8],
@@ -118,8 +114,7 @@ pub extern "C" fn jullpinay_typed_listing(
 }
 
 // The quick answer of a typed search, with the quick answer's; 10 and 11 are the text's errors.
-#[unsafe(no_mangle)]
-pub extern "C" fn jullpinay_typed_quick(
+pub fn jullpinay_typed_quick(
     section: &[u32],
     families: &[u32],
     text: &[u8],
@@ -153,8 +148,7 @@ fn put_reading(reading: Reading, answer: &mut [u32; 2]) -> u32
 }
 
 // The reader alone: a typed search's codes as a selection. The answer is 0 and the number of codes; or a refusal's number and place.
-#[unsafe(no_mangle)]
-pub extern "C" fn jullpinay_read(text: &[u8], selection: &mut [u32], answer: &mut [u32; 2]) -> u32
+pub fn jullpinay_read(text: &[u8], selection: &mut [u32], answer: &mut [u32; 2]) -> u32
     ensures for_answer { ForAnswer text.now (λ a. result ≡ get_or (reading_values (read_answer a (length selection.old))) 0 0) }
     ensures for_answer_2 { ForAnswer text.now (λ a. answer.new ≡ sets answer.old 0 (reading_values (read_answer a (length selection.old)))) }
     ensures for_answer_3 { ForAnswer text.now (λ a. selection.new ≡ read_selection a selection.old) }

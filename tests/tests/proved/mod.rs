@@ -1,4 +1,4 @@
-//! The proved engine, by the exported functions of `crates/jullpinay`.
+//! The proved engine, by the exported functions of `crates/jullpinay_c`.
 
 #![allow(dead_code)]
 
