@@ -5,9 +5,6 @@ use Rattle.families.proofs.KinLaws.{kin_none}
 use borrow.Author.Rules.{rules}
 use Rattle.phrase.proofs.search_for.Goals as goal
 
-pub returns-then-not-look_up : goal.returns-then-not-look_up
-returns-then-not-look_up c = record { entries_of = c.look_up.ensures.entries_of; searched_by = c.look_up.ensures.out_of_table (c.if-not-look_up.true) }
-
 pub loop-i-init : goal.loop-i-init
 loop-i-init c = refl
 
@@ -17,4 +14,4 @@ returns-then-count-ne0 c =
     record { entries_of = c.look_up.ensures.entries_of; searched_by = record { in_phrase = c.loop-i-test.true; within = omega (arith, c.kin_of-count.ensures.upper_bound, same); are = c.kin_of-count.ensures.kin_of } }
 
 pub returns : goal.returns
-returns c = record { entries_of = c.look_up.ensures.entries_of; searched_by = record { in_phrase = c.look_up.ensures.in_bounds (c.if-not-look_up.false); within = omega arith; are = kin_none _ _ } }
+returns c = record { entries_of = c.look_up.ensures.entries_of; searched_by = record { in_phrase = c.look_up.ensures.in_bounds (search rules); within = omega arith; are = kin_none _ _ } }
