@@ -59,10 +59,10 @@ module _ (Q : Tree → Type 0) where
 
 -- ---- a part of a selection, and the trees that wait while it is built
 
-module _ (sel : List ℕ) (a : AcceptedSelection sel) (hi : ℕ) (w : PartAt (shape_at sel) hi) (up_to_lem : hi ≤ size sel) where
+module _ (sel : List ℕ) (a : AcceptedSelection sel) (hi : ℕ) (w : PartAt (shape_at sel) hi) (within : hi ≤ size sel) where
   pub part_formed : well_formed (postfix w.tree) ≡ true
   unfolding shapes_of
-  part_formed = part-well (shape_at sel) hi w (size sel) a.well up_to_lem
+  part_formed = part-well (shape_at sel) hi w (size sel) a.well within
 
   module _ (Q : Tree → Type 0) (whole : Every Q (parts (tree_of sel))) where
     every-part : Every Q (parts w.tree)
@@ -72,7 +72,7 @@ module _ (sel : List ℕ) (a : AcceptedSelection sel) (hi : ℕ) (w : PartAt (sh
         let F = up_to at hi in
         let R = up_to (λ i. at (hi + i)) (size sel - hi) in
         let s = fresh 1 1 in
-        let codes : shapes_of sel ≡ F ++ R = up_to_split at hi (size sel) up_to_lem in
+        let codes : shapes_of sel ≡ F ++ R = up_to_split at hi (size sel) within in
         let f = fits_all_split F R 0 0 (ap (λ (l : List Shape). fits_all l 0 0) (sym codes) ∙ (formed (shapes_of sel) a.well).fit) in
         let g = steps F s f.0 in
         let r = steps R (read_all F s) (rw (g.lists, g.loose) f.1) in

@@ -1,4 +1,4 @@
--- Functions on lists that the definitions use. What the library has (map, flatMap, take, drop) is the library's.
+-- Functions on lists that the definitions use. What the library has (map, flat_map, take, drop) is the library's.
 use Rattle.std.specs.Prelude.{ℕ, zero, suc, ◌+◌, ◌-◌, Bool, true, false, ◌&&◌, ◌||◌, cond, List, [], ◌∷◌, ◌++◌, map}
 use Rattle.std.proofs.Math.Option.{Option, some, none}
 
