@@ -38,13 +38,13 @@ pub const MAX_NUMBER: u64 = 4096;
 pub const SELECTION_LENGTH: usize = 129;
 
 // Three countings, none of which stands for another.
-#[derive(Clone, Copy)]
+#[derive(Clone, Copy, PartialEq, Eq, PartialOrd, Ord)]
 pub struct Position(pub u32);
 
-#[derive(Clone, Copy)]
+#[derive(Clone, Copy, PartialEq, Eq, PartialOrd, Ord)]
 pub struct Sentence(pub u32);
 
-#[derive(Clone, Copy)]
+#[derive(Clone, Copy, PartialEq, Eq, PartialOrd, Ord)]
 pub struct Paragraph(pub u32);
 
 // A combination of the last two lists: kinds 2, 3 and 5.
