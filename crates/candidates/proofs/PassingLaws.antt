@@ -13,7 +13,7 @@ use Rattle.model.proofs.ListsLaws.{any_append}
 use Rattle.model.proofs.RulesLaws.{strings-append}
 use Rattle.model.proofs.TestsLaws.{both_false}
 use Rattle.strings.specs.Strings.{strs_at}
-use Rattle.store.specs.declared.matches.Bounds.{Bounds}
+use Rattle.store.specs.declared.bounds.Bounds.{Bounds}
 use Rattle.store.specs.Stream.{Remaining, RemainingAt, SearchInvariant}
 use Rattle.store.specs.ValidStr.{ValidStr}
 use Rattle.store.specs.Layout.{BoundsOf, Holds, match_length, match_numbers, matches_numbers}

@@ -23,7 +23,7 @@ use Rattle.filter_rules.specs.declared.Keeper.{Keeper}
 use Rattle.filter_rules.specs.declared.Rule.TheVariants.{Keep}
 use Rattle.filter_rules.specs.Keepers.{filter_of, keeping_of}
 use Rattle.filter_rules.proofs.KeepersLaws.{keeper_match}
-use Rattle.store.specs.declared.matches.Bounds.{Bounds}
+use Rattle.store.specs.declared.bounds.Bounds.{Bounds}
 use Rattle.store.specs.Layout.{BoundsOf}
 use Rattle.store.specs.Stream.{MatchHolds}
 use Rattle.store.proofs.DecodeLaws.{includes-within, excludes-within}

@@ -19,7 +19,7 @@ use Rattle.strings.specs.Strings.{str_of, strs_of, strs_at}
 use Rattle.strings.proofs.StringsLaws.{length-strs_at, strs_at-none}
 use Rattle.join.specs.Joined.{joined}
 use Rattle.join.proofs.JoinLaws.{strs_of-join}
-use Rattle.store.specs.declared.matches.Bounds.{Bounds}
+use Rattle.store.specs.declared.bounds.Bounds.{Bounds}
 use Rattle.store.specs.Built.{Small}
 use Rattle.store.specs.Each.{OneAt}
 use Rattle.store.specs.ValidStr.{ValidStr}

@@ -2,7 +2,7 @@
 use Rattle.std.specs.Prelude.{ℕ, ◌+◌, ◌-◌, ◌≤◌, min, Bool, cond, List, [], ◌∷◌, length, take, drop, get_or}
 use Rattle.model.specs.Matches.{Str, Match}
 use Rattle.model.specs.Rules.{Keeping, join, kept_match}
-use Rattle.store.specs.declared.matches.Bounds.{Bounds}
+use Rattle.store.specs.declared.bounds.Bounds.{Bounds}
 use Rattle.store.specs.Each.{OneAt}
 use Rattle.store.specs.Layout.{BoundsOf, match_numbers, matches_numbers}
 use Rattle.store.specs.Put.{Put}

@@ -7,7 +7,7 @@ use lib.ListN.{length, get_or, set}
 use lib.Seq.{sets}
 use Rattle.model.specs.Limits.{max_strings}
 use Rattle.model.specs.Matches.{Match, strings_in, strings}
-use Rattle.store.specs.declared.matches.Bounds.{Bounds}
+use Rattle.store.specs.declared.bounds.Bounds.{Bounds}
 use Rattle.store.specs.Layout.{BoundsOf, includes_in, excludes_in, match_length}
 use Rattle.store.specs.Put.{Put}
 use Rattle.store.specs.Stream.{Remaining}

@@ -7,7 +7,7 @@ use Rattle.model.specs.declared.Position.{Position}
 use Rattle.model.specs.Rules.{covered, kept_if, mild_not_list, has_uncovered}
 use Rattle.model.proofs.RulesLaws.{length_none}
 use Rattle.strings.specs.Strings.{strs_at}
-use Rattle.store.specs.declared.matches.Bounds.{Bounds}
+use Rattle.store.specs.declared.bounds.Bounds.{Bounds}
 use Rattle.store.specs.declared.Built.{Built}
 use Rattle.store.specs.Each.{OneAt}
 use Rattle.store.specs.Layout.{BoundsOf, includes_in, matches_at, match_length, matches_numbers, slot_size}

@@ -12,7 +12,7 @@ use Rattle.model.specs.Matches.{Match, strings_in}
 use Rattle.model.specs.Rules.{joined, no_strings}
 use Rattle.model.proofs.RulesLaws.{weight_some, digit_less}
 use Rattle.strings.specs.Strings.{strs_of}
-use Rattle.store.specs.declared.matches.Bounds.{Bounds}
+use Rattle.store.specs.declared.bounds.Bounds.{Bounds}
 use Rattle.store.specs.Layout.{BoundsOf, includes_in, excludes_in, matches_at}
 use Rattle.store.specs.Put.{Put}
 use Rattle.store.specs.Stream.{Remaining}

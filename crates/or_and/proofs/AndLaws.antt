@@ -10,7 +10,7 @@ use Rattle.model.specs.Matches.{Match}
 use Rattle.model.specs.Rules.{joined, and_list}
 use Rattle.model.proofs.RulesLaws.{strings-joined, length-and, strings-and}
 use Rattle.strings.specs.Strings.{strs_of}
-use Rattle.store.specs.declared.matches.Bounds.{Bounds}
+use Rattle.store.specs.declared.bounds.Bounds.{Bounds}
 use Rattle.store.specs.declared.Built.TheVariants.{Made}
 use Rattle.store.specs.Built.{built_of, sized_as}
 use Rattle.store.specs.Indices.{ClosingMatch, SlotBelow}

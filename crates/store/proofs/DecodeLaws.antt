@@ -15,9 +15,9 @@ use Rattle.model.specs.Matches.{Str, Match, strings_in}
 use Rattle.model.proofs.LimitsLaws.{upper_half, lower_half}
 use Rattle.strings.specs.Strings.{strs_of, str_of, strs_at}
 use Rattle.store.specs.ValidStr.{ValidStr}
-use Rattle.store.specs.declared.matches.Bounds.{Bounds}
+use Rattle.store.specs.declared.bounds.Bounds.{Bounds}
 use Rattle.store.specs.Layout.{BoundsOf, Holds, header_of, includes_in, excludes_in, match_length, match_numbers}
-use Rattle.store.specs.Stream.{Header, MatchHolds}
+use Rattle.store.specs.Stream.{MatchHeader, MatchHolds}
 use Rattle.store.proofs.MemoryLaws.{get_d_head, holds_tail, holds-left, holds-right, holds-part}
 use Rattle.store.proofs.LayoutLaws.{length-strs_of, length_match}
 
@@ -66,7 +66,7 @@ module _ {mem : List ℕ} {p : ℕ} (m : Match) (r : Holds mem p (match_numbers 
   -- a match in memory, with its header's numbers
   pub match_holds : AllMatch ValidStr m → MatchHolds mem p m
   match_holds f =
-      let numbers : Header mem p = omega (arith, includes-are, excludes-are, length_match m, r.within) in
+      let numbers : MatchHeader mem p = omega (arith, includes-are, excludes-are, length_match m, r.within) in
       record { holds = r; few = few; valid = f; header = numbers }
 
 module _ {mem : List ℕ} {p : ℕ} {m : Match} (h : MatchHolds mem p m) where

@@ -6,7 +6,8 @@ use mathlib.Core.Path.{◌≡◌, refl, sym, ap, ap₂, ◌∙◌, subst}
 use mathlib.Core.List.{List, [], ◌∷◌, ◌++◌}
 use mathlib.Core.Logic.{inl}
 use lib.ListN.{length, take, drop, get_or, set, length-append}
-use lib.Seq.{sets, length-sets}
+use lib.Seq.{sets, length-sets, sets-eq}
+use Rattle.std.specs.List.{copy_within}
 use Rattle.model.specs.Limits.{radix}
 use Rattle.model.specs.Matches.{Match, strings_in}
 use Rattle.model.specs.Rules.{kept_if}
@@ -58,8 +59,13 @@ put-held {a} {q = q} {xs = xs} {ys} at e r v =
     }
 
 -- a copy of numbers that memory holds
-pub put_copy : {a b : List ℕ} {from : ℕ} {xs : List ℕ} (n to : ℕ) → n ≡ length xs → Holds a from xs → b ≡ sets a to (take n (drop from a)) → Put a b to xs (to + n)
-put_copy {a} n to h r e = record { wrote = e ∙ ap (sets a to) (holds-part n h r); next_is = ap (λ k. to + k) h }
+pub put_copy : {a b : List ℕ} {from end to next : ℕ} {xs : List ℕ} → end ≡ from + length xs → next ≡ to + length xs → next ≤ length a → Holds a from xs
+    → b ≡ copy_within a from end to → Put a b to xs next
+put_copy {a} {b} {from} {end} {to} {next} {xs} e f room h w =
+    let n : end - from ≡ length xs = omega arith in
+    let part : b ≡ take to a ++ xs ++ drop (to + length xs) a =
+    w ∙ ap₂ (λ ys k. take to a ++ ys ++ drop (to + k) a) (holds-part (end - from) n h) n in
+    record { wrote = part ∙ sym (sets-eq xs a to (omega arith)); next_is = f }
 
 -- ---- a match
 
@@ -88,9 +94,9 @@ module _ {a b c : List ℕ} (q : ℕ) {excludes end : ℕ} (m : Match) (v : Put 
   closed_match {d} e = subst (λ l. Put a l q (match_numbers m) end) (sym e) (put_match m (put-append v w) (ap₂ header_of includes-are excludes-are))
 
 -- a match copied
-pub put-copied : {a b : List ℕ} {p : ℕ} {m : Match} (n q : ℕ) → MatchHolds a p m → n ≡ match_length (get_or a p 0)
-    → b ≡ sets a q (take n (drop p a)) → Put a b q (match_numbers m) (q + n)
-put-copied n q h l e = put_copy n q (l ∙ length-held h) h.holds e
+pub put-copied : {a b : List ℕ} {p end q next : ℕ} {m : Match} → MatchHolds a p m → end ≡ p + match_length (get_or a p 0) → next ≡ q + match_length (get_or a p 0)
+    → next ≤ length a → b ≡ copy_within a p end q → Put a b q (match_numbers m) next
+put-copied h e f room w = put_copy (omega (arith, e, length-held h)) (omega (arith, f, length-held h)) room h.holds w
 
 -- a match that is kept, and one that is not
 pub put-kept : {a b : List ℕ} {q next : ℕ} {test : Bool} (m : Match) → test ≡ true → Put a b q (match_numbers m) next → Put a b q (matches_numbers (kept_if test m)) next

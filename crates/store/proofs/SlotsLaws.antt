@@ -2,7 +2,7 @@
 -- writes it and then puts the header.
 use Prim.Native.Nat.{ℕ, ◌+◌, ◌≤◌, ◌<◌}
 use native.Mathlib.Omega.{arith}
-use mathlib.Core.Path.{◌≡◌, refl, sym, ap₂, ◌∙◌, subst}
+use mathlib.Core.Path.{◌≡◌, refl, sym, ap, ap₂, ◌∙◌, subst}
 use mathlib.Core.Bool.{Bool, true, false, cond, or-true, true≢false}
 use mathlib.Core.List.{List, [], ◌∷◌}
 use mathlib.Core.Logic.{◌⊎◌, inl, inr}
@@ -14,9 +14,8 @@ use Rattle.model.specs.AllStrings.{AllList}
 use Rattle.model.specs.Limits.{max_matches, max_strings}
 use Rattle.model.specs.Matches.{Match, strings, too_long}
 use Rattle.model.proofs.TestsLaws.{both_false}
-use Rattle.store.specs.declared.Built.{Built}
-use Rattle.store.specs.declared.Built.TheVariants.{Made, TooLong}
-use Rattle.store.specs.Built.{built_of, Small}
+use Rattle.store.specs.declared.Size.{Size}
+use Rattle.store.specs.Built.{Built, built_of, made, over, Small}
 use Rattle.store.specs.Indices.{Closing}
 use Rattle.store.specs.ValidStr.{ValidStr}
 use Rattle.store.specs.Layout.{Holds, matches_numbers, slot_length, slot_numbers, slot_size, strings_before}
@@ -26,6 +25,7 @@ use Rattle.store.specs.Slot.{SlotHeader, SlotHolds}
 use Rattle.store.specs.Stream.{Remaining}
 use Rattle.store.proofs.MemoryLaws.{get_d_head, holds_tail}
 use Rattle.store.proofs.PutLaws.{holds-put, holds-below, put_front, length-put}
+use Rattle.std.specs.Prelude.{Ok}
 use Rattle.store.proofs.LayoutLaws.{length_matches, length-slot, slot-fits}
 
 -- ---- SlotHolds
@@ -86,39 +86,40 @@ module _ (ms : List Match) where
   long (inr h) = rw (lt-ltb max_strings (strings ms) h) (or-true (ltb max_matches (length ms)))
 
   -- the answer of a list that isn't too long, and of one that is
-  pub built_made : {m s : ℕ} → length ms ≡ m → strings ms ≡ s → Small ms → Made m s ≡ built_of ms
-  built_made e f h = rw (not-long h) (sym (ap₂ Made e f))
+  pub built_made : {m s : ℕ} → length ms ≡ m → strings ms ≡ s → Small ms → made m s ≡ built_of ms
+  built_made e f h = rw (not-long h) (sym (ap₂ made e f))
 
-  pub built_long : (max_matches < length ms) ⊎ (max_strings < strings ms) → TooLong ≡ built_of ms
+  pub built_long : (max_matches < length ms) ⊎ (max_strings < strings ms) → over ≡ built_of ms
   built_long h = rw (long h)
 
   -- what an answer tells of the list
-  pub record Sized (m s : ℕ) : Type 0 where
+  pub record Sized (size : Size) : Type 0 where
     pub fits : too_long ms ≡ false
     pub small : Small ms
-    pub matches_are : length ms ≡ m
-    pub strings_are : strings ms ≡ s
+    pub matches_are : length ms ≡ size.matches
+    pub strings_are : strings ms ≡ size.strings
 
-  pub answer_made : {m s : ℕ} → Made m s ≡ built_of ms → Sized m s
-  answer_made {m} {s} e = at (too_long ms) refl e
+  pub answer_made : {size : Size} → Ok size ≡ built_of ms → Sized size
+  answer_made {size} e = at (too_long ms) refl e
     where
-      at : (t : Bool) → too_long ms ≡ t → Made m s ≡ cond t TooLong (Made (length ms) (strings ms)) → Sized m s
-      at true q e' = absurd (let z : ◌≡◌ {A = ℕ} 0 1 = cc in omega arith)
+      at : (t : Bool) → too_long ms ≡ t → Ok size ≡ cond t over (made (length ms) (strings ms)) → Sized size
+      at true q e' = absurd cc
       at false q e' =
           let b = both_false (ltb max_matches (length ms)) (ltb max_strings (strings ms)) q in
+          let same : size ≡ record { matches = length ms; strings = strings ms } = cc in
           record {
             fits = q;
             small = record { few = ltb-false max_matches (length ms) b.0; strs = ltb-false max_strings (strings ms) b.1 };
-            matches_are = cc;
-            strings_are = cc;
+            matches_are = ap (λ (z : Size). z.matches) (sym same);
+            strings_are = ap (λ (z : Size). z.strings) (sym same);
           }
 
-  pub answer-long : TooLong ≡ built_of ms → too_long ms ≡ true
+  pub answer-long : over ≡ built_of ms → too_long ms ≡ true
   answer-long e = at (too_long ms) e
     where
-      at : (t : Bool) → TooLong ≡ cond t TooLong (Made (length ms) (strings ms)) → t ≡ true
+      at : (t : Bool) → over ≡ cond t over (made (length ms) (strings ms)) → t ≡ true
       at true e' = refl
-      at false e' = absurd (let z : ◌≡◌ {A = ℕ} 0 1 = cc in omega arith)
+      at false e' = absurd cc
 
 -- ---- Outcome
 
@@ -129,25 +130,25 @@ closing {ms} h v room = omega (arith, v.put.next_is, length_matches ms, v.count_
 
 module _ {ms : List Match} {entry exit : List ℕ} {at : ℕ} where
   -- a rule that sizes first refuses a list that is too long
-  pub refused : {built : Built} → built ≡ built_of ms → built ≡ TooLong → Outcome ms entry exit at built
+  pub refused : {built : Built} → built ≡ built_of ms → built ≡ over → Outcome ms entry exit at built
   refused e t = record { answered = e; written = λ f. absurd (true≢false (sym (answer-long ms (sym t ∙ e)) ∙ f)) }
 
   -- a rule has written its list after the header, and then puts it
-  pub filled : {E : List ℕ} {m s next : ℕ} → Made m s ≡ built_of ms → Put entry E (at + 2) (matches_numbers ms) next → exit ≡ sets E at (m ∷ s ∷ [])
-      → Outcome ms entry exit at (Made m s)
+  pub filled : {E : List ℕ} {size : Size} {next : ℕ} → Ok size ≡ built_of ms → Put entry E (at + 2) (matches_numbers ms) next
+      → exit ≡ sets E at (size.matches ∷ size.strings ∷ []) → Outcome ms entry exit at (Ok size)
   unfolding slot_numbers
-  filled {E} {m} {s} b v e =
+  filled {E} {size} b v e =
       let z = answer_made ms b in
       let front : Put E exit at (length ms ∷ strings ms ∷ []) (at + 2) =
       record { wrote = e ∙ ap₂ (λ x y. sets E at (x ∷ y ∷ [])) (sym z.matches_are) (sym z.strings_are); next_is = refl } in
       record { answered = b; written = λ f. (put_front v front).wrote }
 
   -- .. by the number of its matches and the index after them
-  pub closed : {E : List ℕ} {next matches : ℕ} {built : Built} → Small ms → PutMatches entry E (at + 2) ms next matches
-      → Closed E exit at next matches built → Outcome ms entry exit at built
+  pub closed : {E : List ℕ} {next matches : ℕ} {size : Size} → Small ms → PutMatches entry E (at + 2) ms next matches
+      → Closed E exit at next matches size → Outcome ms entry exit at (Ok size)
   closed {next = next} {matches} h v c =
       let strings_are : strings ms ≡ strings_before next at matches = omega (arith, v.put.next_is, length_matches ms, v.count_is) in
-      subst (Outcome ms entry exit at) (sym c.answered) (filled (built_made ms v.count_is strings_are h) v.put c.header)
+      subst (λ z. Outcome ms entry exit at (Ok z)) (sym c.counted) (filled (built_made ms v.count_is strings_are h) v.put c.header)
 
   module _ {built : Built} (o : Outcome ms entry exit at built) where
     -- the list as numbers put
@@ -155,7 +156,7 @@ module _ {ms : List Match} {entry exit : List ℕ} {at : ℕ} where
     outcome-put f = record { wrote = o.written f; next_is = refl }
 
     -- what a rule's caller then has
-    pub outcome-slot : {m s : ℕ} → built ≡ Made m s → AllList ValidStr ms → at + slot_size ≤ length entry → SlotHolds exit at ms
+    pub outcome-slot : {size : Size} → built ≡ Ok size → AllList ValidStr ms → at + slot_size ≤ length entry → SlotHolds exit at ms
     outcome-slot e f h =
         let z = answer_made ms (sym e ∙ o.answered) in
         slot-holds ms (holds-put (outcome-put z.fits) (omega (arith, slot-fits ms z.small))) z.small f

@@ -9,9 +9,9 @@ use lib.Seq.{sets}
 use Rattle.model.specs.AllStrings.{AllList}
 use Rattle.model.specs.Limits.{max_waiting, work_length}
 use Rattle.model.specs.Matches.{Match}
-use Rattle.store.specs.declared.Built.{Built}
-use Rattle.store.specs.declared.Built.TheVariants.{Made}
-use Rattle.store.specs.Built.{Small}
+use Rattle.std.specs.Prelude.{Ok}
+use Rattle.store.specs.declared.Size.{Size}
+use Rattle.store.specs.Built.{Built, Small}
 use Rattle.store.specs.ValidStr.{ValidStr}
 use Rattle.store.specs.Layout.{slot_numbers, slot_size, slot_at, scratch}
 use Rattle.store.specs.Outcome.{Outcome}
@@ -48,8 +48,8 @@ stack_push ms lists h f room v s =
     (slot-holds ms held h f, stack-below v lists (omega arith) s)
 
 -- so does a list that a rule has built in the slot for that, once it is copied down
-pub stack_built : {mem mem' mem'' : List ℕ} {m s : ℕ} {built : Built} (ms : List Match) (lists : List (List Match)) → length lists < max_waiting → work_length ≤ length mem
-    → AllList ValidStr ms → Outcome ms mem mem' scratch built → built ≡ Made m s → mem'' ≡ sets mem' (slot_at (length lists)) (slot_numbers ms)
+pub stack_built : {mem mem' mem'' : List ℕ} {size : Size} {built : Built} (ms : List Match) (lists : List (List Match)) → length lists < max_waiting → work_length ≤ length mem
+    → AllList ValidStr ms → Outcome ms mem mem' scratch built → built ≡ Ok size → mem'' ≡ sets mem' (slot_at (length lists)) (slot_numbers ms)
     → Stack mem lists → Stack mem'' (ms ∷ lists)
 stack_built ms lists few room f o e copied st =
     let z = answer_made ms (sym e ∙ o.answered) in

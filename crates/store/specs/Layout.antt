@@ -5,7 +5,7 @@ use mathlib.Core.List.{List, ◌∷◌, ◌++◌, flat_map}
 use Rattle.model.specs.Limits.{radix}
 use Rattle.model.specs.Matches.{Match, strings}
 use Rattle.strings.specs.Strings.{strs_of}
-use Rattle.store.specs.declared.matches.Bounds.{Bounds}
+use Rattle.store.specs.declared.bounds.Bounds.{Bounds}
 
 -- a header, and its two counts back
 abbrev pub header_of : ℕ → ℕ → ℕ

@@ -8,7 +8,7 @@ use Rattle.store.specs.ValidStr.{ValidStr}
 use Rattle.store.specs.Layout.{Holds, includes_in, excludes_in, match_length, match_numbers, matches_numbers}
 
 -- what the header at `at` says: a match that lies within memory, with strings within the limits
-pub record Header (mem : List ℕ) (at : ℕ) : Type 0 where
+pub record MatchHeader (mem : List ℕ) (at : ℕ) : Type 0 where
   pub within : at + match_length (get_or mem at 0) ≤ length mem
   pub few : includes_in (get_or mem at 0) + excludes_in (get_or mem at 0) ≤ max_strings
 
@@ -17,7 +17,7 @@ pub record MatchHolds (mem : List ℕ) (at : ℕ) (m : Match) : Type 0 where
   pub holds : Holds mem at (match_numbers m)
   pub few : strings_in m ≤ max_strings
   pub valid : AllMatch ValidStr m
-  pub header : Header mem at
+  pub header : MatchHeader mem at
 
 -- of a list the matches todo are left to a loop: they lie from `from` up to end
 pub record Remaining (todo : List Match) (mem : List ℕ) (from end : ℕ) : Type 0 where

@@ -3,22 +3,18 @@
 
 #![tactic(auto)]
 
-mod copying;
+mod bounds;
 mod matches;
 mod slots;
 
 ghost use Rattle.std.specs.Prelude.{◌≡◌};
 ghost use Rattle.store.specs.Built.{sized_as};
 
-pub use copying::{copy_down, copy_up};
-pub use matches::{
-    Bounds, bounds_at, bounds_by, close_match, excludes_in, includes_in, match_end, match_length,
-    put_string, strings_in,
-};
+pub use bounds::Bounds;
+pub use matches::{Header, bounds_at, close_match, match_end, put_string};
 use model::{MAX_MATCHES, MAX_STRINGS};
 pub use slots::{
-    close_slot, copy_slot_down, count_one, is_yes, put_slot_header, slot_end, slot_matches,
-    slot_strings,
+    close_slot, copy_slot_down, count_one, is_yes, put_slot_header, size_at, slot_end,
 };
 
 // How many numbers a slot takes at most: 2 + 256 + 2 × 512.
@@ -30,24 +26,27 @@ pub const FIRST_STRING: usize = 1;
 // Where the slot to build in lies: after eight others.
 pub const SCRATCH: usize = 10256;
 
-// What building a list comes to.
-#[derive(Clone, Copy)]
-pub enum Built {
-    // the list is in its slot, with so many matches and strings
-    Made { matches: u32, strings: u32 },
-    // it has over 256 matches or 512 strings
-    TooLong,
+// How many matches a list has, and how many strings they have together.
+#[derive(Clone, Copy, PartialEq, Eq)]
+pub struct Size {
+    pub matches: u32,
+    pub strings: u32,
 }
+
+// A list has over 256 matches or 512 strings.
+#[derive(Clone, Copy, PartialEq, Eq)]
+pub struct TooLong;
+
+// What building a list comes to: it is in its slot and has this size, or it is too long.
+pub type Built = Result<Size, TooLong>;
 
 // The answer for a list of so many matches and strings.
 pub fn sized(matches: u32, strings: u32) -> Built
     ensures { result ≡ sized_as matches strings }
 {
-    if MAX_MATCHES < matches {
-        return Built::TooLong;
+    if MAX_MATCHES < matches || MAX_STRINGS < strings {
+        Err(TooLong)
+    } else {
+        Ok(Size { matches, strings })
     }
-    if MAX_STRINGS < strings {
-        return Built::TooLong;
-    }
-    Built::Made { matches, strings }
 }

@@ -3,84 +3,83 @@ ghost use Rattle.std.specs.Prelude.{[], ◌∷◌, ◌≡◌, ◌+◌, ◌^◌, 
 ghost use Rattle.store.specs.Indices.{ClosingMatch, Counts};
 ghost use Rattle.store.specs.Layout.{BoundsOf, excludes_in, header_between, header_of, includes_in, match_length};
 ghost use Rattle.store.specs.Put.{Put};
-ghost use Rattle.store.specs.Stream.{Header};
+ghost use Rattle.store.specs.Stream.{MatchHeader};
 
 use super::FIRST_STRING;
+use super::bounds::Bounds;
 use model::RADIX;
 
-// The header of a match with so many includes and excludes.
-fn header(includes: usize, excludes: usize) -> u32
-    requires { Counts includes excludes }
-    ensures { result ≡ header_of includes excludes }
-{
-    includes as u32 * RADIX + excludes as u32
-}
+// A match's header: how many includes and how many excludes it has, in one number.
+#[derive(Clone, Copy, PartialEq, Eq)]
+pub struct Header(pub u32);
 
-// How many includes a match has, by its header.
-pub fn includes_in(header: u32) -> usize
-    ensures { result ≡ includes_in header }
-{
-    strings::halves::upper(header) as usize
-}
+impl Header {
+    // The header of a match with so many includes and excludes.
+    fn new(includes: usize, excludes: usize) -> Header
+        requires { Counts includes excludes }
+        ensures { result.0 ≡ header_of includes excludes }
+    {
+        Header(includes as u32 * RADIX + excludes as u32)
+    }
 
-// How many excludes a match has, by its header.
-pub fn excludes_in(header: u32) -> usize
-    ensures { result ≡ excludes_in header }
-{
-    strings::halves::lower(header) as usize
-}
+    // How many includes the match has.
+    pub fn includes(self) -> usize
+        ensures { result ≡ includes_in self.0 }
+    {
+        strings::halves::upper(self.0) as usize
+    }
 
-// How many strings a match has, by its header.
-pub fn strings_in(header: u32) -> usize
-    ensures { result ≡ includes_in header + excludes_in header }
-{
-    includes_in(header) + excludes_in(header)
-}
+    // How many excludes it has.
+    pub fn excludes(self) -> usize
+        ensures { result ≡ excludes_in self.0 }
+    {
+        strings::halves::lower(self.0) as usize
+    }
 
-// How many numbers a match takes, by its header.
-pub fn match_length(header: u32) -> usize
-    ensures { result ≡ match_length header }
-{
-    1 + 2 * strings_in(header)
-}
+    // How many strings it has.
+    pub fn strings(self) -> usize
+        ensures { result ≡ includes_in self.0 + excludes_in self.0 }
+    {
+        self.includes() + self.excludes()
+    }
 
-// Where a match lies: its includes, then its excludes, then what is after it.
-#[derive(Clone, Copy)]
-pub struct Bounds {
-    pub includes: usize,
-    pub excludes: usize,
-    pub end: usize,
-}
+    // How many numbers it takes.
+    pub fn length(self) -> usize
+        ensures { result ≡ match_length self.0 }
+    {
+        1 + 2 * self.strings()
+    }
 
-// The bounds of a match at `at` with this header.
-pub fn bounds_by(header: u32, at: usize) -> Bounds
-    requires { at + match_length header < 2 ^ 64 }
-    ensures { BoundsOf header at result }
-{
-    let includes = at + FIRST_STRING;
-    let excludes = includes + 2 * includes_in(header);
-    let end = excludes + 2 * excludes_in(header);
-    Bounds {
-        includes,
-        excludes,
-        end,
+    // The bounds of the match at `at`.
+    pub fn bounds(self, at: usize) -> Bounds
+        requires { at + match_length self.0 < 2 ^ 64 }
+        ensures { BoundsOf self.0 at result }
+    {
+        let includes = at + FIRST_STRING;
+        let excludes = includes + 2 * self.includes();
+        let end = excludes + 2 * self.excludes();
+        Bounds {
+            includes,
+            excludes,
+            end,
+        }
     }
 }
 
 // The bounds of the match at `at`.
 pub fn bounds_at(mem: &[u32], at: usize) -> Bounds
-    requires { Header mem.now at }
+    requires { MatchHeader mem.now at }
     ensures { BoundsOf (get_or mem.now at 0) at result }
 {
-    bounds_by(mem[at], at)
+    Header(mem[at]).bounds(at)
 }
 
 // The index after the match at `at`.
 pub fn match_end(mem: &[u32], at: usize) -> usize
-    requires { Header mem.now at }
+    requires { MatchHeader mem.now at }
     ensures { result ≡ at + match_length (get_or mem.now at 0) }
 {
-    at + match_length(mem[at])
+    at + Header(mem[at]).length()
 }
 
 // Puts a string; gives the index after it.
@@ -99,5 +98,6 @@ pub fn close_match(mem: &mut [u32], at: usize, excludes: usize, end: usize)
     ensures { mem.new ≡ set mem.old at (header_between at excludes end) }
 {
     let includes = at + FIRST_STRING;
-    mem[at] = header((excludes - includes) / 2, (end - excludes) / 2);
+    let header = Header::new((excludes - includes) / 2, (end - excludes) / 2);
+    mem[at] = header.0;
 }

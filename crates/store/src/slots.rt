@@ -8,24 +8,19 @@ ghost use Rattle.store.specs.Layout.{matches_at, slot_length, slot_numbers, slot
 ghost use Rattle.store.specs.Outcome.{Closed};
 ghost use Rattle.store.specs.Slot.{SlotHeader, SlotAt};
 
-use super::copying::copy_down;
-use super::matches::{excludes_in, match_length};
-use super::{Built, FIRST_MATCH};
+use super::matches::Header;
+use super::{FIRST_MATCH, Size};
 
-// How many matches the list in a slot has, by its header.
-pub fn slot_matches(mem: &[u32], at: usize) -> u32
+// The size of the list in a slot, by its header.
+pub fn size_at(mem: &[u32], at: usize) -> Size
     requires { SlotHeader mem.now at }
-    ensures { result ≡ matches_at mem.now at }
+    ensures matches { result.matches ≡ matches_at mem.now at }
+    ensures strings { result.strings ≡ strings_at mem.now at }
 {
-    mem[at]
-}
-
-// How many strings the list in a slot has, by its header.
-pub fn slot_strings(mem: &[u32], at: usize) -> u32
-    requires { SlotHeader mem.now at }
-    ensures { result ≡ strings_at mem.now at }
-{
-    mem[at + 1]
+    Size {
+        matches: mem[at],
+        strings: mem[at + 1],
+    }
 }
 
 // The index after the list in a slot, by its header.
@@ -33,9 +28,8 @@ pub fn slot_end(mem: &[u32], at: usize) -> usize
     requires { SlotHeader mem.now at }
     ensures { result ≡ at + slot_length mem.now at }
 {
-    let matches = slot_matches(mem, at) as usize;
-    let strings = slot_strings(mem, at) as usize;
-    at + FIRST_MATCH + matches + 2 * strings
+    let size = size_at(mem, at);
+    at + FIRST_MATCH + size.matches as usize + 2 * size.strings as usize
 }
 
 // Copies the list in a slot to a slot below it.
@@ -45,16 +39,16 @@ pub fn copy_slot_down(mem: &mut [u32], from: usize, to: usize)
     ensures { (w : SlotAt mem.old from) → mem.new ≡ sets mem.old to (slot_numbers w.list) }
 {
     let end = slot_end(mem, from);
-    copy_down(mem, from, end - from, to);
+    mem.copy_within(from..end, to);
 }
 
 // Puts the two numbers of a slot's header.
-pub fn put_slot_header(mem: &mut [u32], at: usize, matches: u32, strings: u32)
+pub fn put_slot_header(mem: &mut [u32], at: usize, size: Size)
     requires { at + 2 ≤ length mem.old }
-    ensures { mem.new ≡ sets mem.old at (matches ∷ strings ∷ []) }
+    ensures { mem.new ≡ sets mem.old at (size.matches ∷ size.strings ∷ []) }
 {
-    mem[at] = matches;
-    mem[at + 1] = strings;
+    mem[at] = size.matches;
+    mem[at + 1] = size.strings;
 }
 
 // Counts matches in a loop that makes one at most of each: one more, where anything is written from q to next.
@@ -62,20 +56,18 @@ pub fn count_one(matches: u32, q: usize, next: usize) -> u32
     requires { matches ≤ max_matches }
     ensures { result ≡ matches + cond (ltb q next) 1 0 }
 {
-    if q < next {
-        return matches + 1;
-    }
-    matches
+    matches + u32::from(q < next)
 }
 
 // Puts the header of a slot whose matches are written, so many, up to next; the strings are the pairs of numbers that are left beside the headers.
-pub fn close_slot(mem: &mut [u32], at: usize, next: usize, matches: u32) -> Built
+pub fn close_slot(mem: &mut [u32], at: usize, next: usize, matches: u32) -> Size
     requires { Closing (length mem.old) at next matches }
     ensures { Closed mem.old mem.new at next matches result }
 {
     let strings = ((next - (at + FIRST_MATCH) - matches as usize) / 2) as u32;
-    put_slot_header(mem, at, matches, strings);
-    Built::Made { matches, strings }
+    let size = Size { matches, strings };
+    put_slot_header(mem, at, size);
+    size
 }
 
 // "a match without excludes": does the list in a slot have one?
@@ -86,11 +78,11 @@ pub fn is_yes(mem: &[u32], src: usize) -> bool
     let end = slot_end(mem, src);
     let mut at = src + FIRST_MATCH;
     while at < end {
-        let header = mem[at];
-        if excludes_in(header) == 0 {
+        let header = Header(mem[at]);
+        if header.excludes() == 0 {
             return true;
         }
-        at += match_length(header);
+        at += header.length();
     }
     false
 }

@@ -16,7 +16,7 @@ use Rattle.strings.specs.Strings.{strs_at, strs_of}
 use Rattle.join.specs.Joined.{joined}
 use Rattle.join.proofs.JoinLaws.{end_bound, join-some, strs_of-join}
 use Rattle.store.specs.ValidStr.{ValidStr}
-use Rattle.store.specs.declared.matches.Bounds.{Bounds}
+use Rattle.store.specs.declared.bounds.Bounds.{Bounds}
 use Rattle.store.specs.Layout.{BoundsOf}
 use Rattle.store.specs.Stream.{MatchHolds}
 use Rattle.store.proofs.DecodeLaws.{includes-held, includes-within}

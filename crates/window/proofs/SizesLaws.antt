@@ -17,7 +17,7 @@ use Rattle.model.proofs.RulesLaws.{strings-append}
 use Rattle.join.specs.Joined.{joined}
 use Rattle.strings.specs.Strings.{strs_at}
 use Rattle.strings.proofs.StringsLaws.{Left as StringsLeft, left-next, left-none, length-strs_at}
-use Rattle.store.specs.declared.matches.Bounds.{Bounds}
+use Rattle.store.specs.declared.bounds.Bounds.{Bounds}
 use Rattle.store.specs.declared.Built.{Built}
 use Rattle.store.specs.declared.Built.TheVariants.{Made, TooLong}
 use Rattle.store.specs.Built.{sized_as, built_of, Small}

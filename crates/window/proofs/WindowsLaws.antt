@@ -12,7 +12,7 @@ use Rattle.model.specs.Rules.{inside_window, join, window, window_ends, window_t
 use Rattle.model.proofs.ListsLaws.{length-keep, range_cons, range_empty}
 use Rattle.join.specs.Joined.{joined}
 use Rattle.strings.specs.Strings.{strs_at, strs_of}
-use Rattle.store.specs.declared.matches.Bounds.{Bounds}
+use Rattle.store.specs.declared.bounds.Bounds.{Bounds}
 use Rattle.store.specs.Each.{OneAt}
 use Rattle.store.specs.Layout.{BoundsOf, header_between, match_numbers, matches_numbers}
 use Rattle.store.specs.Indices.{ClosingMatch}

@@ -1,13 +1,13 @@
 use native.Mathlib.Omega.{arith}
 use mathlib.Core.Path.{refl}
-use Rattle.store.specs.Stream.{Header}
+use Rattle.store.specs.Stream.{MatchHeader}
 use Rattle.listing_buffer.proofs.ColumnLoopLaws.{Room, start, here, finish, column_room, column_step}
 use borrow.Author.Rules.{rules}
 use Rattle.listing_buffer.proofs.put_column.Goals as goal
 use Rattle.listing_buffer.proofs.put_column.Goals.{After-strings_in-strings, In-loop-i}
 
 -- the header in hand
-one : (c : In-loop-i) → Header c.args.mem.now c.loop-i.from
+one : (c : In-loop-i) → MatchHeader c.args.mem.now c.loop-i.from
 one c = (here (c.loop-i.invariant.2 c.requires.column_at) c.loop-i-test.true).held.header
 
 -- and room for its strings' numbers

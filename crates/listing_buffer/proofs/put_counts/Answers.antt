@@ -1,14 +1,14 @@
 use native.Mathlib.Omega.{arith}
 use mathlib.Core.Path.{refl}
 use lib.ListN.{length-set}
-use Rattle.store.specs.Stream.{Header}
+use Rattle.store.specs.Stream.{MatchHeader}
 use Rattle.listing_buffer.proofs.ColumnLoopLaws.{here, count-start, count_step, count_finish}
 use borrow.Author.Rules.{rules}
 use Rattle.listing_buffer.proofs.put_counts.Goals as goal
 use Rattle.listing_buffer.proofs.put_counts.Goals.{In-loop-i}
 
 -- the header in hand
-one : (c : In-loop-i) → Header c.args.mem.now c.loop-i.at
+one : (c : In-loop-i) → MatchHeader c.args.mem.now c.loop-i.at
 one c = (here (c.loop-i.invariant.2 c.requires.stream_at) c.loop-i-test.true).held.header
 
 pub loop-i-init : goal.loop-i-init

@@ -1,12 +1,12 @@
 use native.Mathlib.Omega.{arith}
-use Rattle.store.specs.Stream.{Header}
+use Rattle.store.specs.Stream.{MatchHeader}
 use Rattle.store.proofs.StreamLaws.{next-at}
 use Rattle.candidates.proofs.PassingLaws.{ending_start, ending_here, ending_later, ending_none}
 use Rattle.candidates.proofs.overlapping.end_of_overlapping.Goals as goal
 use Rattle.candidates.proofs.overlapping.end_of_overlapping.Goals.{In-loop-at}
 
 -- the header of the match in hand
-one : (c : In-loop-at) → Header c.args.mem.now c.loop-at.at
+one : (c : In-loop-at) → MatchHeader c.args.mem.now c.loop-at.at
 one c = (next-at (c.loop-at.invariant c.requires).left c.loop-at-test.true).held.header
 
 pub loop-at-init : goal.loop-at-init

@@ -1,5 +1,5 @@
 use native.Mathlib.Omega.{arith}
-use Rattle.store.specs.Stream.{Header}
+use Rattle.store.specs.Stream.{MatchHeader}
 use Rattle.store.proofs.StreamLaws.{next-at, search_start}
 use Rattle.candidates.specs.Overlapping.{overlap_both}
 use Rattle.candidates.proofs.PassingLaws.{passing-here, passing-later, passing-none}
@@ -7,7 +7,7 @@ use Rattle.candidates.proofs.overlapping.first_overlapping.Goals as goal
 use Rattle.candidates.proofs.overlapping.first_overlapping.Goals.{In-loop-at}
 
 -- the header of the match in hand
-one : (c : In-loop-at) → Header c.args.mem.now c.loop-at.at
+one : (c : In-loop-at) → MatchHeader c.args.mem.now c.loop-at.at
 one c = (next-at (c.loop-at.invariant c.requires).left c.loop-at-test.true).held.header
 
 pub loop-at-init : goal.loop-at-init

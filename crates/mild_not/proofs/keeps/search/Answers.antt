@@ -1,12 +1,12 @@
 use Rattle.std.proofs.Common.{◌+◌, ap, arith}
-use Rattle.store.specs.Stream.{Header}
+use Rattle.store.specs.Stream.{MatchHeader}
 use Rattle.store.proofs.StreamLaws.{next-at}
 use Rattle.mild_not.proofs.KeepsLaws.{against_start, against_covered, against_left, against_next, against_end}
 use Rattle.mild_not.proofs.keeps.search.Goals as goal
 use Rattle.mild_not.proofs.keeps.search.Goals.{In-loop-at}
 
 -- the header of the match of R in hand
-one : (c : In-loop-at) → Header c.args.mem.now c.loop-at.at
+one : (c : In-loop-at) → MatchHeader c.args.mem.now c.loop-at.at
 one c = (next-at (c.loop-at.invariant c.requires).search.left c.loop-at-test.true).held.header
 
 pub edges_at-edges-requires : goal.edges_at-edges-requires

@@ -1,5 +1,5 @@
 use Rattle.std.proofs.Common.{◌+◌, arith}
-use Rattle.store.specs.Stream.{Header}
+use Rattle.store.specs.Stream.{MatchHeader}
 use Rattle.store.proofs.DecodeLaws.{valid-within}
 use Rattle.store.proofs.StreamLaws.{next-at, search_start}
 use Rattle.candidates.proofs.PassingLaws.{passing-here, passing-later, passing-none, passing_trans}
@@ -8,7 +8,7 @@ use Rattle.mild_not.proofs.uncovered.next_covering.Goals as goal
 use Rattle.mild_not.proofs.uncovered.next_covering.Goals.{In-loop-at}
 
 -- the header of the match in hand
-one : (c : In-loop-at) → Header c.args.mem.now c.loop-at.at
+one : (c : In-loop-at) → MatchHeader c.args.mem.now c.loop-at.at
 one c = (next-at (c.loop-at.invariant.1 c.requires).left c.loop-at-test.true).held.header
 
 pub loop-at-init : goal.loop-at-init

@@ -1,6 +1,6 @@
 use Rattle.std.proofs.Common.{◌+◌, get_or, arith}
 use Rattle.store.specs.Layout.{BoundsOf}
-use Rattle.store.specs.Stream.{Header}
+use Rattle.store.specs.Stream.{MatchHeader}
 use Rattle.store.proofs.DecodeLaws.{valid-within}
 use Rattle.store.proofs.StreamLaws.{next-at, search_start}
 use Rattle.candidates.proofs.PassingLaws.{passing-later}
@@ -9,7 +9,7 @@ use Rattle.mild_not.proofs.uncovered.skip_same_header.Goals as goal
 use Rattle.mild_not.proofs.uncovered.skip_same_header.Goals.{Else-mem-at, In-loop-at}
 
 -- the header of the match in hand
-one : (c : In-loop-at) → Header c.args.mem.now c.loop-at.at
+one : (c : In-loop-at) → MatchHeader c.args.mem.now c.loop-at.at
 one c = (next-at (c.loop-at.invariant.1 c.requires).left c.loop-at-test.true).held.header
 
 -- and its bounds, since its header is the one given

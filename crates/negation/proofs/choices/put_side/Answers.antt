@@ -1,13 +1,13 @@
 use native.Mathlib.Omega.{arith}
 use mathlib.Core.Path.{refl}
-use Rattle.store.specs.Stream.{Header}
+use Rattle.store.specs.Stream.{MatchHeader}
 use Rattle.negation.proofs.SideLaws.{Turn, start, here, turn, step, finish}
 use borrow.Author.Rules.{rules}
 use Rattle.negation.proofs.choices.put_side.Goals as goal
 use Rattle.negation.proofs.choices.put_side.Goals.{After-strings_in-weight, In-loop-i}
 
 -- the header of the match in hand; and the turn's numbers, by its strings
-one : (c : In-loop-i) → Header c.loop-i.mem c.loop-i.from
+one : (c : In-loop-i) → MatchHeader c.loop-i.mem c.loop-i.from
 one c = (here (c.loop-i.invariant.2 c.requires) c.loop-i-test.true).held.header
 
 here-turn : (c : After-strings_in-weight)

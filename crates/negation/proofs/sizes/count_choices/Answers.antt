@@ -1,12 +1,12 @@
 use native.Mathlib.Omega.{arith}
-use Rattle.store.specs.Stream.{Header}
+use Rattle.store.specs.Stream.{MatchHeader}
 use Rattle.negation.proofs.SizesLaws.{start, here, step, finish}
 use borrow.Author.Rules.{rules}
 use Rattle.negation.proofs.sizes.count_choices.Goals as goal
 use Rattle.negation.proofs.sizes.count_choices.Goals.{In-loop-i}
 
 -- the header of the match in hand
-one : (c : In-loop-i) → Header c.args.mem.now c.loop-i.at
+one : (c : In-loop-i) → MatchHeader c.args.mem.now c.loop-i.at
 one c = (here (c.loop-i.invariant.2 c.requires) c.loop-i-test.true).held.header
 
 pub loop-i-init : goal.loop-i-init

@@ -1,7 +1,7 @@
 use native.Mathlib.Omega.{arith}
 use borrow.Author.Rules.{rules}
 use mathlib.Core.Path.{refl, sym, ◌∙◌}
-use Rattle.store.specs.Stream.{Header}
+use Rattle.store.specs.Stream.{MatchHeader}
 use Rattle.store.proofs.EachLaws.{item}
 use Rattle.store.proofs.SlotsLaws.{refused, filled}
 use Rattle.or_and.proofs.AndLaws.{and-start, and_item, and_step, and_finish}
@@ -9,7 +9,7 @@ use Rattle.or_and.proofs.and.and_list.Goals as goal
 use Rattle.or_and.proofs.and.and_list.Goals.{In-loop-i}
 
 -- the header of the left match in hand
-one : (c : In-loop-i) → Header c.loop-i.mem c.loop-i.left
+one : (c : In-loop-i) → MatchHeader c.loop-i.mem c.loop-i.left
 one c =
     let w = c.requires.two_slots in
     (item (c.loop-i.invariant.2 w) c.loop-i-test.true).one.held.header
