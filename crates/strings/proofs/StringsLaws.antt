@@ -39,11 +39,22 @@ two-more l i h =
     let h₂ : suc i < length l = omega arith in
     simp (drop-cons l i 0 h₁, drop-cons l (suc i) 0 h₂, towards_suc)
 
-strs_at-short : (l : List ℕ) → length l ≤ 1 → strs_at l ≡ []
+pub strs_at-short : (l : List ℕ) → length l ≤ 1 → strs_at l ≡ []
 unfolding strs_at
 strs_at-short [] h = refl
 strs_at-short (x ∷ []) h = refl
 strs_at-short (x ∷ y ∷ r) h = absurd (omega arith)
+
+-- the rest of a slice, as a slice
+pub drop_whole : (l : List ℕ) (i : ℕ) → take (length l - i) (drop i l) ≡ drop i l
+drop_whole l i = take_all (length l - i) (drop i l) (simp length-drop (omega arith))
+
+-- a pair of numbers is the first string
+pub strs_at-first : (l : List ℕ) → 2 ≤ length l → strs_at l ≡ str_of (get_or l 0 0) (get_or l 1 0) ∷ strs_at (take (length l - 2) (drop 2 l))
+unfolding strs_at
+strs_at-first [] h = absurd (omega arith)
+strs_at-first (x ∷ []) h = absurd (omega arith)
+strs_at-first (x ∷ y ∷ r) h = rw (take_all (length (x ∷ y ∷ r) - 2) r (omega arith))
 
 -- the first string left
 abbrev pub str_at : List ℕ → ℕ → Str
@@ -90,10 +101,6 @@ module _ {A : Type 0} {result : A} {f : List Str → A} {l : List ℕ} {i : ℕ}
 
     pub left-next : (g : List Str → A) → f (str_at l i ∷ strs_at (drop (i + 2) l)) ≡ g (strs_at (drop (i + 2) l)) → Left result g l (i + 2)
     left-next g e = record { bounded = omega arith; same = sym e ∙ left_here }
-
--- the rest of a slice, as a slice
-pub drop_whole : (l : List ℕ) (i : ℕ) → take (length l - i) (drop i l) ≡ drop i l
-drop_whole l i = take_all (length l - i) (drop i l) (simp length-drop (omega arith))
 
 -- ---- loops that decide
 

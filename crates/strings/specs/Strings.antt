@@ -3,6 +3,7 @@ use Rattle.std.specs.Prelude.{ℕ, ◌/◌, ◌%◌, List, [], ◌∷◌, eqb}
 use Rattle.model.specs.Answers.{span_of, tag_of}
 use Rattle.model.specs.Limits.{radix}
 use Rattle.model.specs.Matches.{Str}
+use Rattle.strings.specs.declared.packed.Packed.{Packed}
 
 -- strings of one sort (0: includes, 1: excludes), one after the other
 unfoldable pub strs_of : ℕ → List Str → List ℕ
@@ -18,3 +19,7 @@ unfoldable pub strs_at : List ℕ → List Str
 strs_at [] = []
 strs_at (span ∷ []) = []
 strs_at (span ∷ tag ∷ rest) = str_of span tag ∷ strs_at rest
+
+-- the string of a span and a tag that stand together
+abbrev pub str_packed : Packed → Str
+str_packed p = str_of p.span p.tag

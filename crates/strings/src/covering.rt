@@ -5,6 +5,7 @@ ghost use Rattle.model.specs.Rules.{covered, covers};
 ghost use Rattle.strings.specs.Strings.{str_of, strs_at};
 ghost use Rattle.strings.specs.Covering.{advanced, any_overlaps, chosen, is_chosen, overlaps, passed, RunEnd};
 
+use super::packed::strings_in;
 use super::positions::is_between;
 use super::spans::{end_of, is_contiguous, start_of};
 use model::Position;
@@ -30,14 +31,7 @@ fn overlaps(span: u32, lo: Position, hi: Position) -> bool
 pub fn any_overlaps(strs: &[u32], lo: Position, hi: Position) -> bool
     ensures { result ≡ any_overlaps lo.0 hi.0 (strs_at strs.now) }
 {
-    let mut i = 0;
-    while i + 1 < strs.len() {
-        if overlaps(strs[i], lo, hi) {
-            return true;
-        }
-        i += 2;
-    }
-    false
+    strings_in(strs).any(|s| overlaps(s.span, lo, hi))
 }
 
 // "some include covers position"

@@ -6,7 +6,9 @@
 pub mod covering;
 pub mod halves;
 pub mod ordering;
+mod packed;
 pub mod positions;
 pub mod spans;
 
+pub use packed::{Packed, Strings, strings_in};
 pub use spans::{end_of, is_contiguous, query_of, sort_of, span_of, start_of, tag_of, with_sort};

@@ -1,17 +1,7 @@
-use mathlib.Core.Path.{sym, ◌∙◌}
-use Rattle.strings.proofs.StringsLaws.{left-start, decides_any, decided_here, decided_later, decided_end}
+use Rattle.std.proofs.Common.{rules}
+use borrow.Author.Tests.{tests}
+use Rattle.strings.proofs.PackedLaws.{any_of_strs}
 use Rattle.strings.proofs.covering.any_overlaps.Goals as goal
 
-pub loop-i-init : goal.loop-i-init
-loop-i-init c = left-start _ _
-
-pub returns-then-overlaps : goal.returns-then-overlaps
-returns-then-overlaps c =
-    decided_here (decides_any _) c.loop-i.invariant c.loop-i-test.true (sym c.overlaps.ensures ∙ c.if-overlaps.true)
-
-pub loop-i-preserved : goal.loop-i-preserved
-loop-i-preserved c =
-    decided_later (decides_any _) c.loop-i.invariant c.loop-i-test.true (sym c.overlaps.ensures ∙ c.if-overlaps.false)
-
 pub returns : goal.returns
-returns c = decided_end (decides_any _) c.loop-i.invariant c.loop-i-test.false
+returns c = any_of_strs _ _ _ _ c.any.ensures.ran c.strings_in.ensures (λ x b q k. search (rules, tests))
