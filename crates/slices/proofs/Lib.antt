@@ -1,1 +1,2 @@
 pub mod EverySecondLaws
+pub mod BlocksLaws

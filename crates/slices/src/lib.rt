@@ -13,7 +13,7 @@ ghost use Rattle.slices.specs.EverySecond.{every_second};
 pub fn number_at(lent: &[u32], i: usize) -> u32
     ensures { result ≡ get_or lent.now i 0 }
 {
-    if i < lent.len() { lent[i] } else { 0 }
+    lent.get(i).copied().unwrap_or(0)
 }
 
 // The number at a place of the second array, counted from 1.
@@ -25,17 +25,12 @@ pub fn second_at(lent: &[u32], place: u32) -> u32
 }
 
 // Is the size within the limits, and the length 1 + 2 × size?
+#[tactic(auto, unfolding(model::specs::Section::well_sized))]
 pub fn well_sized(lent: &[u32], least: u32, most: u32) -> bool
     ensures { result ≡ well_sized least most lent.now }
 {
     let size = number_at(lent, 0);
-    if size < least {
-        return false;
-    }
-    if most < size {
-        return false;
-    }
-    lent.len() == 1 + 2 * (size as usize)
+    least <= size && size <= most && lent.len() == 1 + 2 * (size as usize)
 }
 
 // Copies every second of the numbers from `from` on, n of them, to the buffer from q on.
@@ -43,10 +38,8 @@ pub fn copy_every_second(mem: &[u32], from: usize, n: usize, buffer: &mut [u32],
     requires { (from + 2 * n ≤ length mem.now + 1) × (q + n ≤ length buffer.old) }
     ensures { buffer.new ≡ sets buffer.old q (every_second mem.now from n) }
 {
-    let mut i = 0;
-    while i < n {
+    for i in 0..n {
         buffer[q + i] = mem[from + 2 * i];
-        i += 1;
     }
 }
 
@@ -55,9 +48,5 @@ pub fn copy(from: &[u32], to: &mut [u32])
     requires { length from.now ≤ length to.old }
     ensures { to.new ≡ sets to.old 0 from.now }
 {
-    let mut i = 0;
-    while i < from.len() {
-        to[i] = from[i];
-        i += 1;
-    }
+    to[..from.len()].copy_from_slice(from);
 }

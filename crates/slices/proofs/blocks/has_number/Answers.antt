@@ -1,15 +1,9 @@
-use native.Mathlib.Omega.{arith}
-use borrow.Author.Count.{below_more}
+use Rattle.std.proofs.Common.{◌≡◌, ◌+◌, false, eqb, get_or, rules}
 use borrow.Author.Tests.{eqb-false}
-use Rattle.model.proofs.TestsLaws.{both_false}
 use Rattle.slices.proofs.blocks.has_number.Goals as goal
 
-pub loop-i-init : goal.loop-i-init
-loop-i-init c = (omega arith, λ e k h. absurd (omega arith))
-
-pub loop-i-preserved : goal.loop-i-preserved
-loop-i-preserved c =
-    (omega arith, λ e. let b = both_false _ _ e in below_more _ _ (c.loop-i.invariant.1 b.0) (eqb-false _ _ b.1))
-
 pub returns : goal.returns
-returns c = λ e k h. c.loop-i.invariant.1 e k (omega arith)
+returns c = λ e i l same.
+    let h = c.block_has.ensures e i l in
+    let other : eqb (get_or c.args.lent.now (c.args.at + i) 0) c.args.number ≡ false = search rules in
+    eqb-false _ _ other same
