@@ -5,11 +5,12 @@ use native.Mathlib.Omega.{arith}
 use mathlib.Core.Path.{◌≡◌, refl, sym, ap, ap₂, ◌∙◌, subst}
 use mathlib.Core.Bool.{true, false, ◌&&◌}
 use mathlib.Core.List.{List, [], ◌∷◌, map}
-use mathlib.Core.Option
-use mathlib.Core.Option.{Option, some, none, or_else}
+use Rattle.std.specs.Prelude.{Option, Some, None, option_map}
+use Rattle.std.specs.Option.{option_or}
 use lib.Dec.{eqb, ltb}
 use lib.ListN.{length}
 use borrow.Author.Tests.{eqb-true}
+use Rattle.model.specs.declared.Reason.TheVariants.{LongList}
 use Rattle.model.specs.declared.Code.{Code}
 use Rattle.model.specs.declared.Code.TheVariants.{Phrase}
 use Rattle.model.specs.Accepted.{max_phrases}
@@ -56,7 +57,7 @@ module _ {section families sel mem₀ : List ℕ} {lo hi rank : ℕ} (w : Builda
     pub stack : Stack mem (map (all_matches (searched_of section families)) (waits_after n).trees)
     pub count : lists ≡ length (waits_after n).trees
     pub rank_is : next ≡ (waits_after n).rank
-    pub valid : first_too_long (searched_of section families) (waiting_parts (waits_after n).trees) ≡ none
+    pub valid : first_too_long (searched_of section families) (waiting_parts (waits_after n).trees) ≡ None
 
   fits_next : (n : ℕ) → n < hi - lo → Fits (shape_at sel (lo + suc n)) (waits_after n)
   fits_next = built_fits (shape_at sel) hi lo w.part w.lo_is (part_formed sel w.in_selection hi w.part w.up_to)
@@ -152,22 +153,22 @@ module _ {section families sel mem₀ : List ℕ} {lo hi rank : ℕ} (w : Builda
         -- the parts that end so far, with the code's own
         found : (o : Option ℕ) → first_too_long (searched_of section families) (part_ended_by (shape_at sel (lo + suc g.n)) (waits_after (suc g.n)).trees) ≡ o
             → first_too_long (searched_of section families) (waiting_parts (waits_after (suc g.n)).trees) ≡ o
-        unfolding state_at or_else
+        unfolding state_at option_or
         found o q =
             let S = searched_of section families in
             let s = waits_after g.n in
             let x = shape_at sel (lo + suc g.n) in
             let more = (step x s.trees s.words s.place s.rank (fits_next g.n inside).here).adds in
-            ap (first_too_long S) more ∙ first_too_long-append S (waiting_parts s.trees) (part_ended_by x (read x s).trees) ∙ ap₂ or_else g.valid q
+            ap (first_too_long S) more ∙ first_too_long-append S (waiting_parts s.trees) (part_ended_by x (read x s).trees) ∙ ap₂ option_or g.valid q
 
         -- its list is too long: the first that is
-        pub refuse : built ≡ TooLong → first_too_long (searched_of section families) (parts w.part.tree) ≡ some c'
-        unfolding state_at or_else
+        pub refuse : built ≡ TooLong → first_too_long (searched_of section families) (parts w.part.tree) ≡ Some c'
+        unfolding state_at option_or
         refuse t =
             let S = searched_of section families in
             let ts = (waits_after (suc g.n)).trees in
             let b = built_parts (shape_at sel) hi lo w.part w.lo_is (part_formed sel w.in_selection hi w.part w.up_to) (suc g.n) inside in
-            ap (first_too_long S) b.1 ∙ first_too_long-append S (waiting_parts ts) b.0 ∙ ap (λ (o : Option ℕ). or_else o (first_too_long S b.0)) (found (some c') (after.long t))
+            ap (first_too_long S) b.1 ∙ first_too_long-append S (waiting_parts ts) b.0 ∙ ap (λ (o : Option ℕ). option_or o (first_too_long S b.0)) (found (Some c') (after.long t))
 
         -- its list waits: the next code
         pub go_on : {m s lists' next' : ℕ} → built ≡ Made m s → length mem' ≡ length mem → lists' ≡ lists_after (shape_of code) lists → next' ≡ next + phrases_ended (shape_of code) → Going mem' lists' next' c'
@@ -184,7 +185,7 @@ module _ {section families sel mem₀ : List ℕ} {lo hi rank : ℕ} (w : Builda
               stack = after.stack m s b;
               count = i ∙ ap₂ lists_after shape_next g.count ∙ sym more.lists;
               rank_is = j ∙ ap₂ (λ (k : ℕ) (y : Shape). k + phrases_ended y) g.rank_is shape_next ∙ sym (rank-read x z);
-              valid = found none (after.valid m s b);
+              valid = found None (after.valid m s b);
             }
 
     -- after the last code the part's tree waits alone
@@ -199,20 +200,20 @@ module _ {section families sel mem₀ : List ℕ} {lo hi rank : ℕ} (w : Builda
           stack-last mem (all_matches (searched_of section families) w.part.tree) []
           (subst (λ (ts : List Tree). Stack mem (map (all_matches (searched_of section families)) ts)) state-end g.stack)
 
-      pub end_fine : first_too_long (searched_of section families) (parts w.part.tree) ≡ none
+      pub end_fine : first_too_long (searched_of section families) (parts w.part.tree) ≡ None
       unfolding waiting_parts
       end_fine = ap (λ (ts : List Tree). first_too_long (searched_of section families) (waiting_parts ts)) (sym state-end) ∙ g.valid
 
 -- ---- PartList
 
 module _ {s : Searched} {t : Tree} {mem : List ℕ} where
-  pub part-long : {place : ℕ} → first_too_long s (parts t) ≡ some place → PartList s t mem (part.Refused (refusal 9 place))
+  pub part-long : {place : ℕ} → first_too_long s (parts t) ≡ Some place → PartList s t mem (part.Refused (refusal LongList place))
   part-long {place} e =
       record {
         slot = λ b. absurd (let z : ◌≡◌ {A = ℕ} 0 1 = cc in omega arith);
         valid = λ b. absurd (let z : ◌≡◌ {A = ℕ} 0 1 = cc in omega arith);
-        refused = λ r b. let z : refusal 9 place ≡ r = cc in ap (Option.map (refusal 9)) e ∙ ap some z;
+        refused = λ r b. let z : refusal LongList place ≡ r = cc in ap (option_map (refusal LongList)) e ∙ ap Some z;
       }
 
-  pub part_built : SlotHolds mem 0 (all_matches s t) → first_too_long s (parts t) ≡ none → PartList s t mem part.Built
+  pub part_built : SlotHolds mem 0 (all_matches s t) → first_too_long s (parts t) ≡ None → PartList s t mem part.Built
   part_built h e = record { slot = λ b. h; valid = λ b. e; refused = λ r b. absurd (let z : ◌≡◌ {A = ℕ} 0 1 = cc in omega arith) }

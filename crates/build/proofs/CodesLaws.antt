@@ -4,8 +4,7 @@ use native.Mathlib.Omega.{arith}
 use mathlib.Core.Path.{◌≡◌, refl, sym, ap, ◌∙◌, subst}
 use mathlib.Core.Bool.{Bool, true, false, ◌&&◌}
 use mathlib.Core.List.{List, [], ◌∷◌, map}
-use mathlib.Core.Option
-use mathlib.Core.Option.{some}
+use Rattle.std.specs.Prelude.{Some, option_map}
 use lib.Dec.{eqb, ltb}
 use lib.ListN.{length, length-map}
 use borrow.Author.Tests.{ltb-true, not-false}
@@ -40,7 +39,7 @@ use Rattle.build.specs.State.{Waits, After, AfterCode}
 
 -- ---- first_too_long of one tree
 
-first_one : (s : Searched) (t : Tree) (b : Bool) → too_long (all_matches s t) ≡ b → first_too_long s (t ∷ []) ≡ Option.map place_of (first (λ (u : Tree). b) (t ∷ []))
+first_one : (s : Searched) (t : Tree) (b : Bool) → too_long (all_matches s t) ≡ b → first_too_long s (t ∷ []) ≡ option_map place_of (first (λ (u : Tree). b) (t ∷ []))
 unfolding first_too_long first
 first_one s t b e = rw e
 
@@ -50,7 +49,7 @@ pub grown : {s : Searched} {mem : List ℕ} {built : Built} {place : ℕ} (t : T
 unfolding first
 grown {s} t ts p a =
     record {
-      long = λ e. first_one s t true (answer-long (all_matches s t) (sym e ∙ a.answered)) ∙ ap some (sym p);
+      long = λ e. first_one s t true (answer-long (all_matches s t) (sym e ∙ a.answered)) ∙ ap Some (sym p);
       valid = λ m n e. first_one s t false (answer_made (all_matches s t) (sym e ∙ a.answered)).fits;
       stack = a.waits;
     }

@@ -1,6 +1,7 @@
 -- What building a part comes to: its complete list in the first slot, or refusal 9 at the first of its codes whose list is too long.
 use Rattle.std.specs.Prelude.{ℕ, List, ◌≡◌}
-use Rattle.std.proofs.Math.Option.{some, none, map}
+use Rattle.std.specs.Prelude.{Some, None, option_map}
+use Rattle.model.specs.declared.Reason.TheVariants.{LongList}
 use Rattle.model.specs.declared.Refusal.{Refusal}
 use Rattle.model.specs.AllMatches.{all_matches}
 use Rattle.model.specs.Checks.{refusal}
@@ -13,5 +14,5 @@ use Rattle.build.specs.declared.Part.TheVariants.{Built, Refused}
 
 pub record PartList (s : Searched) (t : Tree) (mem : List ℕ) (part : Part) : Type 0 where
   pub slot : part ≡ Built → SlotHolds mem 0 (all_matches s t)
-  pub valid : part ≡ Built → first_too_long s (parts t) ≡ none
-  pub refused : (r : Refusal) → part ≡ Refused r → map (refusal 9) (first_too_long s (parts t)) ≡ some r
+  pub valid : part ≡ Built → first_too_long s (parts t) ≡ None
+  pub refused : (r : Refusal) → part ≡ Refused r → option_map (refusal LongList) (first_too_long s (parts t)) ≡ Some r

@@ -1,6 +1,6 @@
 -- What a part is built from, and what waits before and after each of its codes.
 use Rattle.std.specs.Prelude.{ℕ, ◌≤◌, true, false, List, map, ◌≡◌, length}
-use Rattle.std.proofs.Math.Option.{some, none}
+use Rattle.std.specs.Prelude.{Some, None}
 use Rattle.model.specs.declared.Code.{Code}
 use Rattle.model.specs.declared.Code.TheVariants.{Phrase, Filter as Filtered, Occurs}
 use Rattle.model.specs.declared.Filter.TheVariants.{Window}
@@ -60,8 +60,8 @@ pub record WaitsAt (section families selection mem : List ℕ) (code : Code) (pl
 
 -- After the code: either the list of the part that it ends is too long, or the lists of the trees that then wait lie in memory.
 pub record After (s : Searched) (new trees : List Tree) (place : ℕ) (mem : List ℕ) (built : Built) : Type 0 where
-  pub long : built ≡ TooLong → first_too_long s new ≡ some place
-  pub valid : (m n : ℕ) → built ≡ Made m n → first_too_long s new ≡ none
+  pub long : built ≡ TooLong → first_too_long s new ≡ Some place
+  pub valid : (m n : ℕ) → built ≡ Made m n → first_too_long s new ≡ None
   pub stack : (m n : ℕ) → built ≡ Made m n → Stack mem (map (all_matches s) trees)
 
 abbrev pub AfterCode : Searched → Shape → State → ℕ → List ℕ → Built → Type 0

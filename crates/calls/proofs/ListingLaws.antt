@@ -4,11 +4,12 @@ use native.Mathlib.Omega.{arith}
 use mathlib.Core.Path.{◌≡◌, sym, ap, subst, ◌∙◌}
 use mathlib.Core.Bool.{Bool, ◌&&◌}
 use mathlib.Core.List.{List}
-use mathlib.Core.Option.{some, none, map}
+use Rattle.std.specs.Prelude.{Some, None, option_map}
 use lib.ListN.{length}
 use lib.Seq.{sets}
 use lib.Dec.{leb}
 use borrow.Author.Tests.{leb-true}
+use Rattle.model.specs.declared.Reason.TheVariants.{LongList, ShortMemory}
 use Rattle.model.specs.declared.Checked.{Checked}
 use Rattle.model.specs.declared.Checked.TheVariants.{Accepted, Refused as CheckedRefused}
 use Rattle.model.specs.declared.Listing.{Listing}
@@ -44,12 +45,12 @@ listed-held s f g e = rw (f ∙ matches_held s, g ∙ strings-held s, e)
 
 module _ (section families selection : List ℕ) (work : ℕ) (buffer : List ℕ) where
   -- what a call that refuses returns and leaves, and what one that lists does
-  refuses : {r : Refusal} → listing_refusal section families selection work (length buffer) ≡ some r
+  refuses : {r : Refusal} → listing_refusal section families selection work (length buffer) ≡ Some r
       → (Refused r ≡ listing_answer section families selection work (length buffer)) × (buffer ≡ listing_buffer section families selection work buffer)
   unfolding listing_answer listing_buffer
   refuses e = (rw e, rw e)
 
-  lists : {answer : Listing} {buffer' : List ℕ} → listing_refusal section families selection work (length buffer) ≡ none
+  lists : {answer : Listing} {buffer' : List ℕ} → listing_refusal section families selection work (length buffer) ≡ None
       → answer ≡ listed (complete_list section families selection)
       → buffer' ≡ sets buffer 0 (listing_numbers (complete_list section families selection))
       → (answer ≡ listing_answer section families selection work (length buffer)) × (buffer' ≡ listing_buffer section families selection work buffer)
@@ -79,7 +80,7 @@ module _ (section families selection : List ℕ) (work : ℕ) (buffer : List ℕ
         let none_refuses = (checked_accepted (size selection) (listing_checks section families selection work (length buffer)) (sym told ∙ accepted)).0 in
         let enough = leb work_length work && leb buffer_length (length buffer) in
         let both = otherwise-none (input_refusal section families selection) (room_refusal enough) none_refuses in
-        let rooms = both_true (leb work_length work) (leb buffer_length (length buffer)) (cond-none enough (refusal 8 0) both.1) in
+        let rooms = both_true (leb work_length work) (leb buffer_length (length buffer)) (cond-none enough (refusal ShortMemory 0) both.1) in
         (record { checks = both.0; enough = leb-true work_length work rooms.0 }, leb-true buffer_length (length buffer) rooms.1)
 
     pub buffer_enough : buffer_length ≤ length buffer
@@ -91,10 +92,10 @@ module _ (section families selection : List ℕ) (work : ℕ) (buffer : List ℕ
 
     -- and what building it comes to decides
     module _ {mem mem' : List ℕ} {part : Part} (w : Buildable section families selection mem 0 codes 1) (built : PartList (searched_of section families) w.part.tree mem' part) where
-      refusal_is : listing_refusal section families selection work (length buffer) ≡ map (refusal 9) (first_too_long (searched_of section families) (parts w.part.tree))
+      refusal_is : listing_refusal section families selection work (length buffer) ≡ option_map (refusal LongList) (first_too_long (searched_of section families) (parts w.part.tree))
       refusal_is =
           listing_refusal-passes section families selection work (length buffer) passes.0 passes.1
-          ∙ ap (λ (t : Tree). map (refusal 9) (first_too_long (searched_of section families) (parts t))) (sym (whole_tree selection w.part all_codes))
+          ∙ ap (λ (t : Tree). option_map (refusal LongList) (first_too_long (searched_of section families) (parts t))) (sym (whole_tree selection w.part all_codes))
 
       pub building_refuses : {r : Refusal} → part ≡ PartRefused r
           → (Refused r ≡ listing_answer section families selection work (length buffer)) × (buffer ≡ listing_buffer section families selection work buffer)
@@ -109,4 +110,4 @@ module _ (section families selection : List ℕ) (work : ℕ) (buffer : List ℕ
           → (answer ≡ listing_answer section families selection work (length buffer)) × (buffer' ≡ listing_buffer section families selection work buffer)
       built_lists t ea eb =
           let at : SlotAt mem' 0 = record { list = complete_list section families selection; slot = slot t } in
-          lists (refusal_is ∙ ap (map (refusal 9)) (built.valid t)) (ea at) (eb at)
+          lists (refusal_is ∙ ap (option_map (refusal LongList)) (built.valid t)) (ea at) (eb at)

@@ -3,10 +3,11 @@ use Prim.Native.Nat.{ℕ}
 use native.Mathlib.Omega.{arith}
 use mathlib.Core.Path.{◌≡◌, sym, ap, ◌∙◌}
 use mathlib.Core.List.{List}
-use mathlib.Core.Option.{none}
+use Rattle.std.specs.Prelude.{None}
 use lib.Dec.{leb}
 use lib.ListN.{length}
 use borrow.Author.Tests.{leb-true}
+use Rattle.model.specs.declared.Reason.TheVariants.{ShortMemory}
 use Rattle.model.specs.declared.Checked.{Checked}
 use Rattle.model.specs.declared.Checked.TheVariants.{Accepted, Refused as CheckedRefused}
 use Rattle.model.specs.declared.Quick.{Quick}
@@ -35,7 +36,7 @@ module _ (section families selection : List ℕ) (work : ℕ) where
   checks_refuse told e a = rw (a, checked_refused (size selection) (quick_checks section families selection work) (sym told ∙ e))
 
   module _ {checked : Checked} {codes : ℕ} (told : checked ≡ checked_of (size selection) (quick_checks section families selection work)) (accepted : checked ≡ Accepted codes) where
-    none_refuses : quick_checks section families selection work ≡ none
+    none_refuses : quick_checks section families selection work ≡ None
     none_refuses = (checked_accepted (size selection) (quick_checks section families selection work) (sym told ∙ accepted)).0
 
     all_codes : codes ≡ size selection
@@ -45,7 +46,7 @@ module _ (section families selection : List ℕ) (work : ℕ) where
     unfolding quick_checks
     passes =
         let both = otherwise-none (input_refusal section families selection) (room_refusal (leb work_length work)) none_refuses in
-        record { checks = both.0; enough = leb-true work_length work (cond-none (leb work_length work) (refusal 8 0) both.1) }
+        record { checks = both.0; enough = leb-true work_length work (cond-none (leb work_length work) (refusal ShortMemory 0) both.1) }
 
     -- the whole can be walked
     pub ready : (mem : List ℕ) → length mem ≡ work → Walkable section families selection mem codes

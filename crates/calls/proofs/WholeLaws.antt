@@ -3,7 +3,7 @@ use Prim.Native.Nat.{ℕ, ◌≤◌}
 use native.Mathlib.Omega.{arith}
 use mathlib.Core.Path.{◌≡◌, refl, sym, ap, ◌∙◌}
 use mathlib.Core.List.{List, []}
-use mathlib.Core.Option.{none}
+use Rattle.std.specs.Prelude.{None}
 use lib.ListN.{length}
 use Rattle.model.specs.Accepted.{AcceptedSection, AcceptedFamilies, AcceptedSelection}
 use Rattle.model.specs.Checks.{input_refusal}
@@ -18,7 +18,7 @@ use Rattle.model.proofs.PartsLaws.{part_start_lem, part-read}
 use Rattle.build.specs.State.{Buildable}
 use Rattle.walk.specs.Walkable.{Walkable}
 
-module _ (section families selection : List ℕ) (passes : input_refusal section families selection ≡ none) where
+module _ (section families selection : List ℕ) (passes : input_refusal section families selection ≡ None) where
   pub section-accepted : AcceptedSection section
   section-accepted = accepted-section section (input_none section families selection passes).0
 

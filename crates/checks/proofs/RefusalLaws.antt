@@ -3,7 +3,7 @@ use Prim.Native.Nat.{ℕ}
 use mathlib.Core.Path.{◌≡◌, refl, ap, sym, ◌∙◌}
 use mathlib.Core.Bool.{Bool, true, false, ◌&&◌}
 use mathlib.Core.List.{List}
-use mathlib.Core.Option.{Option, some, none}
+use Rattle.std.specs.Prelude.{Option, Some, None}
 use lib.Dec.{leb}
 use Rattle.model.specs.declared.Checked.{Checked}
 use Rattle.model.specs.declared.Checked.TheVariants.{Accepted, Refused}
@@ -38,6 +38,6 @@ unfolding quick_checks listing_checks
 listing_checks_lem section families selection work buffer = at (input_refusal section families selection) (leb work_length work) (leb buffer_length buffer)
   where
     at : (o : Option Refusal) (a b : Bool) → otherwise (otherwise o (room_refusal a)) (room_refusal b) ≡ otherwise o (room_refusal (a && b))
-    at (some r) a b = refl
-    at none true b = refl
-    at none false b = refl
+    at (Some r) a b = refl
+    at None true b = refl
+    at None false b = refl

@@ -3,7 +3,7 @@ use Prim.Native.Nat.{ℕ, ◌+◌, ◌*◌, ◌≤◌, ◌<◌}
 use native.Mathlib.Omega.{arith}
 use mathlib.Core.Bool.{Bool, true, false, cond}
 use mathlib.Core.List.{List, [], ◌∷◌, ◌++◌}
-use mathlib.Core.Option.{Option, some, none}
+use Rattle.std.specs.Prelude.{Option, Some, None}
 use mathlib.Core.Path.{◌≡◌, refl, sym, ap, ◌∙◌}
 use borrow.Author.Tests.{le-leb, lt-leb, leb-true, leb-false}
 use lib.Dec.{leb}
@@ -38,25 +38,25 @@ for_answer text P p = record { answer = read_text text; answers = some_answer te
 -- the same selection, or both are refused alike
 pub data SameToCalls (s t : List ℕ) : Type 0 where
   same : s ≡ t → SameToCalls s t
-  both-refused : (r : Refusal) → selection_refusal s ≡ some r → selection_refusal t ≡ some r → SameToCalls s t
+  both-refused : (r : Refusal) → selection_refusal s ≡ Some r → selection_refusal t ≡ Some r → SameToCalls s t
 
 -- whatever the refusal before it is, one comes first
-first-refused : (o : Option Refusal) (r : Refusal) → (q : Refusal) × (otherwise o (some r) ≡ some q)
-first-refused (some q) r = (q, refl)
-first-refused none r = (r, refl)
+first-refused : (o : Option Refusal) (r : Refusal) → (q : Refusal) × (otherwise o (Some r) ≡ Some q)
+first-refused (Some q) r = (q, refl)
+first-refused None r = (r, refl)
 
 module _ (section families : List ℕ) (r : Refusal) where
-  abbrev later : (q : Refusal) × (otherwise (families_refusal families) (some r) ≡ some q)
+  abbrev later : (q : Refusal) × (otherwise (families_refusal families) (Some r) ≡ Some q)
   later = first-refused (families_refusal families) r
 
   abbrev first_of : Refusal
   first_of = (first-refused (section_refusal section) later.0).0
 
-  input_refused : (s : List ℕ) → selection_refusal s ≡ some r → input_refusal section families s ≡ some first_of
+  input_refused : (s : List ℕ) → selection_refusal s ≡ Some r → input_refusal section families s ≡ Some first_of
   unfolding input_refusal
   input_refused s e = rw (e, later.1) (first-refused (section_refusal section) later.0).1
 
-  module _ (s t : List ℕ) (e : selection_refusal s ≡ some r) (f : selection_refusal t ≡ some r) where
+  module _ (s t : List ℕ) (e : selection_refusal s ≡ Some r) (f : selection_refusal t ≡ Some r) where
     refused_listing : (work buffer : ℕ) → listing_answer section families s work buffer ≡ listing_answer section families t work buffer
     unfolding listing_answer listing_refusal listing_checks
     refused_listing work buffer = rw (input_refused s e, input_refused t f)
@@ -92,7 +92,7 @@ typed_room m = at (leb m max_codes) refl where
   at false h = omega arith
 
 -- "3, place 0" is the first of a selection's refusals
-three_refused : (s : List ℕ) → wrong_selection s ≡ some 0 → selection_refusal s ≡ some (refusal 3 0)
+three_refused : (s : List ℕ) → wrong_selection s ≡ Some 0 → selection_refusal s ≡ Some (refusal 3 0)
 unfolding selection_refusal tried
 three_refused s e = rw e
 
@@ -108,7 +108,7 @@ put-few cs entry exit m l e f few =
 
 -- of more their number is, on which refusal 3 falls as on their selection
 put_many : (cs : List Code) (entry exit : List ℕ) (m : ℕ) → length entry ≡ 129 → exit ≡ sets entry 0 (typed_numbers (codes cs)) → m ≡ length cs → max_codes < length cs
-    → selection_refusal (take (typed_size m) exit) ≡ some (refusal 3 0)
+    → selection_refusal (take (typed_size m) exit) ≡ Some (refusal 3 0)
 put_many cs entry exit m l e f many =
     let h : leb (length cs) max_codes ≡ false = lt-leb (length cs) max_codes many in
     let one : typed_size m ≡ 1 = rw (f, h) in

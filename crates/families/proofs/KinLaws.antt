@@ -7,7 +7,7 @@ use mathlib.Core.Path.{◌≡◌, refl, sym, ap, subst, ◌∙◌}
 use mathlib.Core.Bool.{Bool, true, false, ◌||◌, or-false, or-true, true≢false, false≢true}
 use mathlib.Core.List.{List, [], ◌∷◌, ◌++◌}
 use mathlib.Core.Logic.{⊎_elim, ◌⊎◌, inl, inr}
-use mathlib.Core.Option.{Option, some, none}
+use Rattle.std.specs.Prelude.{Option, Some, None}
 use borrow.Author.Tests.{leb-true, leb-false, eqb-true, eq-eqb, ne_eqb}
 use lib.Dec.{leb, eqb}
 use lib.ListN.{length, take, set}
@@ -23,19 +23,19 @@ use Rattle.families.specs.Kin.{KinOf, EntryBefore, Gathered}
 
 -- ---- entry_number
 
-pub entry_number-none : (o : Option ℕ) → ((i : ℕ) → o ≡ some i → 1 ≤ i) → 0 ≡ entry_number o → o ≡ none
-entry_number-none (some i) h e = absurd (omega (arith, h i refl))
-entry_number-none none h e = refl
+pub entry_number-none : (o : Option ℕ) → ((i : ℕ) → o ≡ Some i → 1 ≤ i) → 0 ≡ entry_number o → o ≡ None
+entry_number-none (Some i) h e = absurd (omega (arith, h i refl))
+entry_number-none None h e = refl
 
-pub entry_number-some : (o : Option ℕ) {i : ℕ} → 1 ≤ i → i ≡ entry_number o → o ≡ some i
-entry_number-some (some j) h e = ap some (sym e)
-entry_number-some none h e = absurd (omega arith)
+pub entry_number-some : (o : Option ℕ) {i : ℕ} → 1 ≤ i → i ≡ entry_number o → o ≡ Some i
+entry_number-some (Some j) h e = ap Some (sym e)
+entry_number-some None h e = absurd (omega arith)
 
 module _ (families : List ℕ) (word : ℕ) where
-  pub entry_out : {r : ℕ} → r ≡ entry_number (entry_of families word) → r ≡ 0 → entry_of families word ≡ none
+  pub entry_out : {r : ℕ} → r ≡ entry_number (entry_of families word) → r ≡ 0 → entry_of families word ≡ None
   entry_out e z = entry_number-none (entry_of families word) (λ i f. (entry_some families word i f).0) (sym z ∙ e)
 
-  pub entry_in : {r : ℕ} → r ≡ entry_number (entry_of families word) → 1 ≤ r → entry_of families word ≡ some r
+  pub entry_in : {r : ℕ} → r ≡ entry_number (entry_of families word) → 1 ≤ r → entry_of families word ≡ Some r
   entry_in e h = entry_number-some (entry_of families word) h e
 
 -- ---- word_fits
@@ -44,7 +44,7 @@ pub fits_equal : (families : List ℕ) (token word : ℕ) → token ≡ word →
 unfolding word_fits
 fits_equal families token word e = rw (eq-eqb token word e)
 
-pub fits_family : (families : List ℕ) (token word i j : ℕ) → (token ≡ word → ⊥) → entry_of families token ≡ some i → entry_of families word ≡ some j
+pub fits_family : (families : List ℕ) (token word i j : ℕ) → (token ≡ word → ⊥) → entry_of families token ≡ Some i → entry_of families word ≡ Some j
     → word_fits families token word ≡ eqb (second_at families i) (second_at families j)
 fits_family families token word i j other e f = fits_in families token word i j e f ∙ rw (ne_eqb token word other)
 
@@ -54,7 +54,7 @@ one_equal : (token word : ℕ) → any_of (eqb token) (word ∷ []) ≡ eqb toke
 unfolding any_of
 one_equal token word = or-false (eqb token word)
 
-pub kin_alone : (families : List ℕ) (word : ℕ) → entry_of families word ≡ none → KinOf families word (word ∷ [])
+pub kin_alone : (families : List ℕ) (word : ℕ) → entry_of families word ≡ None → KinOf families word (word ∷ [])
 kin_alone families word e =
     record {
       among = λ token t. fits_out families token word e ∙ sym (one_equal token word) ∙ t;
@@ -110,7 +110,7 @@ module _ {families : List ℕ} {family : ℕ} where
 
 -- ---- the kin that are gathered: the words of a family that the word is in
 
-module _ {families : List ℕ} (a : AcceptedFamilies families) (word entry : ℕ) (e : entry_of families word ≡ some entry) where
+module _ {families : List ℕ} (a : AcceptedFamilies families) (word entry : ℕ) (e : entry_of families word ≡ Some entry) where
   in_table : (1 ≤ entry) × (entry ≤ size families) × (first_at families entry ≡ word)
   in_table = entry_some families word entry e
 
@@ -131,8 +131,8 @@ module _ {families : List ℕ} (a : AcceptedFamilies families) (word entry : ℕ
       other_word = ne_eqb token word (λ q. no_entry entry in_table.0 in_table.1 (in_table.2 ∙ sym q) refl)
 
       by_entry : (o : Option ℕ) → entry_of families token ≡ o → word_fits families token word ≡ false
-      by_entry none f = out_fits families token word f ∙ other_word
-      by_entry (some j) f =
+      by_entry None f = out_fits families token word f ∙ other_word
+      by_entry (Some j) f =
           let b = entry_some families token j f in
           fits_in families token word j entry f e ∙ rw (other_word, ne_eqb (second_at families j) (second_at families entry) (no_entry j b.0 b.1 b.2))
 
@@ -170,11 +170,11 @@ module _ {families : List ℕ} {family : ℕ} where
 
 -- ---- what is told
 
-pub told-alone : (families : List ℕ) (word : ℕ) (kin : List ℕ) → 0 < length kin → entry_of families word ≡ none → KinOf families word (take 1 (set kin 0 word))
+pub told-alone : (families : List ℕ) (word : ℕ) (kin : List ℕ) → 0 < length kin → entry_of families word ≡ None → KinOf families word (take 1 (set kin 0 word))
 told-alone families word [] h e = absurd (omega arith)
 told-alone families word (x ∷ xs) h e = kin_alone families word e
 
-pub told_gathered : {families : List ℕ} → AcceptedFamilies families → (word entry : ℕ) → entry_of families word ≡ some entry → (count : ℕ) (kin : List ℕ)
+pub told_gathered : {families : List ℕ} → AcceptedFamilies families → (word entry : ℕ) → entry_of families word ≡ Some entry → (count : ℕ) (kin : List ℕ)
     → (count ≡ 0) ⊎ Gathered families (second_at families entry) (take count kin) (size families + 1) → KinOf families word (take count kin)
 told_gathered {families} a word entry e count kin =
     ⊎_elim (λ z. subst (λ (n : ℕ). KinOf families word (take n kin)) (sym z) (kin_none families word)) (kin_gathered a word entry e)

@@ -4,7 +4,7 @@ use native.Mathlib.Omega.{arith}
 use mathlib.Core.Path.{◌≡◌, ap, ◌∙◌}
 use mathlib.Core.Bool.{true, false}
 use mathlib.Core.List.{List}
-use mathlib.Core.Option.{some, none}
+use Rattle.std.specs.Prelude.{Some, None}
 use borrow.Author.Tests.{le-leb, lt-leb}
 use lib.Dec.{leb}
 use Rattle.model.specs.Checks.{refusal, tried, out_of_order, wrong_families, entry_out_of_order, families_refusal}
@@ -37,14 +37,14 @@ rises_on families p (suc n) m r h =
 -- ---- families_refusal
 
 module _ (families : List ℕ) where
-  pub wrong_size : well_sized 0 max_entries families ≡ false → families_refusal families ≡ some (refusal 13 0)
+  pub wrong_size : well_sized 0 max_entries families ≡ false → families_refusal families ≡ Some (refusal 13 0)
   unfolding families_refusal tried wrong_families
   wrong_size e = rw e
 
-  pub wrong_order : well_sized 0 max_entries families ≡ true → (place : ℕ) → entry_out_of_order families ≡ some place → families_refusal families ≡ some (refusal 13 place)
+  pub wrong_order : well_sized 0 max_entries families ≡ true → (place : ℕ) → entry_out_of_order families ≡ Some place → families_refusal families ≡ Some (refusal 13 place)
   unfolding families_refusal tried wrong_families
   wrong_order e place f = rw (e, f)
 
-  pub right-order : well_sized 0 max_entries families ≡ true → entry_out_of_order families ≡ none → families_refusal families ≡ none
+  pub right-order : well_sized 0 max_entries families ≡ true → entry_out_of_order families ≡ None → families_refusal families ≡ None
   unfolding families_refusal tried wrong_families
   right-order e f = rw (e, f)

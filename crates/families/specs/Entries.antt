@@ -1,6 +1,6 @@
 -- Entries of a family table: how many there are and whether their words rise, where a word stands, and the next entry of a family.
 use Rattle.std.specs.Prelude.{ℕ, ◌+◌, ◌*◌, ◌≤◌, ◌<◌, List, ◌≡◌, length}
-use Rattle.std.proofs.Math.Option.{Option, some, none}
+use Rattle.std.specs.Prelude.{Option, Some, None}
 use Rattle.model.specs.Families.{entry_of}
 use Rattle.model.specs.Limits.{max_entries}
 use Rattle.model.specs.Section.{size, first_at, second_at}
@@ -17,8 +17,8 @@ RisesFrom families p n = (i : ℕ) → i < n → first_at families (p + i) < fir
 
 -- an entry by its number, 0 for none: entries count from 1
 abbrev pub entry_number : Option ℕ → ℕ
-entry_number (some i) = i
-entry_number none = 0
+entry_number (Some i) = i
+entry_number None = 0
 
 -- the entry of a word, or 0
 pub record EntryIs (families : List ℕ) (word entry : ℕ) : Type 0 where

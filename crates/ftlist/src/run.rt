@@ -1,5 +1,6 @@
 // The program `ftlist` as a function on slices: from the bytes that it reads to the bytes that it prints.
 ghost use Rattle.std.specs.Prelude.{[], ◌≡◌, ◌≤◌, length, take};
+ghost use Rattle.model.specs.declared.Reason.TheVariants.{WrongSection};
 ghost use Rattle.model.specs.Checks.{refusal};
 ghost use Rattle.model.specs.declared.Listing.TheVariants.{Refused};
 ghost use Rattle.text.specs.Input.{listing_of, max_numbers, program_text, section_part, selection_part};
@@ -12,7 +13,7 @@ use model::{Listing, Refusal};
 // "prints `refused 1 0`"
 fn print_refusal(buffer: &[u32], text: &mut [u8]) -> usize
     requires { text_length ≤ length text.old }
-    ensures text_after { take result text.new ≡ listing_text (Refused (refusal 1 0)) [] }
+    ensures text_after { take result text.new ≡ listing_text (Refused (refusal WrongSection 0)) [] }
     ensures upper_bound { result ≤ length text.new }
 {
     let answer = Listing::Refused(Refusal {

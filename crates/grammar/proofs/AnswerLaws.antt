@@ -8,6 +8,7 @@ use mathlib.Core.Logic.{◌↔◌}
 use borrow.Author.Tests.{leb-true, leb-false}
 use lib.Dec.{leb}
 use lib.ListN.{length}
+use Rattle.model.specs.declared.Reason.TheVariants.{OverLimit, UnexpectedToken}
 use Rattle.model.specs.declared.Code.{Code}
 use Rattle.model.specs.Checks.{refusal}
 use Rattle.model.specs.Limits.{max_text}
@@ -113,11 +114,11 @@ module _ (tokens : List Token) (end : ℕ) where
   tokens-answer (selects d) (not_allowed n) = absurd (no_fault d n)
   tokens-answer (selects d) (too_large n) = absurd (no_large d n)
   tokens-answer (not_allowed n) (selects d) = absurd (no_fault d n)
-  tokens-answer (not_allowed n) (not_allowed m) = ap (λ p. error (refusal 10 p)) (same_place (not_fault n) (not_fault m))
+  tokens-answer (not_allowed n) (not_allowed m) = ap (λ p. error (refusal UnexpectedToken p)) (same_place (not_fault n) (not_fault m))
   tokens-answer (not_allowed n) (too_large m) = absurd (not-both n m)
   tokens-answer (too_large n) (selects d) = absurd (no_large d n)
   tokens-answer (too_large n) (not_allowed m) = absurd (not-both m n)
-  tokens-answer (too_large n) (too_large m) = ap (λ p. error (refusal 11 p)) (same_place (large_fault n) (large_fault m))
+  tokens-answer (too_large n) (too_large m) = ap (λ p. error (refusal OverLimit p)) (same_place (large_fault n) (large_fault m))
 
 -- ---- the theorems
 
@@ -125,7 +126,7 @@ module _ (tokens : List Token) (end : ℕ) where
 pub some_answer : (text : List ℕ) → AnswerOf text (read_text text)
 unfolding read_text
 some_answer text = at (leb (length text) max_text) refl where
-  at : (x : Bool) → leb (length text) max_text ≡ x → AnswerOf text (cond x (answer_in (outcome_of text)) (error (refusal 11 0)))
+  at : (x : Bool) → leb (length text) max_text ≡ x → AnswerOf text (cond x (answer_in (outcome_of text)) (error (refusal OverLimit 0)))
   at true h = by_tokens (leb-true _ _ h) ((tokens_exactly text (tokens_of text)).0 refl) (outcome-answer text)
   at false h = too_long (leb-false _ _ h)
 

@@ -9,6 +9,8 @@ use mathlib.Core.List.{List, [], ◌∷◌, ◌++◌, append_assoc}
 use mathlib.Core.Logic.{◌⊎◌}
 use borrow.Author.Tests.{ne_eqb, eqb-true, leb-true, leb-false}
 use lib.Dec.{eqb, leb}
+use Rattle.model.specs.declared.Reason.{Reason}
+use Rattle.model.specs.declared.Reason.TheVariants.{OverLimit, UnexpectedToken}
 use Rattle.model.specs.declared.Code.{Code}
 use Rattle.model.specs.Bytes.{bytes}
 use Rattle.model.specs.Limits.{max_word, max_number}
@@ -54,17 +56,17 @@ pub record Viable (P : Production) (pre : List Token) : Type 0 where
   pub holds : P (pre ++ more) codes
 
 -- why a rule fails: the token is none that can stand there; or a number can, and this one is over its limit
-pub data Why (P : Production) (pre : List Token) (rest : Stream) : ℕ → Type 0 where
-  ten : Viable P pre → Why P pre rest 10
+pub data Why (P : Production) (pre : List Token) (rest : Stream) : Reason → Type 0 where
+  ten : Viable P pre → Why P pre rest UnexpectedToken
   eleven : (most : ℕ) → (most ≡ max_word) ⊎ (most ≡ max_number) → symbol_in rest ≡ s_number → most < value_in rest
-      → ((n : Token) → Number most n → Viable P (pre ++ (n ∷ []))) → Why P pre rest 11
+      → ((n : Token) → Number most n → Viable P (pre ++ (n ∷ []))) → Why P pre rest OverLimit
 
 -- `r i` is the rule with i more fuel
 pub data Went (P : Production) (r : ℕ → Rule) (ts : Stream) : Outcome → Type 0 where
   reads : {cs : List Code} {rest : Stream} (pre : List Token) → ts ≡ pre ⊕ rest → P pre cs
       → ((i : ℕ) (later : Stream) → Near rest later → r i (pre ⊕ later) ≡ read cs later) → Went P r ts (read cs rest)
-  fails : {n place : ℕ} (pre : List Token) (rest : Stream) → ts ≡ pre ⊕ rest → place ≡ place_in rest → Why P pre rest n
-      → ((i : ℕ) (later : Stream) → Near rest later → (n ≡ 11 → bytes_in later ≡ bytes_in rest) → r i (pre ⊕ later) ≡ failed n (place_in later))
+  fails : {n : Reason} {place : ℕ} (pre : List Token) (rest : Stream) → ts ≡ pre ⊕ rest → place ≡ place_in rest → Why P pre rest n
+      → ((i : ℕ) (later : Stream) → Near rest later → (n ≡ OverLimit → bytes_in later ≡ bytes_in rest) → r i (pre ⊕ later) ≡ failed n (place_in later))
       → Went P r ts (failed n place)
 
 module _ {Q R : Production} where
@@ -74,7 +76,7 @@ module _ {Q R : Production} where
       let g = f (pre ++ v.more) v.codes v.holds in record { more = v.more; codes = g.0; holds = rw append_assoc g.1 }
 
   why_left : (left : List Token) → ((ts : List Token) (cs : List Code) → Q ts cs → (ds : List Code) × R (left ++ ts) ds)
-      → {pre : List Token} {rest : Stream} {n : ℕ} → Why Q pre rest n → Why R (left ++ pre) rest n
+      → {pre : List Token} {rest : Stream} {n : Reason} → Why Q pre rest n → Why R (left ++ pre) rest n
   why_left left f {pre} (ten v) = ten (left_viable left f pre v)
   why_left left f {pre} (eleven most l d o v) = eleven most l d o (λ n h. rw append_assoc (left_viable left f (pre ++ (n ∷ [])) (v n h)))
 
@@ -84,14 +86,14 @@ module _ {Q R : Production} where
       let g = f (pre ++ v.more) v.codes v.holds in record { more = v.more ++ right; codes = g.0; holds = rw append_assoc at g.1 }
 
   why_right : (right : List Token) → ((ts : List Token) (cs : List Code) → Q ts cs → (ds : List Code) × R (ts ++ right) ds)
-      → {pre : List Token} {rest : Stream} {n : ℕ} → Why Q pre rest n → Why R pre rest n
+      → {pre : List Token} {rest : Stream} {n : Reason} → Why Q pre rest n → Why R pre rest n
   why_right right f {pre} (ten v) = ten (right_viable right f pre v)
   why_right right f {pre} (eleven most l d o v) = eleven most l d o (λ n h. right_viable right f (pre ++ (n ∷ [])) (v n h))
 
   map_viable : Within Q R → (pre : List Token) → Viable Q pre → Viable R pre
   map_viable f pre v = record { more = v.more; codes = v.codes; holds = f _ _ v.holds }
 
-  why_map : Within Q R → {pre : List Token} {rest : Stream} {n : ℕ} → Why Q pre rest n → Why R pre rest n
+  why_map : Within Q R → {pre : List Token} {rest : Stream} {n : Reason} → Why Q pre rest n → Why R pre rest n
   why_map f {pre} (ten v) = ten (map_viable f pre v)
   why_map f {pre} (eleven most l d o v) = eleven most l d o (λ n h. map_viable f (pre ++ (n ∷ [])) (v n h))
 
@@ -280,7 +282,7 @@ module _ {R : Production} (A : ℕ → Production) (most : ℕ) (limit : (most �
   went-number (ends p) x = no_number (ends p) refl
   went-number (token t us) x = at (eqb (symbol_of t) s_number) refl (leb (value_of t) most) refl where
     at : (c : Bool) → eqb (symbol_of t) s_number ≡ c → (d : Bool) → leb (value_of t) most ≡ d
-        → Went R (λ i. number most (a i)) (token t us) (cond c (cond d (a₀ (value_of t) us) (failed 11 t.place)) (failed 10 t.place))
+        → Went R (λ i. number most (a i)) (token t us) (cond c (cond d (a₀ (value_of t) us) (failed OverLimit t.place)) (failed UnexpectedToken t.place))
     at false h d k = no_number (token t us) h
     at true h true k =
         let n : Number most t = record { digits = symbol_sort t digit (eqb-true _ _ h); within = leb-true _ _ k } in

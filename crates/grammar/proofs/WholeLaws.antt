@@ -7,6 +7,8 @@ use mathlib.Core.List.{List, [], ◌∷◌, ◌++◌, append_assoc, append-nil}
 use borrow.Author.Tests.{ne_eqb}
 use lib.Dec.{eqb}
 use lib.ListN.{length}
+use Rattle.model.specs.declared.Reason.{Reason}
+use Rattle.model.specs.declared.Reason.TheVariants.{OverLimit, UnexpectedToken}
 use Rattle.model.specs.declared.Code.{Code}
 use Rattle.model.specs.Productions.{FTSelection}
 use Rattle.model.specs.TextAnswer.{Begins, StartAlike, both_end, both_go_on, Point, AnswerOfTokens, selects, not_allowed, too_large}
@@ -59,17 +61,17 @@ unfolding ◌then◌ prefixed
 whole_end (failed n p) cs rest e = let z : ◌≡◌ {A = ℕ} 0 1 = cc in absurd (omega arith)
 whole_end (read ds (ends p)) cs rest e = let f : ends p ≡ rest = cc in sym (ap symbol_in f)
 whole_end (read ds (token t ts)) cs rest e =
-    let f : failed 10 t.place ≡ read cs rest = rw (not_end t) at e in let z : ◌≡◌ {A = ℕ} 0 1 = cc in absurd (omega arith)
+    let f : failed UnexpectedToken t.place ≡ read cs rest = rw (not_end t) at e in let z : ◌≡◌ {A = ℕ} 0 1 = cc in absurd (omega arith)
 
 -- ---- where it stops, no selection goes on
 
-stops : {cs : List Code} (n number place : ℕ) (pre us : List Token)
-    → ((i : ℕ) → whole (plus (suc n) i) (pre ⊕ (us ⊕ ends 0)) ≡ failed number place) → ¬ FTSelection (pre ++ us) cs
+stops : {cs : List Code} (n : ℕ) (reason : Reason) (place : ℕ) (pre us : List Token)
+    → ((i : ℕ) → whole (plus (suc n) i) (pre ⊕ (us ⊕ ends 0)) ≡ failed reason place) → ¬ FTSelection (pre ++ us) cs
 unfolding plus
-stops {cs} n number place pre us g d =
+stops {cs} n reason place pre us g d =
     let k = length (pre ++ us) in
     let a = whole_complete (plus n k) 0 (omega (arith, plus_sum n k)) d in
-    let b : whole (suc (plus n k)) ((pre ++ us) ⊕ ends 0) ≡ failed number place = rw (join-append pre us (ends 0)) (g k) in
+    let b : whole (suc (plus n k)) ((pre ++ us) ⊕ ends 0) ≡ failed reason place = rw (join-append pre us (ends 0)) (g k) in
     let z : ◌≡◌ {A = ℕ} 0 1 = cc in omega arith
 
 near_start : (rest : Stream) {l us : List Token} → list_of rest ≡ l → StartAlike l us → Near rest (us ⊕ ends 0)
@@ -91,13 +93,13 @@ module _ (text : List ℕ) where
       record { before = pre; after = list_of rest; parted = text-parted text pre rest e; there = p ∙ rest-place text pre rest e }
 
   large-stops : (n : ℕ) (pre : List Token) (t : Token) (us : Stream)
-      → ((i : ℕ) (later : Stream) → Near (token t us) later → (◌≡◌ {A = ℕ} 11 11 → bytes_in later ≡ bytes_in (token t us))
-      → whole (plus (suc n) i) (pre ⊕ later) ≡ failed 11 (place_in later))
+      → ((i : ℕ) (later : Stream) → Near (token t us) later → (◌≡◌ {A = Reason} OverLimit OverLimit → bytes_in later ≡ bytes_in (token t us))
+      → whole (plus (suc n) i) (pre ⊕ later) ≡ failed OverLimit (place_in later))
       → ¬ Begins (pre ++ (t ∷ []))
   unfolding ◌⊕◌
   large-stops n pre t us g b =
       let d : FTSelection (pre ++ (t ∷ b.more)) b.codes = rw append_assoc at b.selection in
-      stops n 11 t.place pre (t ∷ b.more) (λ i. g i _ (record { symbol = refl }) (λ h. refl)) d
+      stops n OverLimit t.place pre (t ∷ b.more) (λ i. g i _ (record { symbol = refl }) (λ h. refl)) d
 
   read_answer : {cs : List Code} (pre : List Token) (rest : Stream) → stream_at text 0 ≡ pre ⊕ rest → symbol_in rest ≡ no_more → FTSelection pre cs
       → FTSelection (tokens_of text) cs
@@ -112,7 +114,7 @@ module _ (text : List ℕ) where
       not_allowed (record {
         point = point_at place pre rest e p;
         begins = begins_viable v;
-        stops = λ us cs a d. stops (length text) 10 _ pre us (λ i. g i (us ⊕ ends 0) (near_start rest refl a) (λ q. absurd (omega arith))) d;
+        stops = λ us cs a d. stops (length text) UnexpectedToken _ pre us (λ i. g i (us ⊕ ends 0) (near_start rest refl a) (λ q. cc)) d;
       })
   answer_of (fails {place = place} pre (ends q) e p (eleven most lim dig over v) g) k = absurd (omega arith)
   answer_of (fails {place = place} pre (token t us) e p (eleven most lim dig over v) g) k =

@@ -11,6 +11,8 @@
 -- A rule reads the front of the stream and gives the codes in postfix order with the stream left, or the first error. That a text's answer by these
 -- functions is its answer by the productions, and no other, is proved in proofs/.
 use Rattle.std.specs.Prelude.{ℕ, zero, suc, ◌+◌, Bool, ◌&&◌, not, cond, List, [], ◌∷◌, ◌++◌, eqb, leb, length}
+use Rattle.model.specs.declared.Reason.{Reason}
+use Rattle.model.specs.declared.Reason.TheVariants.{OverLimit, UnexpectedToken}
 use Rattle.model.specs.declared.Code.{Code}
 use Rattle.model.specs.declared.Code.TheVariants.{Word, Phrase, Combine, Not, Filter as Filtered, Occurs}
 use Rattle.model.specs.declared.Filter.TheVariants.{Ordered, Window, Distance, SameSentence, SameParagraph, DifferentSentence, DifferentParagraph, AtStart, AtEnd, EntireContent}
@@ -23,7 +25,7 @@ use Rattle.grammar.specs.Stream.{Stream, place_in, rest_of, value_in, stream_at}
 use Rattle.grammar.specs.Symbols.{k_ftor, k_ftand, k_ftnot, k_not, k_in, k_ordered, k_window, k_distance, k_same, k_different, k_at, k_entire, k_start, k_end, k_sentence, k_paragraph, k_content, k_occurs, k_exactly, k_from, k_to, k_least, k_most, k_words, k_times, no_more, s_quote, s_opening, s_closing, s_number, symbol_in}
 
 pub data Outcome : Type 0 where
-  failed : (number place : ℕ) → Outcome
+  failed : Reason → (place : ℕ) → Outcome
   read : List Code → (rest : Stream) → Outcome
 
 abbrev pub Rule : Type 0
@@ -44,7 +46,7 @@ read cs ts then r = prefixed cs (r ts)
 
 -- "10 where the grammar doesn't allow it (or length + 1)"
 abbrev pub refused : Rule
-refused ts = failed 10 (place_in ts)
+refused ts = failed UnexpectedToken (place_in ts)
 
 abbrev pub writes : Code → Rule
 writes c ts = read (c ∷ []) ts
@@ -57,7 +59,7 @@ expect s ts = cond (eqb (symbol_in ts) s) (read [] (rest_of ts)) (refused ts)
 abbrev pub number : ℕ → (ℕ → Rule) → Rule
 number most next ts =
     cond (eqb (symbol_in ts) s_number)
-    (cond (leb (value_in ts) most) (next (value_in ts) (rest_of ts)) (failed 11 (place_in ts)))
+    (cond (leb (value_in ts) most) (next (value_in ts) (rest_of ts)) (failed OverLimit (place_in ts)))
     (refused ts)
 
 -- a token of a symbol, and a code
@@ -181,4 +183,4 @@ outcome_of text = ft_selection (suc (length text)) (stream_at text 0) then expec
 
 -- "11 at place 0, first of all, for too long a text"
 unfoldable pub read_text : List ℕ → TextAnswer
-read_text text = cond (leb (length text) max_text) (answer_in (outcome_of text)) (error (refusal 11 0))
+read_text text = cond (leb (length text) max_text) (answer_in (outcome_of text)) (error (refusal OverLimit 0))

@@ -4,14 +4,16 @@ use Prim.Native.Nat.{ℕ, zero, suc, ◌+◌, ◌-◌, ◌≤◌, ◌<◌}
 use native.Mathlib.Nat.{eq-or-lt_of_le}
 use native.Mathlib.Omega.{arith}
 use mathlib.Core.Path.{◌≡◌, refl, sym, ap, ap₂, subst, ◌∙◌}
-use mathlib.Core.Bool.{Bool, true, false, not, ◌||◌, xor}
+use mathlib.Core.Bool.{Bool, true, false, not, ◌||◌, xor, cond}
 use mathlib.Core.List.{List, [], ◌∷◌, ◌++◌, map}
 use mathlib.Core.Logic.{◌↔◌, ◌⊎◌, inl, inr, ⊎_elim}
-use mathlib.Core.Option
-use mathlib.Core.Option.{Option, some, none, some-ne-none, map-eq-none_iff}
+use Rattle.std.specs.Prelude.{Option, Some, None, option_map}
+use Rattle.model.proofs.OptionLaws.{map-eq-none_iff, some-ne-none}
 use lib.Dec.{eqb, leb, ltb}
 use lib.ListN.{length}
 use borrow.Author.Tests.{eqb-true, eq-eqb, ne_eqb, ltb-false, le-ltb, leb-false, lt-leb, not-false}
+use Rattle.model.specs.declared.Reason.{Reason}
+use Rattle.model.specs.declared.Reason.TheVariants.{WrongSection, FaultyPosition, WrongSelection, UnknownKind, WrongOperand, WrongShape, NotUnderMildNot, ShortMemory, LongList, UnexpectedToken, OverLimit, NotOverPhrase, WrongFamilies}
 use Rattle.model.specs.declared.Refusal.{Refusal}
 use Rattle.model.specs.Limits.{max_tokens, max_entries, max_codes, max_waiting}
 use Rattle.model.specs.Lists.{all_of, any_of, first}
@@ -20,7 +22,7 @@ use Rattle.model.specs.Selection.{kind_at, operand_at, code_of}
 use Rattle.model.specs.Kinds.{Shape, a_word, a_phrase, a_pair, a_change, shape_of, shape_at, shapes_of}
 use Rattle.model.specs.Trees.{Tree, phrase, pair, change, place_of, top_tree, tree_of, parts}
 use Rattle.model.specs.Parts.{is_not_code, has_words, postfix, renumbered, well_formed, PartAt, codes_of_trees, phrases_all}
-use Rattle.model.specs.Checks.{refusal, otherwise, Check, tried, wrong_section, breaks_order, last_nonzero, falls_below, faulty_at, faulty_position, section_refusal, wrong_families, out_of_order, entry_out_of_order, families_refusal, wrong_selection, unknown_kind}
+use Rattle.model.specs.Checks.{number_of, refusal, otherwise, Check, tried, wrong_section, breaks_order, last_nonzero, falls_below, faulty_at, faulty_position, section_refusal, wrong_families, out_of_order, entry_out_of_order, families_refusal, wrong_selection, unknown_kind}
 use Rattle.model.specs.Checks.{operand_fits, wrong_operand, wrong_shape, occurs_over_other, not_over_phrase, is_not, has_not, mild_over_not, not_under_mild_not, selection_refusal, input_refusal}
 use Rattle.model.specs.Accepted.{NonzeroNeverFall, LastNonzeroBefore, ReportedOrNot, AcceptedSection, RisingStrictly, AcceptedFamilies, max_phrases, AcceptedSelection}
 use Rattle.model.proofs.ListsLaws.{any_append, first-range-none, range-first-none}
@@ -31,25 +33,62 @@ use Rattle.model.proofs.KindsLaws.{shape_cases}
 use Rattle.model.proofs.TreesLaws.{phrases-few, ranks_to}
 use Rattle.model.proofs.WaitingLaws.{misfit_none, parsed}
 
+-- ---- number_of: no two reasons have one number
+
+unfoldable reason_of : ℕ → Reason
+reason_of n =
+    cond (eqb n 1) WrongSection
+    (cond (eqb n 2) FaultyPosition
+    (cond (eqb n 3) WrongSelection
+    (cond (eqb n 4) UnknownKind
+    (cond (eqb n 5) WrongOperand
+    (cond (eqb n 6) WrongShape
+    (cond (eqb n 7) NotUnderMildNot
+    (cond (eqb n 8) ShortMemory
+    (cond (eqb n 9) LongList
+    (cond (eqb n 10) UnexpectedToken
+    (cond (eqb n 11) OverLimit
+    (cond (eqb n 12) NotOverPhrase
+    (WrongFamilies))))))))))))
+
+reason_of-number : (r : Reason) → reason_of (number_of r) ≡ r
+unfolding reason_of
+reason_of-number WrongSection = refl
+reason_of-number FaultyPosition = refl
+reason_of-number WrongSelection = refl
+reason_of-number UnknownKind = refl
+reason_of-number WrongOperand = refl
+reason_of-number WrongShape = refl
+reason_of-number NotUnderMildNot = refl
+reason_of-number ShortMemory = refl
+reason_of-number LongList = refl
+reason_of-number UnexpectedToken = refl
+reason_of-number OverLimit = refl
+reason_of-number NotOverPhrase = refl
+reason_of-number WrongFamilies = refl
+
+pub number-injective : (r q : Reason) → number_of r ≡ number_of q → r ≡ q
+number-injective r q e = sym (reason_of-number r) ∙ ap reason_of e ∙ reason_of-number q
+
 -- ---- otherwise, tried: no check refuses where all of them together do not
 
-pub otherwise-none : (a b : Option Refusal) → otherwise a b ≡ none → (a ≡ none) × (b ≡ none)
-otherwise-none (some r) b h = absurd (some-ne-none r h)
-otherwise-none none b h = (refl, h)
+pub otherwise-none : (a b : Option Refusal) → otherwise a b ≡ None → (a ≡ None) × (b ≡ None)
+otherwise-none (Some r) b h = absurd (some-ne-none r h)
+otherwise-none None b h = (refl, h)
 
-pub tried-cons : (c : Check) (cs : List Check) (lent : List ℕ) → tried (c ∷ cs) lent ≡ none → (c.fails lent ≡ none) × (tried cs lent ≡ none)
+pub tried-cons : (c : Check) (cs : List Check) (lent : List ℕ) → tried (c ∷ cs) lent ≡ None → (c.fails lent ≡ None) × (tried cs lent ≡ None)
 unfolding tried
 tried-cons c cs lent h =
-    let b = otherwise-none (Option.map (refusal c.number) (c.fails lent)) (tried cs lent) h in
-    ((map-eq-none_iff (refusal c.number) (c.fails lent)).0 b.0, b.1)
+    let b = otherwise-none (option_map (refusal c.reason) (c.fails lent)) (tried cs lent) h in
+    ((map-eq-none_iff (refusal c.reason) (c.fails lent)).0 b.0, b.1)
 
 -- one check passed, the others decide; one failed, its refusal is given
 module _ (c : Check) (cs : List Check) (lent : List ℕ) where
-  pub tried-on : c.fails lent ≡ none → tried (c ∷ cs) lent ≡ tried cs lent
+  pub tried-on : c.fails lent ≡ None → tried (c ∷ cs) lent ≡ tried cs lent
   unfolding tried
   tried-on e = rw e
 
-  pub tried_stop : (place : ℕ) → c.fails lent ≡ some place → tried (c ∷ cs) lent ≡ some (refusal c.number place)
+  pub tried_stop : (place : ℕ) → c.fails lent ≡ Some place → tried (c ∷ cs) lent ≡ Some (refusal c.reason place)
   unfolding tried
   tried_stop place e = rw e
 
@@ -184,7 +223,7 @@ module _ (unit : ℕ → ℕ) (n : ℕ) where
   unfolding xor
   in_order (inl zeros) p h k = let z = zeros p (omega arith) k in let y = zeros (p - 1) (omega arith) (omega arith) in rw (z, y)
   in_order (inr r) p h k =
-      let some = r.nonzero p (omega arith) k in
+      let Some = r.nonzero p (omega arith) k in
       let before = r.nonzero (p - 1) (omega arith) (omega arith) in
       let falls = le-ltb (unit p) (unit (p - 1)) (r.never_falling (p - 1) p (omega arith) (omega arith) k) in
       rw (falls, ne_eqb (unit p) 0 (λ z. omega arith), ne_eqb (unit (p - 1)) 0 (λ z. omega arith))
@@ -201,27 +240,27 @@ module _ (section : List ℕ) where
   abbrev UnitsInOrder : Type 0
   UnitsInOrder = NonzeroNeverFall (sentence_at section) (size section) × ReportedOrNot (paragraph_at section) (size section)
 
-  sound_units : faulty_position section ≡ none → UnitsInOrder
+  sound_units : faulty_position section ≡ None → UnitsInOrder
   unfolding faulty_position faulty_at
   sound_units e =
       let f : (p : ℕ) → 2 ≤ p → p ≤ size section → (sentence_faulty p ≡ false) × (paragraph_faulty p ≡ false) =
       λ p h k. both_false (sentence_faulty p) (paragraph_faulty p) (first-range-none (faulty_at section) 2 (size section) e p h k) in
       (never_fall (sentence_at section) (size section) (λ p h k. (f p h k).0), reported (paragraph_at section) (size section) (λ p h k. (f p h k).1))
 
-  units_sound : UnitsInOrder → faulty_position section ≡ none
+  units_sound : UnitsInOrder → faulty_position section ≡ None
   unfolding faulty_position faulty_at
   units_sound r =
       range-first-none (faulty_at section) 2 (size section)
       (λ p h k. let s = none_below (sentence_at section) (size section) r.0 p h k in let q = in_order (paragraph_at section) (size section) r.1 p h k in rw (s, q))
 
   -- Refusal 2 falls on no section whose nonzero sentence numbers never fall and whose paragraph numbers are reported or not, and on every other.
-  pub faulty_position-none : (faulty_position section ≡ none)
+  pub faulty_position-none : (faulty_position section ≡ None)
       ↔ (NonzeroNeverFall (sentence_at section) (size section) × ReportedOrNot (paragraph_at section) (size section))
   faulty_position-none = (sound_units, units_sound)
 
 -- ---- section_refusal
 
-pub accepted-section : (section : List ℕ) → section_refusal section ≡ none → AcceptedSection section
+pub accepted-section : (section : List ℕ) → section_refusal section ≡ None → AcceptedSection section
 unfolding section_refusal wrong_section
 accepted-section section h =
     let a = tried-cons _ _ section h in
@@ -234,7 +273,7 @@ accepted-section section h =
 
 -- each word is above the one before it exactly where each is above all before it
 module _ (families : List ℕ) where
-  entries_rise : entry_out_of_order families ≡ none → RisingStrictly (first_at families) (size families)
+  entries_rise : entry_out_of_order families ≡ None → RisingStrictly (first_at families) (size families)
   unfolding entry_out_of_order
   entries_rise e i j h k l = go j k l
     where
@@ -250,15 +289,15 @@ module _ (families : List ℕ) where
           let le : i ≤ j = omega arith in
           ⊎_elim (λ q. subst (λ (x : ℕ). first_at families x < first_at families (suc j)) (sym q) last) (λ q. omega (arith, go j q (omega arith), last)) (eq-or-lt_of_le le)
 
-  rising-entries : RisingStrictly (first_at families) (size families) → entry_out_of_order families ≡ none
+  rising-entries : RisingStrictly (first_at families) (size families) → entry_out_of_order families ≡ None
   unfolding entry_out_of_order
   rising-entries r = range-first-none (out_of_order families) 2 (size families) (λ p h k. lt-leb _ _ (r (p - 1) p (omega arith) (omega arith) k))
 
   -- Refusal 13 at an entry falls on no table whose words rise strictly, and on every other.
-  pub entry_out_of_order-none : (entry_out_of_order families ≡ none) ↔ RisingStrictly (first_at families) (size families)
+  pub entry_out_of_order-none : (entry_out_of_order families ≡ None) ↔ RisingStrictly (first_at families) (size families)
   entry_out_of_order-none = (entries_rise, rising-entries)
 
-pub accepted_families : (families : List ℕ) → families_refusal families ≡ none → AcceptedFamilies families
+pub accepted_families : (families : List ℕ) → families_refusal families ≡ None → AcceptedFamilies families
 unfolding families_refusal wrong_families
 accepted_families families h =
     let a = tried-cons _ _ families h in
@@ -269,15 +308,15 @@ accepted_families families h =
 -- ---- wrong_selection, unknown_kind, wrong_operand
 
 -- refusals 3, 4 and 5 that do not fall
-pub sized-selection : (sel : List ℕ) → wrong_selection sel ≡ none → WellSized 1 max_codes sel
+pub sized-selection : (sel : List ℕ) → wrong_selection sel ≡ None → WellSized 1 max_codes sel
 unfolding wrong_selection
 sized-selection sel h = well_sized_lem 1 max_codes sel (cond-none (well_sized 1 max_codes sel) 0 h)
 
-pub known_kinds : (sel : List ℕ) → unknown_kind sel ≡ none → (c : ℕ) → 1 ≤ c → c ≤ size sel → kind_at sel c ≤ 17
+pub known_kinds : (sel : List ℕ) → unknown_kind sel ≡ None → (c : ℕ) → 1 ≤ c → c ≤ size sel → kind_at sel c ≤ 17
 unfolding unknown_kind
 known_kinds sel h c l g = omega (arith, leb-false 18 (kind_at sel c) (first-range-none (λ i. leb 18 (kind_at sel i)) 1 (size sel) h c l g))
 
-pub fitting_operands : (sel : List ℕ) → wrong_operand sel ≡ none → (c : ℕ) → 1 ≤ c → c ≤ size sel → operand_fits (kind_at sel c) (operand_at sel c) ≡ true
+pub fitting_operands : (sel : List ℕ) → wrong_operand sel ≡ None → (c : ℕ) → 1 ≤ c → c ≤ size sel → operand_fits (kind_at sel c) (operand_at sel c) ≡ true
 unfolding wrong_operand
 fitting_operands sel h c l g = not-false _ (first-range-none (λ i. not (operand_fits (kind_at sel i) (operand_at sel i))) 1 (size sel) h c l g)
 
@@ -306,10 +345,10 @@ has_not_lem (change k c t) = any_both (parts t) (change k c t ∷ []) (postfix t
 -- a phrase whose operand fits has a word
 has_words_lem : (k o : ℕ) → operand_fits k o ≡ true → has_words (shape_of (code_of k o)) ≡ true
 unfolding operand_fits
-has_words_lem k o h = shape_cases (λ x. has_words x ≡ true) k o (λ e. refl) some (λ l q. refl) (λ l q. refl)
+has_words_lem k o h = shape_cases (λ x. has_words x ≡ true) k o (λ e. refl) Some (λ l q. refl) (λ l q. refl)
   where
-    some : k ≡ 1 → leb 1 o ≡ true
-    some e = (both_true (leb 1 o) (leb o max_waiting) (ap (λ (n : ℕ). operand_fits n o) (sym e) ∙ h)).0
+    Some : k ≡ 1 → leb 1 o ≡ true
+    Some e = (both_true (leb 1 o) (leb o max_waiting) (ap (λ (n : ℕ). operand_fits n o) (sym e) ∙ h)).0
 
 -- a selection that passes the rule is its tree
 tree-spelt : (sel : List ℕ) → well_formed (shapes_of sel) ≡ true → (postfix (tree_of sel) ≡ shapes_of sel) × (renumbered 1 1 (tree_of sel) ≡ tree_of sel)
@@ -320,7 +359,7 @@ tree-spelt sel well =
     (ap postfix is ∙ P.spelt, ap (renumbered 1 1) is ∙ P.numbered ∙ sym is)
 
 -- what holds of a selection that is not refused
-pub accepted-selection : (sel : List ℕ) → selection_refusal sel ≡ none → AcceptedSelection sel
+pub accepted-selection : (sel : List ℕ) → selection_refusal sel ≡ None → AcceptedSelection sel
 unfolding selection_refusal wrong_shape not_over_phrase not_under_mild_not shapes_of
 accepted-selection sel h =
     let three = tried-cons _ _ sel h in
@@ -358,8 +397,8 @@ accepted-part sel a = record { tree = tree_of sel; below = []; spells = sym a.sp
 -- ---- input_refusal
 
 -- where nothing refuses the inputs, nothing refuses the section, the table or the selection
-pub input_none : (section families selection : List ℕ) → input_refusal section families selection ≡ none
-    → (section_refusal section ≡ none) × (families_refusal families ≡ none) × (selection_refusal selection ≡ none)
+pub input_none : (section families selection : List ℕ) → input_refusal section families selection ≡ None
+    → (section_refusal section ≡ None) × (families_refusal families ≡ None) × (selection_refusal selection ≡ None)
 unfolding input_refusal
 input_none section families selection h =
     let first = otherwise-none (section_refusal section) (otherwise (families_refusal families) (selection_refusal selection)) h in

@@ -4,7 +4,7 @@ use native.Mathlib.Omega.{arith}
 use mathlib.Core.Path.{◌≡◌, refl}
 use mathlib.Core.Bool.{Bool, true, false, cond}
 use mathlib.Core.List.{List, [], ◌∷◌, ◌++◌, map, flat_map}
-use mathlib.Core.Option.{none}
+use Rattle.std.specs.Prelude.{None}
 use lib.ListN.{length, get_or}
 use Rattle.model.specs.Lists.{Every, keep, first, choose, up_from, from_to}
 use Rattle.model.proofs.ListsLaws.{first-none}
@@ -56,7 +56,7 @@ module _ {A : Type 0} (P : A → Type 0) where
   every_get_d (x ∷ xs) d (suc i) h a = every_get_d xs d i (omega arith) a.1
 
 -- where a search finds nothing, no element passes
-pub every-none : {A : Type 0} (p : A → Bool) (xs : List A) → first p xs ≡ none → Every (λ x. p x ≡ false) xs
+pub every-none : {A : Type 0} (p : A → Bool) (xs : List A) → first p xs ≡ None → Every (λ x. p x ≡ false) xs
 unfolding Every
 every-none p [] e = tt
 every-none p (x ∷ xs) e = let at = first-none p x xs e in (at.0, every-none p xs at.1)

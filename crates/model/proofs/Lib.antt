@@ -1,6 +1,7 @@
 -- The laws that the code and the demands rest on, a file for each module of specs/.
 pub mod LimitsLaws
 pub mod TestsLaws
+pub mod OptionLaws
 pub mod ListsLaws
 pub mod SetsLaws
 pub mod EveryLaws

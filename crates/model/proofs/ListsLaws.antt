@@ -7,7 +7,9 @@ use mathlib.Core.Bool.{Bool, true, false, ◌&&◌, ◌||◌, cond, and_assoc, o
 use mathlib.Core.List.Sublistᴰ
 use mathlib.Core.List.{List, [], ◌∷◌, ◌++◌, append_assoc, flat_map, Sublistᴰ}
 use mathlib.Core.Logic.{⊎_elim}
-use mathlib.Core.Option.{some, none, or_else, some-ne-none}
+use Rattle.std.specs.Prelude.{Some, None}
+use Rattle.std.specs.Option.{option_or}
+use Rattle.model.proofs.OptionLaws.{some-ne-none}
 use lib.ListN.{length}
 use Rattle.model.specs.Lists.{all_of, any_of, is_empty, keep, first, up_from, from_to}
 use Rattle.model.proofs.TestsLaws.{both_true}
@@ -54,21 +56,21 @@ length-keep p (x ∷ xs) = at (p x) (length-keep p xs)
 
 -- ---- first
 
-pub first-append : {A : Type 0} (p : A → Bool) (xs ys : List A) → first p (xs ++ ys) ≡ or_else (first p xs) (first p ys)
-unfolding first or_else
+pub first-append : {A : Type 0} (p : A → Bool) (xs ys : List A) → first p (xs ++ ys) ≡ option_or (first p xs) (first p ys)
+unfolding first
 first-append p [] ys = refl
 first-append p (x ∷ xs) ys = at (p x) (first-append p xs ys)
   where
-    at : (b : Bool) → first p (xs ++ ys) ≡ or_else (first p xs) (first p ys) → cond b (some x) (first p (xs ++ ys)) ≡ or_else (cond b (some x) (first p xs)) (first p ys)
+    at : (b : Bool) → first p (xs ++ ys) ≡ option_or (first p xs) (first p ys) → cond b (Some x) (first p (xs ++ ys)) ≡ option_or (cond b (Some x) (first p xs)) (first p ys)
     at true e = refl
     at false e = e
 
 module _ {A : Type 0} (p : A → Bool) where
-  pub first-none : (x : A) (xs : List A) → first p (x ∷ xs) ≡ none → (p x ≡ false) × (first p xs ≡ none)
+  pub first-none : (x : A) (xs : List A) → first p (x ∷ xs) ≡ None → (p x ≡ false) × (first p xs ≡ None)
   unfolding first
   first-none x xs e = at (p x) e
     where
-      at : (b : Bool) → cond b (some x) (first p xs) ≡ none → (b ≡ false) × (first p xs ≡ none)
+      at : (b : Bool) → cond b (Some x) (first p xs) ≡ None → (b ≡ false) × (first p xs ≡ None)
       at true e' = absurd (some-ne-none x e')
       at false e' = (refl, e')
 
@@ -116,11 +118,11 @@ range-append a b c h k =
 -- ---- first, over a range: what a search from a up finds
 
 module _ (p : ℕ → Bool) where
-  pub first-range_empty : (a b : ℕ) → b < a → first p (from_to a b) ≡ none
+  pub first-range_empty : (a b : ℕ) → b < a → first p (from_to a b) ≡ None
   unfolding first
   first-range_empty a b h = rw (range_empty a b h)
 
-  pub first-range-here : (a b : ℕ) → a ≤ b → p a ≡ true → first p (from_to a b) ≡ some a
+  pub first-range-here : (a b : ℕ) → a ≤ b → p a ≡ true → first p (from_to a b) ≡ Some a
   unfolding first
   first-range-here a b h e = rw (range_cons a b h, e)
 
@@ -128,44 +130,44 @@ module _ (p : ℕ → Bool) where
   unfolding first
   first-range-later a b h e = rw (range_cons a b h, e)
 
-  none_here : (a b : ℕ) → a ≤ b → first p (from_to a b) ≡ none → p a ≡ false
+  none_here : (a b : ℕ) → a ≤ b → first p (from_to a b) ≡ None → p a ≡ false
   none_here a b h e = (first-none p a (from_to (a + 1) b) (ap (first p) (sym (range_cons a b h)) ∙ e)).0
 
   -- where the search finds nothing, nothing passes
-  pub first-range-none : (a b : ℕ) → first p (from_to a b) ≡ none → (i : ℕ) → a ≤ i → i ≤ b → p i ≡ false
+  pub first-range-none : (a b : ℕ) → first p (from_to a b) ≡ None → (i : ℕ) → a ≤ i → i ≤ b → p i ≡ false
   first-range-none a b e i h k = go (b + 1 - a) a (omega arith) e h
     where
-      go : (n a : ℕ) → b + 1 ≤ a + n → first p (from_to a b) ≡ none → a ≤ i → p i ≡ false
+      go : (n a : ℕ) → b + 1 ≤ a + n → first p (from_to a b) ≡ None → a ≤ i → p i ≡ false
       go zero a m e h = absurd (omega arith)
       go (suc n) a m e h =
           let here = none_here a b (omega arith) e in
           ⊎_elim (λ q. ap p (sym q) ∙ here) (λ q. go n (a + 1) (omega arith) (sym (first-range-later a b (omega arith) here) ∙ e) (omega arith)) (eq-or-lt_of_le h)
 
   -- and where nothing passes, it finds nothing
-  pub range-first-none : (a b : ℕ) → ((i : ℕ) → a ≤ i → i ≤ b → p i ≡ false) → first p (from_to a b) ≡ none
+  pub range-first-none : (a b : ℕ) → ((i : ℕ) → a ≤ i → i ≤ b → p i ≡ false) → first p (from_to a b) ≡ None
   unfolding first from_to up_from
   range-first-none a b h = go (b + 1 - a) a (λ i k l. h i k (omega arith))
     where
-      go : (n a : ℕ) → ((i : ℕ) → a ≤ i → i < a + n → p i ≡ false) → first p (up_from a n) ≡ none
+      go : (n a : ℕ) → ((i : ℕ) → a ≤ i → i < a + n → p i ≡ false) → first p (up_from a n) ≡ None
       go zero a h = refl
       go (suc n) a h = let e = h a (omega arith) (omega arith) in rw e (go n (a + 1) (λ i k l. h i (omega arith) (omega arith)))
 
   -- what it finds passes, and nothing before it does
-  pub first-range-some : (a b i : ℕ) → first p (from_to a b) ≡ some i → (a ≤ i) × (i ≤ b) × (p i ≡ true) × ((j : ℕ) → a ≤ j → j < i → p j ≡ false)
+  pub first-range-some : (a b i : ℕ) → first p (from_to a b) ≡ Some i → (a ≤ i) × (i ≤ b) × (p i ≡ true) × ((j : ℕ) → a ≤ j → j < i → p j ≡ false)
   unfolding first from_to up_from
   first-range-some a b i e = let f = go (b + 1 - a) a e in (f.0, omega (arith, f.1), f.2, f.3)
     where
       FoundIn : ℕ → ℕ → Type 0
       FoundIn a n = (a ≤ i) × (i < a + n) × (p i ≡ true) × ((j : ℕ) → a ≤ j → j < i → p j ≡ false)
 
-      at : (n a : ℕ) → (first p (up_from (a + 1) n) ≡ some i → FoundIn (a + 1) n) → (t : Bool) → p a ≡ t → cond t (some a) (first p (up_from (a + 1) n)) ≡ some i
+      at : (n a : ℕ) → (first p (up_from (a + 1) n) ≡ Some i → FoundIn (a + 1) n) → (t : Bool) → p a ≡ t → cond t (Some a) (first p (up_from (a + 1) n)) ≡ Some i
           → FoundIn a (suc n)
       at n a later true h e = let same : a ≡ i = cc in (omega arith, omega arith, ap p (sym same) ∙ h, λ j k l. absurd (omega arith))
       at n a later false h e =
           let f = later e in
           (omega (arith, f.0), omega (arith, f.1), f.2, λ j k l. ⊎_elim (λ q. ap p (sym q) ∙ h) (λ q. f.3 j (omega arith) l) (eq-or-lt_of_le k))
 
-      go : (n a : ℕ) → first p (up_from a n) ≡ some i → FoundIn a n
+      go : (n a : ℕ) → first p (up_from a n) ≡ Some i → FoundIn a n
       go zero a e = absurd (some-ne-none i (sym e))
       go (suc n) a e = at n a (go n (a + 1)) (p a) refl e
 
@@ -182,7 +184,7 @@ sublist_append zs (Sublistᴰ.cons d) = Sublistᴰ.cons (sublist_append zs d)
 sublist_append zs (Sublistᴰ.cons-cons e d) = Sublistᴰ.cons-cons e (sublist_append zs d)
 
 -- where none of a list passes, none of a sublist does
-pub first_sublist : {A : Type 0} {xs ys : List A} (p : A → Bool) → Sublistᴰ xs ys → first p ys ≡ none → first p xs ≡ none
+pub first_sublist : {A : Type 0} {xs ys : List A} (p : A → Bool) → Sublistᴰ xs ys → first p ys ≡ None → first p xs ≡ None
 unfolding first
 first_sublist p Sublistᴰ.slnil h = h
 first_sublist p (Sublistᴰ.cons {a = y} {l₂ = ys} d) h = first_sublist p d (first-none p y ys h).1

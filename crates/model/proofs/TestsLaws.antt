@@ -4,7 +4,8 @@ use native.Mathlib.Omega.{arith}
 use mathlib.Core.Path.{◌≡◌, refl}
 use mathlib.Core.Bool.{Bool, true, false, ◌&&◌, ◌||◌, cond, xor, false≢true, true≢false}
 use mathlib.Core.Logic.{◌⊎◌, inl, inr}
-use mathlib.Core.Option.{some, none, some-ne-none}
+use Rattle.std.specs.Prelude.{Some, None}
+use Rattle.model.proofs.OptionLaws.{some-ne-none}
 use lib.Dec.{eqb, ltb}
 use borrow.Author.Tests.{eqb-false, ltb-true, ltb-false}
 
@@ -29,7 +30,7 @@ xor-false true false e = absurd (true≢false e)
 xor-false false true e = absurd (true≢false e)
 xor-false false false e = refl
 
-pub cond-none : {A : Type 0} (t : Bool) (a : A) → cond t none (some a) ≡ none → t ≡ true
+pub cond-none : {A : Type 0} (t : Bool) (a : A) → cond t None (Some a) ≡ None → t ≡ true
 cond-none true a e = refl
 cond-none false a e = absurd (some-ne-none a e)
 

@@ -2,7 +2,7 @@
 use Prim.Native.Nat.{ℕ, ◌+◌, ◌*◌, ◌<◌}
 use native.Mathlib.Omega.{arith}
 use mathlib.Core.List.{List, ◌∷◌, ◌++◌, map}
-use mathlib.Core.Option.{some}
+use Rattle.std.specs.Prelude.{Some}
 use mathlib.Core.Path.{◌≡◌}
 use borrow.Author.Tests.{le-leb, lt-leb}
 use lib.ListN.{length, length-append, length-map}
@@ -18,10 +18,10 @@ unfolding selection_of
 length-selection cs = omega (arith, length-append (map kind_of cs) (map operand_of cs), length-map cs kind_of, length-map cs operand_of)
 
 -- "3, place 0": over 64 codes, whatever follows their number
-pub wrong_over : (m : ℕ) (rest : List ℕ) → max_codes < m → wrong_selection (m ∷ rest) ≡ some 0
+pub wrong_over : (m : ℕ) (rest : List ℕ) → max_codes < m → wrong_selection (m ∷ rest) ≡ Some 0
 unfolding wrong_selection well_sized
 wrong_over m rest h = rw (le-leb 1 m (omega arith), lt-leb m max_codes h)
 
-pub selection-over : (cs : List Code) → max_codes < length cs → wrong_selection (selection_of cs) ≡ some 0
+pub selection-over : (cs : List Code) → max_codes < length cs → wrong_selection (selection_of cs) ≡ Some 0
 unfolding selection_of
 selection-over cs h = wrong_over (length cs) (map kind_of cs ++ map operand_of cs) h

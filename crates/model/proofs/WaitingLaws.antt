@@ -7,7 +7,7 @@ use mathlib.Core.Path.{◌≡◌, refl, sym, ap, ap₂, ◌∙◌}
 use mathlib.Core.Logic.{◌↔◌}
 use mathlib.Core.Bool.{Bool, true, false, ◌&&◌, cond, and_assoc, and-true}
 use mathlib.Core.List.{List, [], ◌∷◌, ◌++◌, map, map-append, append_assoc, append-nil}
-use mathlib.Core.Option.{Option, some, none}
+use Rattle.std.specs.Prelude.{Option, Some, None}
 use lib.Dec.{eqb, leb, ltb}
 use lib.ListN.{length, drop, length-append, drop_of_length-le}
 use lib.Seq.{append_snoc}
@@ -116,36 +116,36 @@ well_formed_lem cs f = and-join f.fit (and-join (eq-eqb (lists_all cs 0) 1 f.one
 -- ---- break
 
 is_none : Option ℕ → Bool
-is_none none = true
-is_none (some c) = false
+is_none None = true
+is_none (Some c) = false
 
-cond-none : (b : Bool) (later : Option ℕ) (c : ℕ) → is_none (cond b later (some c)) ≡ (b && is_none later)
+cond-none : (b : Bool) (later : Option ℕ) (c : ℕ) → is_none (cond b later (Some c)) ≡ (b && is_none later)
 unfolding is_none
 cond-none true later c = refl
 cond-none false later c = refl
 
 first_misfit_from-none : (c : ℕ) (cs : List Shape) (w p : ℕ) → is_none (first_misfit_from c cs w p) ≡ (fits_all cs w p && is_complete (lists_all cs w) (words_all cs p))
 unfolding first_misfit_from fits_all lists_all words_all is_none
-first_misfit_from-none c [] w p = cond-none (is_complete w p) none c ∙ and-true (is_complete w p)
+first_misfit_from-none c [] w p = cond-none (is_complete w p) None c ∙ and-true (is_complete w p)
 first_misfit_from-none c (x ∷ xs) w p =
     let v = lists_after x w in
     let q = words_after x p in
     cond-none (fits x w p) (first_misfit_from (c + 1) xs v q) (c + 1) ∙ ap (λ (b : Bool). fits x w p && b) (first_misfit_from-none (c + 1) xs v q)
     ∙ sym (and_assoc (fits x w p) (fits_all xs v q) (is_complete (lists_all xs v) (words_all xs q)))
 
-is-none : (o : Option ℕ) → is_none o ≡ true → o ≡ none
+is-none : (o : Option ℕ) → is_none o ≡ true → o ≡ None
 unfolding is_none
-is-none none h = refl
-is-none (some c) h = false-true h
+is-none None h = refl
+is-none (Some c) h = false-true h
 
 -- no code breaks the rule just where the whole rule holds
-pub misfit_none : (cs : List Shape) → (first_misfit cs ≡ none) ↔ (well_formed cs ≡ true)
+pub misfit_none : (cs : List Shape) → (first_misfit cs ≡ None) ↔ (well_formed cs ≡ true)
 unfolding well_formed is_none
 misfit_none cs = (λ h. sym (first_misfit_from-none 0 cs 0 0) ∙ ap is_none h, λ h. is-none (first_misfit cs) (first_misfit_from-none 0 cs 0 0 ∙ h))
 
 -- the search for the first break, after i codes of a row of m
 module _ (at : ℕ → Shape) (m : ℕ) where
-  pub misfit_here : (i w p : ℕ) → i < m → fits (at (i + 1)) w p ≡ false → first_misfit_from i (drop i (up_to at m)) w p ≡ some (i + 1)
+  pub misfit_here : (i w p : ℕ) → i < m → fits (at (i + 1)) w p ≡ false → first_misfit_from i (drop i (up_to at m)) w p ≡ Some (i + 1)
   unfolding first_misfit_from
   misfit_here i w p h f = rw (drop-up_to at m i h) (rw f)
 
@@ -154,7 +154,7 @@ module _ (at : ℕ → Shape) (m : ℕ) where
   unfolding first_misfit_from
   misfit_on i w p h f = rw (drop-up_to at m i h) (rw f)
 
-  pub misfit_end : (w p : ℕ) → first_misfit_from m (drop m (up_to at m)) w p ≡ cond (is_complete w p) none (some m)
+  pub misfit_end : (w p : ℕ) → first_misfit_from m (drop m (up_to at m)) w p ≡ cond (is_complete w p) None (Some m)
   unfolding first_misfit_from
   misfit_end w p = rw (drop_of_length-le (up_to at m) {i = m} (omega (arith, length-up_to at m)))
 

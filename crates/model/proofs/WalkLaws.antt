@@ -7,13 +7,18 @@ use mathlib.Core.Bool.{Bool, true, false, not, ◌&&◌, ◌||◌, cond}
 use mathlib.Core.List
 use mathlib.Core.List.{List, [], ◌∷◌, ◌++◌, Sublistᴰ}
 use mathlib.Core.Logic.{◌↔◌, ◌⊎◌, inl, inr}
-use mathlib.Core.Option.{Option, some, none, map, or_else, map-eq-none_iff}
+use Rattle.std.specs.Prelude.{Option, Some, None, option_map}
+use Rattle.std.specs.Option.{option_or}
+use Rattle.model.specs.declared.Reason.TheVariants.{LongList}
+use Rattle.model.proofs.OptionLaws.{map-eq-none_iff}
 use lib.ListN.{length, length-append}
 use Rattle.model.specs.declared.Pair.TheVariants.{Or, And, MildNot}
-use Rattle.model.specs.declared.Quick.TheVariants.{Answered, Refused}
+use Rattle.std.specs.Prelude.{Err}
+use Rattle.model.specs.Walk.{answered}
+use Rattle.model.specs.declared.Answered.{Answered}
 use Rattle.model.specs.declared.Refusal.{Refusal}
 use Rattle.model.specs.AllMatches.{all_matches}
-use Rattle.model.specs.Checks.{refusal}
+use Rattle.model.specs.Checks.{number_of, refusal}
 use Rattle.model.specs.Kinds.{negated, filtered, occurring}
 use Rattle.model.specs.Lists.{first}
 use Rattle.model.specs.Matches.{is_yes, too_long}
@@ -35,24 +40,23 @@ parts_last (change k c t) = (parts t, refl)
 
 -- ---- first_too_long
 
-map_or_else : {A B : Type 0} (f : A → B) (x y : Option A) → map f (or_else x y) ≡ or_else (map f x) (map f y)
-unfolding or_else
-map_or_else f none y = refl
-map_or_else f (some a) y = refl
+map_or_else : {A B : Type 0} (f : A → B) (x y : Option A) → option_map f (option_or x y) ≡ option_or (option_map f x) (option_map f y)
+map_or_else f None y = refl
+map_or_else f (Some a) y = refl
 
-pub first_too_long-append : (s : Searched) (ts us : List Tree) → first_too_long s (ts ++ us) ≡ or_else (first_too_long s ts) (first_too_long s us)
+pub first_too_long-append : (s : Searched) (ts us : List Tree) → first_too_long s (ts ++ us) ≡ option_or (first_too_long s ts) (first_too_long s us)
 unfolding first_too_long
 first_too_long-append s ts us =
-    ap (map place_of) (first-append (is_too_long s) ts us) ∙ map_or_else place_of (first (is_too_long s) ts) (first (is_too_long s) us)
+    ap (option_map place_of) (first-append (is_too_long s) ts us) ∙ map_or_else place_of (first (is_too_long s) ts) (first (is_too_long s) us)
 
 -- Where the lists of some codes fit, so do those of a part of them.
-pub first_too_long_sublist : (s : Searched) {ts us : List Tree} → Sublistᴰ ts us → first_too_long s us ≡ none → first_too_long s ts ≡ none
+pub first_too_long_sublist : (s : Searched) {ts us : List Tree} → Sublistᴰ ts us → first_too_long s us ≡ None → first_too_long s ts ≡ None
 unfolding first_too_long
 first_too_long_sublist s {ts} {us} d e =
     (map-eq-none_iff place_of (first (is_too_long s) ts)).1 (first_sublist (is_too_long s) d ((map-eq-none_iff place_of (first (is_too_long s) us)).0 e))
 
 -- Where every code's list fits, so does the tree's own.
-pub first_too_long_whole : (s : Searched) (t : Tree) → first_too_long s (parts t) ≡ none → too_long (all_matches s t) ≡ false
+pub first_too_long_whole : (s : Searched) (t : Tree) → first_too_long s (parts t) ≡ None → too_long (all_matches s t) ≡ false
 unfolding first_too_long
 first_too_long_whole s t e =
     let last = parts_last t in
@@ -62,22 +66,24 @@ first_too_long_whole s t e =
 
 -- ---- unless_too_long
 
-pub unless_too_long-refused : (f : Option ℕ) (b : Bool) (k c : ℕ) → (unless_too_long f b k ≡ Refused (refusal 9 c)) ↔ (f ≡ some c)
-unless_too_long-refused none b k c = (λ e. cc, λ e. cc)
-unless_too_long-refused (some d) b k c = (λ e. let same : refusal 9 d ≡ refusal 9 c = cc in ap (λ (r : Refusal). some r.place) same, λ e. cc)
+pub unless_too_long-refused : (f : Option ℕ) (b : Bool) (k c : ℕ) → (unless_too_long f b k ≡ Err (refusal LongList c)) ↔ (f ≡ Some c)
+unless_too_long-refused None b k c = (λ e. cc, λ e. cc)
+unless_too_long-refused (Some d) b k c = (λ e. let same : refusal LongList d ≡ refusal LongList c = cc in ap (λ (r : Refusal). Some r.place) same, λ e. cc)
 
-pub unless_too_long-nine : (f : Option ℕ) (b : Bool) (k : ℕ) (r : Refusal) → unless_too_long f b k ≡ Refused r → r.number ≡ 9
-unless_too_long-nine none b k r e = cc
-unless_too_long-nine (some d) b k r e = let same : r ≡ refusal 9 d = cc in ap (λ (q : Refusal). q.number) same
+pub unless_too_long-nine : (f : Option ℕ) (b : Bool) (k : ℕ) (r : Refusal) → unless_too_long f b k ≡ Err r → number_of r.reason ≡ 9
+unless_too_long-nine None b k r e = cc
+unless_too_long-nine (Some d) b k r e = let same : r ≡ refusal LongList d = cc in ap (λ (q : Refusal). number_of q.reason) same
 
-pub unless_too_long-answered : (f : Option ℕ) (b y : Bool) (k n : ℕ) → unless_too_long f b k ≡ Answered y n → (y ≡ b) × (n ≡ k)
-unless_too_long-answered none b y k n e = (cc, cc)
-unless_too_long-answered (some d) b y k n e = (cc, cc)
+pub unless_too_long-answered : (f : Option ℕ) (b y : Bool) (k n : ℕ) → unless_too_long f b k ≡ answered y n → (y ≡ b) × (n ≡ k)
+unless_too_long-answered None b y k n e =
+    let same : ◌≡◌ {A = Answered} (record { yes = b; codes = k }) (record { yes = y; codes = n }) = cc in
+    (sym (ap (λ (a : Answered). a.yes) same), sym (ap (λ (a : Answered). a.codes) same))
+unless_too_long-answered (Some d) b y k n e = (cc, cc)
 
 pub unless_too_long-either : (f : Option ℕ) (b : Bool) (k : ℕ)
-    → ((y : Bool) × (n : ℕ) × (unless_too_long f b k ≡ Answered y n)) ⊎ ((c : ℕ) × (unless_too_long f b k ≡ Refused (refusal 9 c)))
-unless_too_long-either none b k = inl (b, k, refl)
-unless_too_long-either (some c) b k = inr (c, refl)
+    → ((y : Bool) × (n : ℕ) × (unless_too_long f b k ≡ answered y n)) ⊎ ((c : ℕ) × (unless_too_long f b k ≡ Err (refusal LongList c)))
+unless_too_long-either None b k = inl (b, k, refl)
+unless_too_long-either (Some c) b k = inr (c, refl)
 
 -- ---- walk
 
@@ -87,32 +93,30 @@ cond_out f false x y = refl
 
 -- what two sides come to, the second as `b` decides
 too_long_sides : (s : Searched) (ts : List Tree) (b : Bool) (us vs : List Tree)
-    → first_too_long s (ts ++ cond b us vs) ≡ or_else (first_too_long s ts) (cond b (first_too_long s us) (first_too_long s vs))
-too_long_sides s ts b us vs = first_too_long-append s ts (cond b us vs) ∙ ap (or_else (first_too_long s ts)) (cond_out (first_too_long s) b us vs)
+    → first_too_long s (ts ++ cond b us vs) ≡ option_or (first_too_long s ts) (cond b (first_too_long s us) (first_too_long s vs))
+too_long_sides s ts b us vs = first_too_long-append s ts (cond b us vs) ∙ ap (option_or (first_too_long s ts)) (cond_out (first_too_long s) b us vs)
 
 length_sides : (ts : List Tree) (b : Bool) (us vs : List Tree) (t : Tree) → length (ts ++ cond b us vs ++ t ∷ []) ≡ length ts + cond b (length us) (length vs) + 1
 length_sides ts b us vs t =
     length-append (ts ++ cond b us vs) (t ∷ []) ∙ ap (◌+ 1) (length-append ts (cond b us vs) ∙ ap (length ts +◌) (cond_out length b us vs))
 
 or-walked : (f g : Option ℕ) (b d : Bool) (n k : ℕ)
-    → or_walk (unless_too_long f b n) (unless_too_long g d k) ≡ unless_too_long (or_else f (cond b none g)) (b || d) (n + cond b 0 k + 1)
-unfolding or_else
-or-walked (some c) g b d n k = refl
-or-walked none g true d n k = let e : n + 1 ≡ n + 0 + 1 = omega arith in ap (Answered true) e
-or-walked none none false d n k = refl
-or-walked none (some c) false d n k = refl
+    → or_walk (unless_too_long f b n) (unless_too_long g d k) ≡ unless_too_long (option_or f (cond b None g)) (b || d) (n + cond b 0 k + 1)
+or-walked (Some c) g b d n k = refl
+or-walked None g true d n k = let e : n + 1 ≡ n + 0 + 1 = omega arith in ap (answered true) e
+or-walked None None false d n k = refl
+or-walked None (Some c) false d n k = refl
 
 and-walked : (f g : Option ℕ) (b d : Bool) (n k : ℕ)
-    → and_walk (unless_too_long f b n) (unless_too_long g d k) ≡ unless_too_long (or_else f (cond b g none)) (b && d) (n + cond b k 0 + 1)
-unfolding or_else
-and-walked (some c) g b d n k = refl
-and-walked none g false d n k = let e : n + 1 ≡ n + 0 + 1 = omega arith in ap (Answered false) e
-and-walked none none true d n k = refl
-and-walked none (some c) true d n k = refl
+    → and_walk (unless_too_long f b n) (unless_too_long g d k) ≡ unless_too_long (option_or f (cond b g None)) (b && d) (n + cond b k 0 + 1)
+and-walked (Some c) g b d n k = refl
+and-walked None g false d n k = let e : n + 1 ≡ n + 0 + 1 = omega arith in ap (answered false) e
+and-walked None None true d n k = refl
+and-walked None (Some c) true d n k = refl
 
 not-walked : (f : Option ℕ) (b : Bool) (n : ℕ) → turned (unless_too_long f b n) ≡ unless_too_long f (not b) (n + 1)
-not-walked none b n = refl
-not-walked (some c) b n = refl
+not-walked None b n = refl
+not-walked (Some c) b n = refl
 
 -- The walk refuses at the first list too long among those that it builds; where none is, it answers what it says, and counts what it reaches.
 pub walk_is : (s : Searched) (t : Tree) → walk s t ≡ unless_too_long (first_too_long s (walk_builds s t)) (walk_answer s t) (length (walk_reaches s t))
@@ -185,5 +189,5 @@ pub length-walk_reaches : (s : Searched) (t : Tree) → length (walk_reaches s t
 length-walk_reaches s t = length_sublist (walk_reaches-parts s t)
 
 -- Where every code's list fits, so does every list that the walk builds.
-pub walk_builds_fit : (s : Searched) (t : Tree) → first_too_long s (parts t) ≡ none → first_too_long s (walk_builds s t) ≡ none
+pub walk_builds_fit : (s : Searched) (t : Tree) → first_too_long s (parts t) ≡ None → first_too_long s (walk_builds s t) ≡ None
 walk_builds_fit s t e = first_too_long_sublist s (walk_builds-parts s t) e

@@ -1,6 +1,6 @@
 -- What the checks guarantee, as facts: words of the demands, and of callers' proofs.
 use Rattle.std.specs.Prelude.{ℕ, ◌+◌, ◌*◌, ◌≤◌, ◌<◌, true, List, ◌⊎◌, ◌≡◌, length}
-use Rattle.std.proofs.Math.Option.{none}
+use Rattle.std.specs.Prelude.{None}
 use Rattle.model.specs.AllStrings.{RanksUpTo}
 use Rattle.model.specs.Checks.{operand_fits, occurs_over_other, mild_over_not, input_refusal}
 use Rattle.model.specs.Limits.{max_tokens, max_entries, max_codes, work_length}
@@ -64,11 +64,11 @@ pub record AcceptedSelection (selection : List ℕ) : Type 0 where
   pub spelt : postfix (tree_of selection) ≡ shapes_of selection
   pub numbered : renumbered 1 1 (tree_of selection) ≡ tree_of selection
   pub ranks : RanksUpTo max_phrases (tree_of selection)
-  pub over_phrases : first occurs_over_other (parts (tree_of selection)) ≡ none
-  pub no_not : first mild_over_not (parts (tree_of selection)) ≡ none
+  pub over_phrases : first occurs_over_other (parts (tree_of selection)) ≡ None
+  pub no_not : first mild_over_not (parts (tree_of selection)) ≡ None
 
 -- "Section and selection pass the checks where no refusal other than 8 falls on them before any list is built. Working memory is enough from
 -- 12,800 u32." F-6: so does the family table.
 pub record Passes (section families selection : List ℕ) (work : ℕ) : Type 0 where
-  pub checks : input_refusal section families selection ≡ none
+  pub checks : input_refusal section families selection ≡ None
   pub enough : work_length ≤ work

@@ -1,35 +1,23 @@
 -- What each call returns and leaves, as a function of the lent slices' numbers and lengths.
 use Rattle.std.specs.Prelude.{ℕ, ◌+◌, ◌*◌, ◌-◌, Bool, true, false, ◌&&◌, cond, leb, length, take, drop}
 use mathlib.Core.List.{List, [], ◌∷◌, ◌++◌, map, flat_map}
-use Rattle.std.proofs.Math.Option
-use Rattle.std.proofs.Math.Option.{Option, some, none}
-use Rattle.model.specs.declared.Checked.{Checked}
-use Rattle.model.specs.declared.Checked.TheVariants.{Accepted, Refused as CheckedRefused}
-use Rattle.model.specs.declared.Fault.{Fault}
-use Rattle.model.specs.declared.Fault.TheVariants.{At, Nowhere}
-use Rattle.model.specs.declared.Listing.{Listing}
-use Rattle.model.specs.declared.Listing.TheVariants.{Listed, Refused as ListingRefused}
-use Rattle.model.specs.declared.Quick.{Quick}
-use Rattle.model.specs.declared.Quick.TheVariants.{Answered, Refused as QuickRefused}
+use Rattle.std.specs.Prelude.{Option, Some, None, option_map, Result, Ok, Err}
+use Rattle.model.specs.declared.Listed.{Listed}
+use Rattle.model.specs.declared.Reason.TheVariants.{LongList}
 use Rattle.model.specs.declared.Refusal.{Refusal}
 use Rattle.model.specs.AllMatches.{all_matches}
-use Rattle.model.specs.Checks.{refusal, otherwise, section_refusal, listing_checks, quick_checks}
+use Rattle.model.specs.Checks.{refusal, refusal_values, otherwise, section_refusal, listing_checks, quick_checks}
 use Rattle.model.specs.Limits.{radix}
 use Rattle.model.specs.Matches.{Str, Match, is_yes, strings_in, strings}
 use Rattle.model.specs.Section.{size}
 use Rattle.model.specs.Families.{searched_of}
 use Rattle.model.specs.Trees.{tree_of, parts}
-use Rattle.model.specs.Walk.{first_too_long, walk}
-
--- the place of a fault, or none
-abbrev pub fault_of : Option ℕ → Fault
-fault_of (some place) = At place
-fault_of none = Nowhere
+use Rattle.model.specs.Walk.{Quick, first_too_long, walk}
 
 -- A refusal, or none, as the checks' answer: where none falls, the size of what was checked.
-abbrev pub checked_of : ℕ → Option Refusal → Checked
-checked_of size (some r) = CheckedRefused r
-checked_of size none = Accepted size
+abbrev pub checked_of : ℕ → Option Refusal → Result ℕ Refusal
+checked_of size (Some r) = Err r
+checked_of size None = Ok size
 
 -- The complete AllMatches of lent slices.
 abbrev pub complete_list : List ℕ → List ℕ → List ℕ → List Match
@@ -38,16 +26,22 @@ complete_list section families selection = all_matches (searched_of section fami
 -- The full listing: refusals 1 to 8, 12 and 13, then 9 at "the first such code built". The listing builds every code but kind 0.
 unfoldable pub listing_refusal : List ℕ → List ℕ → List ℕ → ℕ → ℕ → Option Refusal
 listing_refusal section families selection work buffer =
-    let nine = Option.map (refusal 9) (first_too_long (searched_of section families) (parts (tree_of selection))) in
+    let nine = option_map (refusal LongList) (first_too_long (searched_of section families) (parts (tree_of selection))) in
     otherwise (listing_checks section families selection work buffer) nine
 
 -- "It answers M, S and yes or no, or a refusal with its place."
+abbrev pub Listing : Type 0
+Listing = Result Listed Refusal
+
+abbrev pub listed_as : ℕ → ℕ → Bool → Listing
+listed_as matches strs answer = Ok (record { matches = matches; strings = strs; yes = answer })
+
 abbrev pub listed : List Match → Listing
-listed ms = Listed (length ms) (strings ms) (is_yes ms)
+listed ms = listed_as (length ms) (strings ms) (is_yes ms)
 
 abbrev pub answer_unless : Option Refusal → List Match → Listing
-answer_unless (some r) ms = ListingRefused r
-answer_unless none ms = listed ms
+answer_unless (Some r) ms = Err r
+answer_unless None ms = listed ms
 
 unfoldable pub listing_answer : List ℕ → List ℕ → List ℕ → ℕ → ℕ → Listing
 listing_answer section families selection work buffer =
@@ -74,8 +68,8 @@ listing_numbers ms = length ms ∷ strings ms ∷ (map strings_in ms ++ flat_map
 
 -- "The rest of it is unchanged." A refusal leaves all of it unchanged.
 abbrev pub buffer_unless : Option Refusal → List ℕ → List ℕ → List ℕ
-buffer_unless (some r) numbers buffer = buffer
-buffer_unless none numbers buffer = numbers ++ drop (length numbers) buffer
+buffer_unless (Some r) numbers buffer = buffer
+buffer_unless None numbers buffer = numbers ++ drop (length numbers) buffer
 
 unfoldable pub listing_buffer : List ℕ → List ℕ → List ℕ → ℕ → List ℕ → List ℕ
 listing_buffer section families selection work buffer =
@@ -84,8 +78,8 @@ listing_buffer section families selection work buffer =
 
 -- The quick answer: refusals 1 to 8, 12 and 13, then the walk.
 abbrev pub walk_unless : Option Refusal → Quick → Quick
-walk_unless (some r) walked = QuickRefused r
-walk_unless none walked = walked
+walk_unless (Some r) walked = Err r
+walk_unless None walked = walked
 
 unfoldable pub quick_answer : List ℕ → List ℕ → List ℕ → ℕ → Quick
 quick_answer section families selection work =
@@ -95,8 +89,8 @@ quick_answer section families selection work =
 -- The snippet: "Section, from, to: the word numbers of those positions, as a part of the lent section. An empty part if the section isn't accepted
 -- or 1 ≤ from ≤ to ≤ n fails."
 abbrev pub is_accepted : Option Refusal → Bool
-is_accepted (some r) = false
-is_accepted none = true
+is_accepted (Some r) = false
+is_accepted None = true
 
 abbrev pub has_positions : List ℕ → ℕ → ℕ → Bool
 has_positions section from to = is_accepted (section_refusal section) && leb 1 from && leb from to && leb to (size section)
@@ -114,9 +108,9 @@ stands_at start index = (start.0, index * 4 + start.1)
 
 -- What each case of a call's answer says, in document 01's numbers: a refusal's number and place; for what is given 0, and its values.
 abbrev pub listing_values : Listing → List ℕ
-listing_values (Listed matches strs answer) = 0 ∷ matches ∷ strs ∷ cond answer 1 0 ∷ []
-listing_values (ListingRefused r) = r.number ∷ r.place ∷ []
+listing_values (Ok l) = 0 ∷ l.matches ∷ l.strings ∷ cond l.yes 1 0 ∷ []
+listing_values (Err r) = refusal_values r
 
 abbrev pub quick_values : Quick → List ℕ
-quick_values (Answered answer codes) = 0 ∷ cond answer 1 0 ∷ codes ∷ []
-quick_values (QuickRefused r) = r.number ∷ r.place ∷ []
+quick_values (Ok a) = 0 ∷ cond a.yes 1 0 ∷ a.codes ∷ []
+quick_values (Err r) = refusal_values r

@@ -1,8 +1,10 @@
 -- Refusals 1 to 8 of the two calls, with document 02's F-5 in 2, 12 of its F-3 and 13 of its F-6. "Tried in this order, each over the whole input before the next."
 use Rattle.std.specs.Prelude.{ℕ, zero, suc, ◌-◌, ◌/◌, ◌%◌, Bool, true, false, not, ◌&&◌, ◌||◌, cond, List, [], ◌∷◌, leb, ltb, eqb}
 use Rattle.std.specs.Bool.{xor}
-use Rattle.std.proofs.Math.Option.{Option, some, none, map}
+use Rattle.std.specs.Prelude.{Option, Some, None, option_map}
 use Rattle.model.specs.declared.Pair.TheVariants.{Or, And, MildNot}
+use Rattle.model.specs.declared.Reason.{Reason}
+use Rattle.model.specs.declared.Reason.TheVariants.{WrongSection, FaultyPosition, WrongSelection, UnknownKind, WrongOperand, WrongShape, NotUnderMildNot, ShortMemory, LongList, UnexpectedToken, OverLimit, NotOverPhrase, WrongFamilies}
 use Rattle.model.specs.declared.Refusal.{Refusal}
 use Rattle.model.specs.Limits.{max_tokens, max_entries, max_codes, max_waiting, max_window, max_distance, max_times, work_length, buffer_length, radix}
 use Rattle.model.specs.Lists.{any_of, first, from_to}
@@ -12,27 +14,47 @@ use Rattle.model.specs.Kinds.{negated, filtered, occurring, counts_as_not, shape
 use Rattle.model.specs.Waiting.{first_misfit}
 use Rattle.model.specs.Trees.{Tree, phrase, pair, change, place_of, tree_of, parts}
 
--- a refusal by number and place
-abbrev pub refusal : ℕ → ℕ → Refusal
-refusal number place = record { number = number; place = place }
+-- the papers' number of each reason
+abbrev pub number_of : Reason → ℕ
+number_of WrongSection = 1
+number_of FaultyPosition = 2
+number_of WrongSelection = 3
+number_of UnknownKind = 4
+number_of WrongOperand = 5
+number_of WrongShape = 6
+number_of NotUnderMildNot = 7
+number_of ShortMemory = 8
+number_of LongList = 9
+number_of UnexpectedToken = 10
+number_of OverLimit = 11
+number_of NotOverPhrase = 12
+number_of WrongFamilies = 13
+
+-- a refusal by number and place: the number stands as its reason
+abbrev pub refusal : Reason → ℕ → Refusal
+refusal reason place = record { reason = reason; place = place }
+
+-- in the papers' numbers
+abbrev pub refusal_values : Refusal → List ℕ
+refusal_values r = number_of r.reason ∷ r.place ∷ []
 
 -- the first of two that refuses
 abbrev pub otherwise : Option Refusal → Option Refusal → Option Refusal
-otherwise (some r) later = some r
-otherwise none later = later
+otherwise (Some r) later = Some r
+otherwise None later = later
 
--- A check of a lent slice has a refusal's number, and finds the place where the slice fails, if it does.
+-- A check of a lent slice has a refusal's reason, and finds the place where the slice fails, if it does.
 pub record Check : Type 0 where
-  pub number : ℕ
+  pub reason : Reason
   pub fails : List ℕ → Option ℕ
 
 unfoldable pub tried : List Check → List ℕ → Option Refusal
-tried [] lent = none
-tried (c ∷ cs) lent = let later = tried cs lent in otherwise (map (refusal c.number) (c.fails lent)) later
+tried [] lent = None
+tried (c ∷ cs) lent = let later = tried cs lent in otherwise (option_map (refusal c.reason) (c.fails lent)) later
 
 -- 1, place 0: "section empty, n > 4,096, or length wrong"
 unfoldable pub wrong_section : List ℕ → Option ℕ
-wrong_section section = cond (well_sized 0 max_tokens section) none (some 0)
+wrong_section section = cond (well_sized 0 max_tokens section) None (Some 0)
 
 -- 2, first faulty position. For paragraphs document 01's rule: "a position is faulty if its .. number is below that of the position before it, or just one
 -- of the two is zero." Position 1 has none before it.
@@ -59,7 +81,7 @@ faulty_position section = first (faulty_at section) (from_to 2 (size section))
 
 -- F-6: 13, "place 0 for a wrong size or length"; "at the first entry out of order": of "word numbers rising strictly". Entry 1 has none before it.
 unfoldable pub wrong_families : List ℕ → Option ℕ
-wrong_families families = cond (well_sized 0 max_entries families) none (some 0)
+wrong_families families = cond (well_sized 0 max_entries families) None (Some 0)
 
 abbrev pub out_of_order : List ℕ → ℕ → Bool
 out_of_order families i = leb (first_at families i) (first_at families (i - 1))
@@ -69,7 +91,7 @@ entry_out_of_order families = first (out_of_order families) (from_to 2 (size fam
 
 -- 3, place 0: "selection empty, m not 1 to 64, or length wrong"
 unfoldable pub wrong_selection : List ℕ → Option ℕ
-wrong_selection selection = cond (well_sized 1 max_codes selection) none (some 0)
+wrong_selection selection = cond (well_sized 1 max_codes selection) None (Some 0)
 
 -- 4, first such code: "kind unknown"; F-3: "18 and up are unknown"
 unfoldable pub unknown_kind : List ℕ → Option ℕ
@@ -121,7 +143,7 @@ occurs_over_other (change (filtered f) c t) = false
 occurs_over_other (change (occurring k) c t) = not (is_phrase t)
 
 unfoldable pub not_over_phrase : List ℕ → Option ℕ
-not_over_phrase selection = map place_of (first occurs_over_other (parts (tree_of selection)))
+not_over_phrase selection = option_map place_of (first occurs_over_other (parts (tree_of selection)))
 
 -- 7, the first such kind 5: "a not under a mild not"; "No kind 4 may stand in either side of a kind 5." F-3: it "now counts kind 16 too". A not is here
 -- what this rule counts as one.
@@ -141,28 +163,28 @@ mild_over_not (pair MildNot c t u) = has_not t || has_not u
 mild_over_not (change k c t) = false
 
 unfoldable pub not_under_mild_not : List ℕ → Option ℕ
-not_under_mild_not selection = map place_of (first mild_over_not (parts (tree_of selection)))
+not_under_mild_not selection = option_map place_of (first mild_over_not (parts (tree_of selection)))
 
 unfoldable pub section_refusal : List ℕ → Option Refusal
-section_refusal = tried (record { number = 1; fails = wrong_section } ∷ record { number = 2; fails = faulty_position } ∷ [])
+section_refusal = tried (record { reason = WrongSection; fails = wrong_section } ∷ record { reason = FaultyPosition; fails = faulty_position } ∷ [])
 
 unfoldable pub families_refusal : List ℕ → Option Refusal
-families_refusal = tried (record { number = 13; fails = wrong_families } ∷ record { number = 13; fails = entry_out_of_order } ∷ [])
+families_refusal = tried (record { reason = WrongFamilies; fails = wrong_families } ∷ record { reason = WrongFamilies; fails = entry_out_of_order } ∷ [])
 
 unfoldable pub selection_refusal : List ℕ → Option Refusal
 selection_refusal =
     tried
-    (record { number = 3; fails = wrong_selection }
-    ∷ record { number = 4; fails = unknown_kind }
-    ∷ record { number = 5; fails = wrong_operand }
-    ∷ record { number = 6; fails = wrong_shape }
-    ∷ record { number = 12; fails = not_over_phrase }
-    ∷ record { number = 7; fails = not_under_mild_not }
+    (record { reason = WrongSelection; fails = wrong_selection }
+    ∷ record { reason = UnknownKind; fails = unknown_kind }
+    ∷ record { reason = WrongOperand; fails = wrong_operand }
+    ∷ record { reason = WrongShape; fails = wrong_shape }
+    ∷ record { reason = NotOverPhrase; fails = not_over_phrase }
+    ∷ record { reason = NotUnderMildNot; fails = not_under_mild_not }
     ∷ [])
 
 -- 8, place 0: "a lent buffer too short"
 abbrev pub room_refusal : Bool → Option Refusal
-room_refusal enough = cond enough none (some (refusal 8 0))
+room_refusal enough = cond enough None (Some (refusal ShortMemory 0))
 
 -- What falls on section, family table and selection, other than 8, before any list is built. F-6: 13 is "tried after 2".
 unfoldable pub input_refusal : List ℕ → List ℕ → List ℕ → Option Refusal

@@ -4,14 +4,11 @@ use Rattle.std.specs.Prelude.{ℕ, ◌+◌, ◌*◌, ◌≡◌, refl, Bool, true
 use Rattle.std.specs.Bool.{beq}
 use Rattle.std.proofs.Math.Bool.{xor}
 use mathlib.Core.List.{List, [], ◌∷◌, ◌++◌, map, flat_map}
-use Rattle.model.specs.declared.Listing.{Listing}
-use Rattle.model.specs.declared.Listing.TheVariants.{Listed, Refused as ListingRefused}
-use Rattle.model.specs.declared.Quick.{Quick}
-use Rattle.model.specs.declared.Quick.TheVariants.{Answered, Refused as QuickRefused}
+use Rattle.std.specs.Prelude.{Ok, Err}
 use Rattle.model.specs.declared.Refusal.{Refusal}
 use Rattle.model.specs.AllMatches.{filter_list, all_matches}
-use Rattle.model.specs.Answers.{complete_list, listing_refusal, listing_answer, listing_numbers, listing_buffer, quick_answer}
-use Rattle.model.specs.Checks.{tried, wrong_section, last_nonzero, faulty_at, faulty_position, wrong_families, entry_out_of_order, wrong_selection, unknown_kind, filter_operand_fits, times_operand_fits, operand_fits, wrong_operand, wrong_shape, not_over_phrase, not_under_mild_not, section_refusal, families_refusal, selection_refusal, input_refusal, listing_checks, quick_checks}
+use Rattle.model.specs.Answers.{Listing, complete_list, listing_refusal, listing_answer, listing_numbers, listing_buffer, quick_answer}
+use Rattle.model.specs.Checks.{number_of, tried, wrong_section, last_nonzero, faulty_at, faulty_position, wrong_families, entry_out_of_order, wrong_selection, unknown_kind, filter_operand_fits, times_operand_fits, operand_fits, wrong_operand, wrong_shape, not_over_phrase, not_under_mild_not, section_refusal, families_refusal, selection_refusal, input_refusal, listing_checks, quick_checks}
 use Rattle.model.specs.Limits.{work_length, buffer_length, radix}
 use Rattle.model.specs.Lists.{all_of, any_of, is_empty, keep, first, all_pairs, neighbours, insert_sorted, sort, choose, up_from, from_to}
 use Rattle.model.specs.Matches.{Str, Match, strings}
@@ -22,7 +19,7 @@ use Rattle.model.specs.Selection.{up_to}
 use Rattle.model.specs.Kinds.{shapes_of}
 use Rattle.model.specs.Trees.{place_of, combine, change_last, read, read_all, top_tree, tree_of, parts}
 use Rattle.model.specs.Waiting.{first_misfit_from}
-use Rattle.model.specs.Walk.{first_too_long, build, filter_walk, walk}
+use Rattle.model.specs.Walk.{Quick, first_too_long, build, filter_walk, walk}
 
 -- What is said of a selection.
 pub data Claim : Type 0 where
@@ -60,35 +57,35 @@ same_match : Match → Match → Bool
 same_match l m = each_same same_str l.includes m.includes && each_same same_str l.excludes m.excludes
 
 counts_matches : Listing → ℕ → Bool
-counts_matches (Listed m s y) m' = eqb m m'
-counts_matches (ListingRefused r) m' = false
+counts_matches (Ok l) m = eqb l.matches m
+counts_matches (Err r) m = false
 
 counts_strings : Listing → ℕ → Bool
-counts_strings (Listed m s y) s' = eqb s s'
-counts_strings (ListingRefused r) s' = false
+counts_strings (Ok l) s = eqb l.strings s
+counts_strings (Err r) s = false
 
 listing_says : Listing → Bool → Bool
-listing_says (Listed m s y) b = beq y b
-listing_says (ListingRefused r) b = false
+listing_says (Ok l) b = beq l.yes b
+listing_says (Err r) b = false
 
 quick_says : Quick → Bool → Bool
-quick_says (Answered y n) b = beq y b
-quick_says (QuickRefused r) b = false
+quick_says (Ok a) b = beq a.yes b
+quick_says (Err r) b = false
 
 quick_counts : Quick → ℕ → Bool
-quick_counts (Answered y n) k = eqb n k
-quick_counts (QuickRefused r) k = false
+quick_counts (Ok a) k = eqb a.codes k
+quick_counts (Err r) k = false
 
 same_refusal : Refusal → ℕ → ℕ → Bool
-same_refusal r number place = eqb r.number number && eqb r.place place
+same_refusal r number place = eqb (number_of r.reason) number && eqb r.place place
 
 listing_refuses : Listing → ℕ → ℕ → Bool
-listing_refuses (Listed m s y) number place = false
-listing_refuses (ListingRefused r) number place = same_refusal r number place
+listing_refuses (Ok l) number place = false
+listing_refuses (Err r) number place = same_refusal r number place
 
 quick_refuses : Quick → ℕ → ℕ → Bool
-quick_refuses (Answered y n) number place = false
-quick_refuses (QuickRefused r) number place = same_refusal r number place
+quick_refuses (Ok a) number place = false
+quick_refuses (Err r) number place = same_refusal r number place
 
 -- the listing buffer after the call, which was all zeros before it
 buffered : List ℕ → List ℕ → List ℕ → List ℕ

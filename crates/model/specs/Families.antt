@@ -1,7 +1,7 @@
 -- Document 02, F-6, word families: "The caller lends a family table: a size of at most 2,048, then two parallel arrays, word numbers rising strictly and
 -- their family numbers."
 use Rattle.std.specs.Prelude.{ℕ, Bool, false, ◌||◌, List, [], ◌∷◌, eqb}
-use Rattle.std.proofs.Math.Option.{Option, some, none, map}
+use Rattle.std.specs.Prelude.{Option, Some, None, option_map}
 use Rattle.model.specs.Lists.{first, from_to}
 use Rattle.model.specs.Section.{Section, size, first_at, second_at, section_of}
 
@@ -14,13 +14,13 @@ unfoldable pub entry_of : List ℕ → ℕ → Option ℕ
 entry_of families word = first (λ i. eqb (first_at families i) word) (from_to 1 (size families))
 
 unfoldable pub family_of : List ℕ → ℕ → Option ℕ
-family_of families word = map (second_at families) (entry_of families word)
+family_of families word = option_map (second_at families) (entry_of families word)
 
 -- "both are in the table with the same family"
 abbrev pub same_family : Option ℕ → Option ℕ → Bool
-same_family (some f) (some g) = eqb f g
-same_family (some f) none = false
-same_family none g = false
+same_family (Some f) (Some g) = eqb f g
+same_family (Some f) None = false
+same_family None g = false
 
 -- "each word equals its token or both are in the table with the same family"
 unfoldable pub word_fits : List ℕ → ℕ → ℕ → Bool

@@ -1,6 +1,6 @@
 -- Functions on lists that the definitions use. What the library has (map, flat_map, take, drop) is the library's.
 use Rattle.std.specs.Prelude.{ℕ, zero, suc, ◌+◌, ◌-◌, Bool, true, false, ◌&&◌, ◌||◌, cond, List, [], ◌∷◌, ◌++◌, map}
-use Rattle.std.proofs.Math.Option.{Option, some, none}
+use Rattle.std.specs.Prelude.{Option, Some, None}
 
 -- every element has P
 unfoldable pub Every : {A : Type 0} → (A → Type 0) → List A → Type 0
@@ -27,8 +27,8 @@ module _ {A : Type 0} where
 
   -- the first element that passes
   unfoldable pub first : (A → Bool) → List A → Option A
-  first p [] = none
-  first p (x ∷ xs) = let later = first p xs in cond (p x) (some x) later
+  first p [] = None
+  first p (x ∷ xs) = let later = first p xs in cond (p x) (Some x) later
 
   -- every pair of an earlier and a later element
   unfoldable pub all_pairs : (A → A → Bool) → List A → Bool

@@ -3,6 +3,7 @@
 -- number over 4,096; 11 at place 0, first of all, for too long a text".
 use Rattle.std.specs.Prelude.{ℕ, suc, ◌≤◌, ◌<◌, List, [], ◌∷◌, ◌++◌, ◌⊎◌, ◌≡◌, length}
 use Rattle.model.specs.declared.Code.{Code}
+use Rattle.model.specs.declared.Reason.TheVariants.{UnexpectedToken, OverLimit}
 use Rattle.model.specs.declared.Refusal.{Refusal}
 use Rattle.model.specs.Checks.{refusal}
 use Rattle.model.specs.Limits.{max_number, max_text, max_word}
@@ -65,12 +66,12 @@ pub record TooLarge (tokens : List Token) (end place : ℕ) : Type 0 where
 -- the answer of tokens, in a text whose end is at a place
 pub data AnswerOfTokens (tokens : List Token) (end : ℕ) : TextAnswer → Type 0 where
   selects : {cs : List Code} → FTSelection tokens cs → AnswerOfTokens tokens end (codes cs)
-  not_allowed : {place : ℕ} → NotAllowed tokens end place → AnswerOfTokens tokens end (error (refusal 10 place))
-  too_large : {place : ℕ} → TooLarge tokens end place → AnswerOfTokens tokens end (error (refusal 11 place))
+  not_allowed : {place : ℕ} → NotAllowed tokens end place → AnswerOfTokens tokens end (error (refusal UnexpectedToken place))
+  too_large : {place : ℕ} → TooLarge tokens end place → AnswerOfTokens tokens end (error (refusal OverLimit place))
 
 -- `AnswerOf text a`: the answer of the text is a. Every text has exactly one (theorems/specs/Requests.antt).
 pub data AnswerOf (text : List ℕ) : TextAnswer → Type 0 where
-  too_long : max_text < length text → AnswerOf text (error (refusal 11 0))
+  too_long : max_text < length text → AnswerOf text (error (refusal OverLimit 0))
   by_tokens : {ts : List Token} {a : TextAnswer} → length text ≤ max_text → Tokens 1 text ts → AnswerOfTokens ts (suc (length text)) a → AnswerOf text a
 
 -- the text's answer has P

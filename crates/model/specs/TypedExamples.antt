@@ -4,6 +4,8 @@ use Prim.Native.String.{String}
 use Rattle.model.specs.declared.Code.TheVariants.{Word, Phrase, Combine, Not, Filter as Filtered, Occurs}
 use Rattle.model.specs.declared.Filter.TheVariants.{Ordered, Window, Distance, SameSentence, SameParagraph, DifferentSentence, DifferentParagraph, AtStart, AtEnd, EntireContent}
 use Rattle.model.specs.declared.Pair.TheVariants.{Or, And, MildNot}
+use Rattle.model.specs.declared.Reason.{Reason}
+use Rattle.model.specs.declared.Reason.TheVariants.{UnexpectedToken, OverLimit}
 use Rattle.model.specs.declared.Times.TheVariants.{FromTo, AtLeast}
 use Rattle.model.specs.Bytes.{bytes}
 use Rattle.model.specs.Checks.{refusal}
@@ -17,8 +19,8 @@ pub record Example : Type 0 where
 abbrev reads : String → TextAnswer → Example
 reads text answer = record { text = text; answer = answer }
 
-abbrev fails : ℕ → ℕ → TextAnswer
-fails number place = error (refusal number place)
+abbrev fails : Reason → ℕ → TextAnswer
+fails reason place = error (refusal reason place)
 
 unfoldable pub examples : List Example
 examples =
@@ -56,33 +58,33 @@ examples =
     (codes (Word 1 ∷ Phrase 1 ∷ Occurs (FromTo 3 2) ∷ Word 2 ∷ Phrase 1 ∷ Occurs (AtLeast 4096) ∷ Combine Or ∷ []))
     ∷ reads "\"1\" window 0 words distance from 3 to 2 words " (codes (Word 1 ∷ Phrase 1 ∷ Filtered (Window 0) ∷ Filtered (Distance 3 2) ∷ []))
     -- 10, the grammar doesn't allow the token, or the end
-    ∷ reads "" (fails 10 1)
-    ∷ reads "\"1\" ftor  " (fails 10 11)
-    ∷ reads "ftnot ftnot \"1\"" (fails 10 7)
-    ∷ reads "\"1\" ordered ftand \"2\"" (fails 10 13)
-    ∷ reads "\"1\" not \"2\"" (fails 10 9)
-    ∷ reads "\"1\" Ftor \"2\"" (fails 10 5)
-    ∷ reads "\"1\" ftors \"2\"" (fails 10 5)
-    ∷ reads "(\"1\"" (fails 10 5)
-    ∷ reads "\"1\")" (fails 10 4)
-    ∷ reads "\"\"" (fails 10 2)
-    ∷ reads "\"1" (fails 10 3)
-    ∷ reads "\"1\"\t" (fails 10 4)
-    ∷ reads "(\"1\") occurs exactly 1 times" (fails 10 7)
-    ∷ reads "\"1\" occurs 2 times" (fails 10 12)
-    ∷ reads "\"1\" occurs exactly 2 words" (fails 10 22)
-    ∷ reads "\"1\" occurs exactly 2 times occurs" (fails 10 28)
-    ∷ reads "\"1\" occurs exactly 2" (fails 10 21)
+    ∷ reads "" (fails UnexpectedToken 1)
+    ∷ reads "\"1\" ftor  " (fails UnexpectedToken 11)
+    ∷ reads "ftnot ftnot \"1\"" (fails UnexpectedToken 7)
+    ∷ reads "\"1\" ordered ftand \"2\"" (fails UnexpectedToken 13)
+    ∷ reads "\"1\" not \"2\"" (fails UnexpectedToken 9)
+    ∷ reads "\"1\" Ftor \"2\"" (fails UnexpectedToken 5)
+    ∷ reads "\"1\" ftors \"2\"" (fails UnexpectedToken 5)
+    ∷ reads "(\"1\"" (fails UnexpectedToken 5)
+    ∷ reads "\"1\")" (fails UnexpectedToken 4)
+    ∷ reads "\"\"" (fails UnexpectedToken 2)
+    ∷ reads "\"1" (fails UnexpectedToken 3)
+    ∷ reads "\"1\"\t" (fails UnexpectedToken 4)
+    ∷ reads "(\"1\") occurs exactly 1 times" (fails UnexpectedToken 7)
+    ∷ reads "\"1\" occurs 2 times" (fails UnexpectedToken 12)
+    ∷ reads "\"1\" occurs exactly 2 words" (fails UnexpectedToken 22)
+    ∷ reads "\"1\" occurs exactly 2 times occurs" (fails UnexpectedToken 28)
+    ∷ reads "\"1\" occurs exactly 2" (fails UnexpectedToken 21)
     -- 11, a number too large
     ∷ reads "\"4294967295\"" (codes (Word 4294967295 ∷ Phrase 1 ∷ []))
-    ∷ reads "\"4294967296\"" (fails 11 2)
+    ∷ reads "\"4294967296\"" (fails OverLimit 2)
     ∷ reads "\"1\" window 4096 words" (codes (Word 1 ∷ Phrase 1 ∷ Filtered (Window 4096) ∷ []))
-    ∷ reads "\"1\" window 4097" (fails 11 12)
-    ∷ reads "\"1\" distance from 1 to 4097 and" (fails 11 24)
-    ∷ reads "\"1\" occurs at least 4097 times" (fails 11 21)
+    ∷ reads "\"1\" window 4097" (fails OverLimit 12)
+    ∷ reads "\"1\" distance from 1 to 4097 and" (fails OverLimit 24)
+    ∷ reads "\"1\" occurs at least 4097 times" (fails OverLimit 21)
     -- where no number may stand, 10
-    ∷ reads "\"1\" 99999999999" (fails 10 5)
-    ∷ reads "\"1 2 3 4 5 6 7 8 99999999999\"" (fails 10 18)
+    ∷ reads "\"1\" 99999999999" (fails UnexpectedToken 5)
+    ∷ reads "\"1 2 3 4 5 6 7 8 99999999999\"" (fails UnexpectedToken 18)
     ∷ []
 
 abbrev pub ExamplesHold : Type 0

@@ -1,6 +1,6 @@
 -- "Reading left to right, w lists and p loose words wait, both 0 first."
 use Rattle.std.specs.Prelude.{ℕ, ◌+◌, ◌-◌, Bool, ◌&&◌, cond, List, [], ◌∷◌, leb, ltb, eqb}
-use Rattle.std.proofs.Math.Option.{Option, some, none}
+use Rattle.std.specs.Prelude.{Option, Some, None}
 use Rattle.model.specs.Kinds.{Shape, a_word, a_phrase, a_pair, a_change, is_word, arity}
 use Rattle.model.specs.Limits.{max_waiting}
 
@@ -26,8 +26,8 @@ is_complete w p = eqb w 1 && eqb p 0
 
 -- "first code breaking the waiting rule (m if only the end does)", for the codes after the first c
 unfoldable pub first_misfit_from : ℕ → List Shape → ℕ → ℕ → Option ℕ
-first_misfit_from c [] w p = cond (is_complete w p) none (some c)
-first_misfit_from c (x ∷ xs) w p = let later = first_misfit_from (c + 1) xs (lists_after x w) (words_after x p) in cond (fits x w p) later (some (c + 1))
+first_misfit_from c [] w p = cond (is_complete w p) None (Some c)
+first_misfit_from c (x ∷ xs) w p = let later = first_misfit_from (c + 1) xs (lists_after x w) (words_after x p) in cond (fits x w p) later (Some (c + 1))
 
 abbrev pub first_misfit : List Shape → Option ℕ
 first_misfit codes = first_misfit_from 0 codes 0 0

@@ -1,10 +1,10 @@
 -- "The quick answer": its walk from the last code.
-use Rattle.std.specs.Prelude.{ℕ, ◌+◌, Bool, true, false, not, List, leb, length}
-use Rattle.std.proofs.Math.Option.{Option, some, none, map}
+use Rattle.std.specs.Prelude.{ℕ, ◌+◌, Bool, true, false, not, cond, List, leb, length, Option, Some, None, option_map, Result, Ok, Err}
 use Rattle.model.specs.declared.Filter.{Filter}
 use Rattle.model.specs.declared.Pair.TheVariants.{Or, And, MildNot}
-use Rattle.model.specs.declared.Quick.{Quick}
-use Rattle.model.specs.declared.Quick.TheVariants.{Answered, Refused}
+use Rattle.model.specs.declared.Answered.{Answered}
+use Rattle.model.specs.declared.Reason.TheVariants.{LongList}
+use Rattle.model.specs.declared.Refusal.{Refusal}
 use Rattle.model.specs.Kinds.{negated, filtered, occurring}
 use Rattle.model.specs.AllMatches.{all_matches, filter_match}
 use Rattle.model.specs.Checks.{refusal}
@@ -16,19 +16,26 @@ use Rattle.model.specs.Families.{Searched}
 use Rattle.model.specs.Selection.{kind_at}
 use Rattle.model.specs.Trees.{Tree, phrase, pair, change, place_of, parts}
 
+-- What the walk of a part answers: yes or no and a count of codes, or a refusal.
+abbrev pub Quick : Type 0
+Quick = Result Answered Refusal
+
+abbrev pub answered : Bool → ℕ → Quick
+answered answer codes = Ok (record { yes = answer; codes = codes })
+
 -- 9, "the first such code built": "its list has over 256 matches or 512 strings". "Building makes one list for each code of the part but kind 0,
 -- in postfix order; a list is measured complete, and the steps inside a rule are not."
 abbrev pub is_too_long : Searched → Tree → Bool
 is_too_long s t = too_long (all_matches s t)
 
 unfoldable pub first_too_long : Searched → List Tree → Option ℕ
-first_too_long s codes = map place_of (first (is_too_long s) codes)
+first_too_long s codes = option_map place_of (first (is_too_long s) codes)
 
 -- "At kinds 5 to 15 it builds that code's whole part by the rules above, left to right, and looks for a match without excludes." "a built part,
 -- which is its code and every code below it, counts all its codes but those of kind 0." Since F-4 so of kind 5, and by F-3 of kinds 16 and 17.
 abbrev pub unless_too_long : Option ℕ → Bool → ℕ → Quick
-unless_too_long (some place) answer codes = Refused (refusal 9 place)
-unless_too_long none answer codes = Answered answer codes
+unless_too_long (Some place) answer codes = Err (refusal LongList place)
+unless_too_long None answer codes = answered answer codes
 
 unfoldable pub build : Searched → Tree → Quick
 build s t = unless_too_long (first_too_long s (parts t)) (is_yes (all_matches s t)) (length (parts t))
@@ -45,28 +52,29 @@ filter_walk s f t = unless_too_long (first_too_long s (parts t)) (any_of (gives_
 
 -- "not turns the answer round"; "each walked code counts once"; "The walk ends at its first refusal."
 abbrev pub turned : Quick → Quick
-turned (Answered answer n) = Answered (not answer) (n + 1)
-turned (Refused r) = Refused r
+turned (Ok a) = answered (not a.yes) (a.codes + 1)
+turned (Err r) = Err r
+
+-- the answer of the side walked last, with the codes that were walked before it
+abbrev pub after : ℕ → Quick → Quick
+after n (Ok a) = answered a.yes (n + a.codes + 1)
+after n (Err r) = Err r
 
 -- "`or` walks its left side, then its right only after a no"
 abbrev pub or_walk : Quick → Quick → Quick
-or_walk (Answered true n) right = Answered true (n + 1)
-or_walk (Answered false n) (Answered answer k) = Answered answer (n + k + 1)
-or_walk (Answered false n) (Refused r) = Refused r
-or_walk (Refused r) right = Refused r
+or_walk (Ok a) right = cond a.yes (answered true (a.codes + 1)) (after a.codes right)
+or_walk (Err r) right = Err r
 
 -- "`and` its left side, then its right only after a yes"
 abbrev pub and_walk : Quick → Quick → Quick
-and_walk (Answered false n) right = Answered false (n + 1)
-and_walk (Answered true n) (Answered answer k) = Answered answer (n + k + 1)
-and_walk (Answered true n) (Refused r) = Refused r
-and_walk (Refused r) right = Refused r
+and_walk (Ok a) right = cond a.yes (after a.codes right) (answered false (a.codes + 1))
+and_walk (Err r) right = Err r
 
 -- "a phrase is yes if its list isn't empty"; "Limits on size hold only for lists built at or under kinds 5 to 15." Of these kind 5 is built. Since F-4
 -- kinds 6 to 15 are `filter_walk`, and only the lists under them are limited. Kinds 16 and 17 are built, as filters were before (F-3: "The quick walk
 -- builds and counts them as it does filters").
 unfoldable pub walk : Searched → Tree → Quick
-walk s (phrase c rank ws) = Answered (not (is_empty (phrase_list s rank ws))) 1
+walk s (phrase c rank ws) = answered (not (is_empty (phrase_list s rank ws))) 1
 walk s (change negated c t) = turned (walk s t)
 walk s (pair Or c t u) = let right = walk s u in or_walk (walk s t) right
 walk s (pair And c t u) = let right = walk s u in and_walk (walk s t) right

@@ -2,6 +2,9 @@
 
 #![tactic(auto)]
 
+ghost use Rattle.std.specs.Prelude.{◌≡◌};
+ghost use Rattle.model.specs.Checks.{number_of};
+
 // "A section is n (0 to 4,096)"
 pub const MAX_TOKENS: u32 = 4096;
 // "A selection is m (1 to 64)"
@@ -94,48 +97,72 @@ pub enum Code {
     Occurs(Times),
 }
 
-// The place of the first fault that a check finds.
-#[derive(Clone, Copy)]
-pub enum Fault {
-    At(u32),
-    Nowhere,
+// Why a call refuses, by the papers' number in that order: `number_of`, in specs/Checks.antt.
+#[derive(Clone, Copy, PartialEq, Eq)]
+pub enum Reason {
+    WrongSection,
+    FaultyPosition,
+    WrongSelection,
+    UnknownKind,
+    WrongOperand,
+    WrongShape,
+    NotUnderMildNot,
+    ShortMemory,
+    LongList,
+    UnexpectedToken,
+    OverLimit,
+    NotOverPhrase,
+    WrongFamilies,
 }
 
-// A refusal by number and place: what every answer that is refused holds.
-#[derive(Clone, Copy)]
+impl From<Reason> for u32 {
+    ghost from_gives = { λ reason number. number ≡ number_of reason };
+
+    fn from(reason: Reason) -> u32 {
+        match reason {
+            Reason::WrongSection => 1,
+            Reason::FaultyPosition => 2,
+            Reason::WrongSelection => 3,
+            Reason::UnknownKind => 4,
+            Reason::WrongOperand => 5,
+            Reason::WrongShape => 6,
+            Reason::NotUnderMildNot => 7,
+            Reason::ShortMemory => 8,
+            Reason::LongList => 9,
+            Reason::UnexpectedToken => 10,
+            Reason::OverLimit => 11,
+            Reason::NotOverPhrase => 12,
+            Reason::WrongFamilies => 13,
+        }
+    }
+}
+
+// A refusal: why, and at which place. Every call's error; what the checks of lent slices answer in its stead is the size of what was checked, a section's n
+// or a selection's m.
+#[derive(Clone, Copy, PartialEq, Eq)]
 pub struct Refusal {
-    pub number: u32,
+    pub reason: Reason,
     pub place: u32,
 }
 
-// What the checks say of lent slices. Accepted is given with what the caller needs next, the size of what was checked: a section's n, a selection's m.
-#[derive(Clone, Copy)]
-pub enum Checked {
-    Accepted { size: u32 },
-    Refused(Refusal),
+// What the full listing answers.
+#[derive(Clone, Copy, PartialEq, Eq)]
+pub struct Listed {
+    pub matches: u32,
+    pub strings: u32,
+    pub yes: bool,
 }
 
-// The full listing's answer.
-#[derive(Clone, Copy)]
-pub enum Listing {
-    Listed {
-        matches: u32,
-        strings: u32,
-        yes: bool,
-    },
-    Refused(Refusal),
+pub type Listing = Result<Listed, Refusal>;
+
+// What the quick answer is, with how many codes of kind 1 to 17 were walked or built.
+#[derive(Clone, Copy, PartialEq, Eq)]
+pub struct Answered {
+    pub yes: bool,
+    pub codes: u32,
 }
 
-// The quick answer, with how many codes of kind 1 to 17 were walked or built.
-#[derive(Clone, Copy)]
-pub enum Quick {
-    Answered { yes: bool, codes: u32 },
-    Refused(Refusal),
-}
+pub type Quick = Result<Answered, Refusal>;
 
-// The reader's answer: how many codes a typed search has.
-#[derive(Clone, Copy)]
-pub enum Reading {
-    Read { codes: u32 },
-    Refused(Refusal),
-}
+// What the reader answers: how many codes a typed search has.
+pub type Reading = Result<u32, Refusal>;

@@ -7,7 +7,7 @@ use mathlib.Core.Path.{◌≡◌, refl, sym, ap, subst, ◌∙◌}
 use mathlib.Core.Bool.{Bool, true, false, not, ◌||◌, false≢true}
 use mathlib.Core.List.{List, [], ◌∷◌}
 use mathlib.Core.Logic.{⊎_elim}
-use mathlib.Core.Option.{none}
+use Rattle.std.specs.Prelude.{None}
 use borrow.Author.Count.{below_more}
 use borrow.Author.Tests.{eqb-true, eqb-false, ne_eqb, eq-eqb, not-false}
 use lib.Dec.{eqb}
@@ -161,7 +161,7 @@ module _ (families words kin : List ℕ) {search : Search} (s : SearchedBy famil
 -- the first i words are looked up: their entries are put down, and whether any is in the table
 pub record LookedUp (families words entries : List ℕ) (any : Bool) (i : ℕ) : Type 0 where
   pub each : (j : ℕ) → j < i → EntryIs families (get_or words j 0) (get_or entries j 0)
-  pub none-there : any ≡ false → (j : ℕ) → j < i → entry_of families (get_or words j 0) ≡ none
+  pub none-there : any ≡ false → (j : ℕ) → j < i → entry_of families (get_or words j 0) ≡ None
   pub some_word : any ≡ true → 1 ≤ length words
 
 module _ {families words : List ℕ} where
@@ -179,7 +179,7 @@ module _ {families words : List ℕ} where
           (λ q. subst (λ (x : ℕ). EntryIs families (get_or words x 0) (get_or (set entries i entry) x 0)) (sym q) (subst (EntryIs families (get_or words i 0)) (sym (get_or-set_same entries i entry 0 room)) e))
           (λ b. subst (EntryIs families (get_or words j 0)) (sym (get_or-set_other entries i j entry 0 (λ q. absurd (omega arith)))) (g.each j b)) (eq-or-lt_of_le le)
 
-      none-there : (any || not (eqb entry 0)) ≡ false → (j : ℕ) → j < i + 1 → entry_of families (get_or words j 0) ≡ none
+      none-there : (any || not (eqb entry 0)) ≡ false → (j : ℕ) → j < i + 1 → entry_of families (get_or words j 0) ≡ None
       none-there t =
           let b = both_false any (not (eqb entry 0)) t in
           below_more _ _ (g.none-there b.0) (entry_out families (get_or words i 0) e.is (eqb-true _ _ (not-false _ b.1)))

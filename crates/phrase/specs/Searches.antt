@@ -1,6 +1,6 @@
 -- How a phrase may be looked for.
 use Rattle.std.specs.Prelude.{ℕ, ◌≤◌, ◌<◌, List, ◌≡◌, length, get_or, take}
-use Rattle.std.proofs.Math.Option.{none}
+use Rattle.std.specs.Prelude.{None}
 use Rattle.model.specs.Families.{entry_of}
 use Rattle.families.specs.Entries.{EntryIs}
 use Rattle.families.specs.Kin.{KinOf}
@@ -9,7 +9,7 @@ use Rattle.phrase.specs.declared.Search.TheVariants.{Equal, Kin}
 
 -- none of the words is in the family table
 abbrev pub OutOfTable : List ℕ → List ℕ → Type 0
-OutOfTable families words = (i : ℕ) → i < length words → entry_of families (get_or words i 0) ≡ none
+OutOfTable families words = (i : ℕ) → i < length words → entry_of families (get_or words i 0) ≡ None
 
 -- some numbers are the entries of the words, 0 for none
 pub record EntriesOf (families words entries : List ℕ) : Type 0 where

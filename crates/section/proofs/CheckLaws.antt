@@ -1,6 +1,6 @@
 -- What a section's check comes to, case by case, and which snippet it leaves.
 use Rattle.std.proofs.Common.{◌≡◌, ℕ, ◌+◌, ◌-◌, ◌*◌, ◌<◌, ◌≤◌, true, false, List, [], take, drop, arith, le-leb}
-use mathlib.Core.Option.{some, none}
+use Rattle.std.specs.Prelude.{Some, None}
 use borrow.Author.Tests.{lt-leb}
 use Rattle.model.specs.declared.Refusal.{Refusal}
 use Rattle.model.specs.Answers.{has_positions, snippet_of, snippet_start, stands_at}
@@ -11,15 +11,15 @@ use Rattle.model.specs.Section.{size, well_sized}
 -- ---- section_refusal
 
 module _ (section : List ℕ) where
-  pub wrong_size : well_sized 0 max_tokens section ≡ false → section_refusal section ≡ some (refusal 1 0)
+  pub wrong_size : well_sized 0 max_tokens section ≡ false → section_refusal section ≡ Some (refusal 1 0)
   unfolding section_refusal tried wrong_section
   wrong_size e = rw e
 
-  pub wrong_order : well_sized 0 max_tokens section ≡ true → (place : ℕ) → faulty_position section ≡ some place → section_refusal section ≡ some (refusal 2 place)
+  pub wrong_order : well_sized 0 max_tokens section ≡ true → (place : ℕ) → faulty_position section ≡ Some place → section_refusal section ≡ Some (refusal 2 place)
   unfolding section_refusal tried wrong_section
   wrong_order e place f = rw (e, f)
 
-  pub right-order : well_sized 0 max_tokens section ≡ true → faulty_position section ≡ none → section_refusal section ≡ none
+  pub right-order : well_sized 0 max_tokens section ≡ true → faulty_position section ≡ None → section_refusal section ≡ None
   unfolding section_refusal tried wrong_section
   right-order e f = rw (e, f)
 
@@ -48,10 +48,10 @@ module _ (section : List ℕ) where
 
     -- ---- has_positions, by the tests of the code
 
-    pub no_section : {r : Refusal} → section_refusal section ≡ some r → has_positions section from to ≡ false
+    pub no_section : {r : Refusal} → section_refusal section ≡ Some r → has_positions section from to ≡ false
     no_section e = rw e
 
-    module _ (a : section_refusal section ≡ none) where
+    module _ (a : section_refusal section ≡ None) where
       pub from_zero : from < 1 → has_positions section from to ≡ false
       from_zero h = rw (a, lt-leb 1 from h)
 

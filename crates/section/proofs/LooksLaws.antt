@@ -1,6 +1,7 @@
 -- Looks at positions that follow each other: the first that finds a fault decides, and the last nonzero sentence goes on from each to the next.
 use Rattle.std.proofs.Common.{◌≡◌, ℕ, zero, suc, ◌+◌, ◌-◌, ◌/◌, ◌%◌, ◌<◌, ◌≤◌, Bool, true, false, ◌||◌, ◌⊎◌, List, get_or, sym, refl, ap, ◌∙◌, ⊎_elim, arith}
-use mathlib.Core.Option.{Option, some, none, or_else}
+use Rattle.std.specs.Prelude.{Option, Some, None}
+use Rattle.std.specs.Option.{option_or}
 use Rattle.model.specs.Checks.{breaks_order, last_nonzero, falls_below, faulty_at, faulty_position}
 use Rattle.model.specs.Limits.{radix}
 use Rattle.model.specs.Lists.{first, from_to}
@@ -14,26 +15,26 @@ use Rattle.section.specs.Looks.{faulty_after, look_of, last_after, Faultless}
 -- ---- look_of: what an answer tells, where it may also be unclear
 
 module _ (o : Option ℕ) (last : ℕ) (closely : Bool) (r : Looked) (told : (r ≡ look_of o last) ⊎ ((r ≡ Unclear) × (closely ≡ false))) where
-  pub look_faulty : (place : ℕ) → r ≡ Faulty place → o ≡ some place
+  pub look_faulty : (place : ℕ) → r ≡ Faulty place → o ≡ Some place
   look_faulty place e = ⊎_elim (λ t. at o (sym t ∙ e)) (λ t. let z : ◌≡◌ {A = ℕ} 0 1 = cc in absurd (omega arith)) told
     where
-      at : (o : Option ℕ) → look_of o last ≡ Faulty place → o ≡ some place
-      at (some p) f = cc
-      at none f = let z : ◌≡◌ {A = ℕ} 0 1 = cc in absurd (omega arith)
+      at : (o : Option ℕ) → look_of o last ≡ Faulty place → o ≡ Some place
+      at (Some p) f = cc
+      at None f = let z : ◌≡◌ {A = ℕ} 0 1 = cc in absurd (omega arith)
 
-  pub look_sound : (after : ℕ) → r ≡ Sound after → (o ≡ none) × (after ≡ last)
+  pub look_sound : (after : ℕ) → r ≡ Sound after → (o ≡ None) × (after ≡ last)
   look_sound after e = ⊎_elim (λ t. at o (sym t ∙ e)) (λ t. let z : ◌≡◌ {A = ℕ} 0 1 = cc in absurd (omega arith)) told
     where
-      at : (o : Option ℕ) → look_of o last ≡ Sound after → (o ≡ none) × (after ≡ last)
-      at (some p) f = let z : ◌≡◌ {A = ℕ} 0 1 = cc in absurd (omega arith)
-      at none f = (refl, cc)
+      at : (o : Option ℕ) → look_of o last ≡ Sound after → (o ≡ None) × (after ≡ last)
+      at (Some p) f = let z : ◌≡◌ {A = ℕ} 0 1 = cc in absurd (omega arith)
+      at None f = (refl, cc)
 
   pub look_unclear : r ≡ Unclear → closely ≡ false
   look_unclear e = ⊎_elim (λ t. at o (sym t ∙ e)) (λ t. t.1) told
     where
       at : (o : Option ℕ) → look_of o last ≡ Unclear → closely ≡ false
-      at (some p) f = let z : ◌≡◌ {A = ℕ} 0 1 = cc in absurd (omega arith)
-      at none f = let z : ◌≡◌ {A = ℕ} 0 1 = cc in absurd (omega arith)
+      at (Some p) f = let z : ◌≡◌ {A = ℕ} 0 1 = cc in absurd (omega arith)
+      at None f = let z : ◌≡◌ {A = ℕ} 0 1 = cc in absurd (omega arith)
 
 module _ (section : List ℕ) where
   -- ---- faulty_after, over all positions, over none, and from one to the next
@@ -42,11 +43,11 @@ module _ (section : List ℕ) where
   unfolding faulty_after faulty_position
   whole = refl
 
-  pub no_position : (from to : ℕ) → to ≤ from → faulty_after section from to ≡ none
+  pub no_position : (from to : ℕ) → to ≤ from → faulty_after section from to ≡ None
   unfolding faulty_after
   no_position from to h = first-range_empty (faulty_at section) (from + 1) to (omega arith)
 
-  pub faulty_next : (p to : ℕ) → p < to → faulty_at section (p + 1) ≡ true → faulty_after section p to ≡ some (p + 1)
+  pub faulty_next : (p to : ℕ) → p < to → faulty_at section (p + 1) ≡ true → faulty_after section p to ≡ Some (p + 1)
   unfolding faulty_after
   faulty_next p to h e = first-range-here (faulty_at section) (p + 1) to (omega arith) e
 
@@ -57,18 +58,18 @@ module _ (section : List ℕ) where
   -- ---- faulty_after, over two looks
 
   module _ (from mid to : ℕ) (h : from ≤ mid) (k : mid ≤ to) where
-    two_looks : faulty_after section from to ≡ or_else (faulty_after section from mid) (faulty_after section mid to)
+    two_looks : faulty_after section from to ≡ option_or (faulty_after section from mid) (faulty_after section mid to)
     unfolding faulty_after
     two_looks =
         ap (first (faulty_at section)) (range-append (from + 1) mid to (omega arith) k)
         ∙ first-append (faulty_at section) (from_to (from + 1) mid) (from_to (mid + 1) to)
 
-    pub found_first : (p : ℕ) → faulty_after section from mid ≡ some p → faulty_after section from to ≡ some p
-    unfolding or_else
+    pub found_first : (p : ℕ) → faulty_after section from mid ≡ Some p → faulty_after section from to ≡ Some p
+    unfolding option_or
     found_first p e = two_looks ∙ rw e
 
-    pub found-later : faulty_after section from mid ≡ none → faulty_after section from to ≡ faulty_after section mid to
-    unfolding or_else
+    pub found-later : faulty_after section from mid ≡ None → faulty_after section from to ≡ faulty_after section mid to
+    unfolding option_or
     found-later e = two_looks ∙ rw e
 
   -- ---- position 1, by the place that the code reads

@@ -1,6 +1,6 @@
 -- What a look at the positions after `from` up to `to` tells.
 use Rattle.std.specs.Prelude.{◌≡◌, ℕ, ◌+◌, ◌*◌, ◌≤◌, cond, List, length, ◌==◌}
-use Rattle.std.proofs.Math.Option.{Option, some, none}
+use Rattle.std.specs.Prelude.{Option, Some, None}
 use Rattle.model.specs.Checks.{last_nonzero, faulty_at}
 use Rattle.model.specs.Limits.{max_tokens}
 use Rattle.model.specs.Lists.{first, from_to}
@@ -23,8 +23,8 @@ unfoldable pub faulty_after : List ℕ → ℕ → ℕ → Option ℕ
 faulty_after section from to = first (faulty_at section) (from_to (from + 1) to)
 
 abbrev pub look_of : Option ℕ → ℕ → Looked
-look_of (some p) last = Faulty p
-look_of none last = Sound last
+look_of (Some p) last = Faulty p
+look_of None last = Sound last
 
 abbrev pub looked_at : List ℕ → ℕ → ℕ → Looked
 looked_at section from to = look_of (faulty_after section from to) (last_nonzero (sentence_at section) to)
@@ -35,5 +35,5 @@ last_after last here = cond (here == 0) last here
 
 -- None is faulty; the last nonzero sentence up to `to` is that at `to`, or, where that is zero, the one up to `from`.
 pub record Faultless (section : List ℕ) (from to : ℕ) : Type 0 where
-  pub none_faulty : faulty_after section from to ≡ none
+  pub none_faulty : faulty_after section from to ≡ None
   pub last_is : last_nonzero (sentence_at section) to ≡ last_after (last_nonzero (sentence_at section) from) (sentence_at section to)

@@ -3,7 +3,7 @@ use Prim.Native.Nat.{ℕ}
 use mathlib.Core.Path.{◌≡◌, sym, ◌∙◌}
 use mathlib.Core.Bool.{true, false}
 use mathlib.Core.List.{List, [], ◌∷◌}
-use mathlib.Core.Option.{Option, some, none}
+use Rattle.std.specs.Prelude.{Option, Some, None}
 use Rattle.model.specs.declared.Fault.{Fault}
 use Rattle.model.specs.declared.Fault.TheVariants.{At, Nowhere}
 use Rattle.model.specs.declared.Refusal.{Refusal}
@@ -36,7 +36,7 @@ later = four ∷ five ∷ six ∷ twelve ∷ seven ∷ []
 -- ---- the first check
 
 module _ (selection : List ℕ) where
-  pub wrong_size : well_sized 1 64 selection ≡ false → selection_refusal selection ≡ some (refusal 3 0)
+  pub wrong_size : well_sized 1 64 selection ≡ false → selection_refusal selection ≡ Some (refusal 3 0)
   unfolding selection_refusal wrong_selection
   wrong_size e = tried_stop (record { number = 3; fails = wrong_selection }) later selection 0 (rw e)
 
@@ -48,7 +48,7 @@ module _ (selection : List ℕ) where
 
 module _ (lent : List ℕ) (check : Check) (cs : List Check) {refused : Option Refusal} {fault : Fault} (so_far : refused ≡ tried (check ∷ cs) lent)
     (e : fault ≡ fault_of (check.fails lent)) where
-  pub stops-here : {place : ℕ} → fault ≡ At place → refused ≡ some (refusal check.number place)
+  pub stops-here : {place : ℕ} → fault ≡ At place → refused ≡ Some (refusal check.number place)
   stops-here {place} f = so_far ∙ tried_stop check cs lent place (fault_at (check.fails lent) place (sym e ∙ f))
 
   pub goes_on : fault ≡ Nowhere → refused ≡ tried cs lent
@@ -56,6 +56,6 @@ module _ (lent : List ℕ) (check : Check) (cs : List Check) {refused : Option R
 
 -- ---- after the last
 
-pub none-refused : (lent : List ℕ) {refused : Option Refusal} → refused ≡ tried [] lent → refused ≡ none
+pub none-refused : (lent : List ℕ) {refused : Option Refusal} → refused ≡ tried [] lent → refused ≡ None
 unfolding tried
 none-refused lent e = e

@@ -4,7 +4,7 @@ use native.Mathlib.Omega.{arith}
 use mathlib.Core.Path.{◌≡◌, refl, sym, ap, ap₂, ◌∙◌}
 use mathlib.Core.Bool.{Bool, true, false, ◌||◌, or-false}
 use mathlib.Core.List.{[], ◌∷◌}
-use mathlib.Core.Option.{Option, some, none}
+use Rattle.std.specs.Prelude.{Option, Some, None}
 use lib.ListN.{drop}
 use borrow.Author.Tests.{eq-eqb, ne_eqb}
 use Rattle.model.specs.Kinds.{Shape}
@@ -23,7 +23,7 @@ module _ (at : ℕ → Shape) (m : ℕ) where
   misfit_after c w p = first_misfit_from c (drop c (up_to at m)) w p
 
   module _ (c w p : ℕ) (h : c < m) (code : Shape) (e : code ≡ at (c + 1)) where
-    pub misfits_here : fits code w p ≡ false → misfit_after c w p ≡ some (c + 1)
+    pub misfits_here : fits code w p ≡ false → misfit_after c w p ≡ Some (c + 1)
     misfits_here f = misfit_here at m c w p h (ap (λ k. fits k w p) (sym e) ∙ f)
 
     pub misfits_on : fits code w p ≡ true → (v q : ℕ) → v ≡ lists_after code w → q ≡ words_after code p → misfit_after (c + 1) v q ≡ misfit_after c w p
@@ -35,13 +35,13 @@ module _ (at : ℕ → Shape) (m : ℕ) where
     ended : misfit_after c w p ≡ misfit_after m w p
     ended = ap (λ k. misfit_after k w p) e
 
-    pub misfits_lists : (w ≡ 1 → ⊥) → misfit_after c w p ≡ some m
+    pub misfits_lists : (w ≡ 1 → ⊥) → misfit_after c w p ≡ Some m
     misfits_lists n = ended ∙ misfit_end at m w p ∙ rw (ne_eqb w 1 n)
 
-    pub misfits_words : w ≡ 1 → (p ≡ 0 → ⊥) → misfit_after c w p ≡ some m
+    pub misfits_words : w ≡ 1 → (p ≡ 0 → ⊥) → misfit_after c w p ≡ Some m
     misfits_words f n = ended ∙ misfit_end at m w p ∙ rw (eq-eqb w 1 f, ne_eqb p 0 n)
 
-    pub misfits_none : w ≡ 1 → p ≡ 0 → misfit_after c w p ≡ none
+    pub misfits_none : w ≡ 1 → p ≡ 0 → misfit_after c w p ≡ None
     misfits_none f g = ended ∙ misfit_end at m w p ∙ rw (eq-eqb w 1 f, eq-eqb p 0 g)
 
 -- ---- the start of a part

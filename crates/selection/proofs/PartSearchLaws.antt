@@ -7,7 +7,9 @@ use mathlib.Core.Path.{◌≡◌, refl, sym, ap, ◌∙◌}
 use mathlib.Core.Bool.{Bool, true, false}
 use mathlib.Core.List.{List, [], ◌∷◌, ◌++◌}
 use mathlib.Core.Logic.{◌⊎◌, inl, inr, ⊎_elim}
-use mathlib.Core.Option.{Option, some, none, map, or_else, map-eq-none_iff, none-ne-some}
+use Rattle.std.specs.Prelude.{Option, Some, None, option_map}
+use Rattle.std.specs.Option.{option_or}
+use Rattle.model.proofs.OptionLaws.{map-eq-none_iff, none-ne-some}
 use Rattle.model.specs.Kinds.{Shape, a_word, a_phrase, a_pair, a_change, is_word, shape_at, shapes_of}
 use Rattle.model.specs.Lists.{first}
 use Rattle.model.specs.Parts.{fits_all, well_formed, part_ended_by, waiting_parts, PartAt}
@@ -36,29 +38,29 @@ after at c = read_all (up_to at c) (fresh 1 1)
 module _ (faulty : Tree → Bool) where
   -- the place of the first among some parts
   abbrev pub place_in : List Tree → Option ℕ
-  place_in ts = map place_of (first faulty ts)
+  place_in ts = option_map place_of (first faulty ts)
 
   -- the place found among the parts that end at the first c codes
   abbrev pub found : (ℕ → Shape) → ℕ → Option ℕ
   found at c = place_in (waiting_parts (read_all (up_to at c) (fresh 1 1)).trees)
 
-  place_in-append : (xs ys : List Tree) → place_in xs ≡ none → place_in (xs ++ ys) ≡ place_in ys
-  unfolding or_else
-  place_in-append xs ys e = ap (map place_of) (first-append faulty xs ys ∙ ap (λ o. or_else o (first faulty ys)) ((map-eq-none_iff place_of (first faulty xs)).0 e))
+  place_in-append : (xs ys : List Tree) → place_in xs ≡ None → place_in (xs ++ ys) ≡ place_in ys
+  unfolding option_or
+  place_in-append xs ys e = ap (option_map place_of) (first-append faulty xs ys ∙ ap (λ o. option_or o (first faulty ys)) ((map-eq-none_iff place_of (first faulty xs)).0 e))
 
-  place_in-found : (xs ys : List Tree) (c : ℕ) → place_in xs ≡ some c → place_in (xs ++ ys) ≡ some c
-  unfolding or_else
-  place_in-found xs ys c e = ap (map place_of) (first-append faulty xs ys) ∙ at (first faulty xs) e
+  place_in-found : (xs ys : List Tree) (c : ℕ) → place_in xs ≡ Some c → place_in (xs ++ ys) ≡ Some c
+  unfolding option_or
+  place_in-found xs ys c e = ap (option_map place_of) (first-append faulty xs ys) ∙ at (first faulty xs) e
     where
-      at : (o : Option Tree) → map place_of o ≡ some c → map place_of (or_else o (first faulty ys)) ≡ some c
-      at (some t) e' = e'
-      at none e' = absurd (none-ne-some c e')
+      at : (o : Option Tree) → option_map place_of o ≡ Some c → option_map place_of (option_or o (first faulty ys)) ≡ Some c
+      at (Some t) e' = e'
+      at None e' = absurd (none-ne-some c e')
 
-  place_in-one : (t : Tree) → faulty t ≡ true → place_in (t ∷ []) ≡ some (place_of t)
+  place_in-one : (t : Tree) → faulty t ≡ true → place_in (t ∷ []) ≡ Some (place_of t)
   unfolding first
   place_in-one t e = rw e
 
-  place_in-none : (t : Tree) → faulty t ≡ false → place_in (t ∷ []) ≡ none
+  place_in-none : (t : Tree) → faulty t ≡ false → place_in (t ∷ []) ≡ None
   unfolding first
   place_in-none t e = rw e
 
@@ -85,11 +87,11 @@ module _ (faulty : Tree → Bool) where
         its_place : place_of (top_tree (after at (suc c)).trees) ≡ suc c
         its_place = ap place_of (part-read at (suc c) part) ∙ part-place at (suc c) part
 
-      module _ (none_yet : found at c ≡ none) where
+      module _ (none_yet : found at c ≡ None) where
         newer : (ts : List Tree) → part_ended_by (at (suc c)) (after at (suc c)).trees ≡ ts → found at (suc c) ≡ place_in ts
         newer ts e = ap place_in adds ∙ place_in-append (waiting_parts (after at c).trees) (part_ended_by (at (suc c)) (after at (suc c)).trees) none_yet ∙ ap place_in e
 
-        not-here : told (suc c) ≡ false → found at (suc c) ≡ none
+        not-here : told (suc c) ≡ false → found at (suc c) ≡ None
         unfolding first
         not-here q =
             ⊎_elim
@@ -97,20 +99,20 @@ module _ (faulty : Tree → Bool) where
             (λ w. newer _ (w.1 _) ∙ place_in-none (top_tree (after at (suc c)).trees) (its_fault w.0 ∙ q))
             (ends-part (at (suc c)))
 
-        found_here : is_word (at (suc c)) ≡ false → told (suc c) ≡ true → found at (suc c) ≡ some (suc c)
+        found_here : is_word (at (suc c)) ≡ false → told (suc c) ≡ true → found at (suc c) ≡ Some (suc c)
         found_here k q =
             ⊎_elim
             (λ w. false-true (sym k ∙ w.0))
-            (λ w. newer _ (w.1 _) ∙ place_in-one _ (its_fault k ∙ q) ∙ ap some (its_place k))
+            (λ w. newer _ (w.1 _) ∙ place_in-one _ (its_fault k ∙ q) ∙ ap Some (its_place k))
             (ends-part (at (suc c)))
 
         -- the same, with the code's own place
-        pub none_after : told (c + 1) ≡ false → found at (c + 1) ≡ none
+        pub none_after : told (c + 1) ≡ false → found at (c + 1) ≡ None
         none_after q = ap (found at) (add-one c) ∙ not-here (ap told (sym (add-one c)) ∙ q)
 
-        pub some_after : is_word (at (c + 1)) ≡ false → told (c + 1) ≡ true → found at (c + 1) ≡ some (c + 1)
+        pub some_after : is_word (at (c + 1)) ≡ false → told (c + 1) ≡ true → found at (c + 1) ≡ Some (c + 1)
         some_after k q =
-            ap (found at) (add-one c) ∙ found_here (ap (λ n. is_word (at n)) (sym (add-one c)) ∙ k) (ap told (sym (add-one c)) ∙ q) ∙ ap some (sym (add-one c))
+            ap (found at) (add-one c) ∙ found_here (ap (λ n. is_word (at n)) (sym (add-one c)) ∙ k) (ap told (sym (add-one c)) ∙ q) ∙ ap Some (sym (add-one c))
 
   -- ---- the whole selection
 
@@ -123,11 +125,11 @@ module _ (faulty : Tree → Bool) where
     unfolding tree_of waiting_parts shapes_of top_tree
     whole = let P = parsed (shapes_of sel) well in rw P.alone
 
-    pub found_none : found row (size sel) ≡ none → place_in (parts (tree_of sel)) ≡ none
+    pub found_none : found row (size sel) ≡ None → place_in (parts (tree_of sel)) ≡ None
     found_none e = ap place_in (sym whole) ∙ e
 
     -- what is found among the first codes is found among all
-    pub found_some : (c : ℕ) → c ≤ size sel → (place : ℕ) → found row c ≡ some place → place_in (parts (tree_of sel)) ≡ some place
+    pub found_some : (c : ℕ) → c ≤ size sel → (place : ℕ) → found row c ≡ Some place → place_in (parts (tree_of sel)) ≡ Some place
     unfolding shapes_of
     found_some c h place e =
         let rest = up_to (λ i. row (c + i)) (size sel - c) in

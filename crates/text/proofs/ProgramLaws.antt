@@ -5,10 +5,11 @@ use native.Mathlib.Omega.{arith}
 use mathlib.Core.Path.{◌≡◌, refl}
 use mathlib.Core.Bool.{or-true}
 use mathlib.Core.List.{List, [], ◌++◌}
-use mathlib.Core.Option.{Option, some, none}
+use Rattle.std.specs.Prelude.{Option, Some, None}
 use borrow.Author.Tests.{lt-ltb, le-ltb, ne_eqb}
 use lib.ListN.{length, drop, length-append}
 use lib.Seq.{take-append_seam}
+use Rattle.model.specs.declared.Reason.TheVariants.{WrongSection}
 use Rattle.model.specs.Answers.{complete_list, answer_unless, listing_refusal, listing_answer, listing_numbers, buffer_unless, listing_buffer}
 use Rattle.model.specs.Checks.{refusal}
 use Rattle.model.specs.Matches.{Match, strings}
@@ -27,11 +28,11 @@ use Rattle.text.specs.Printed.{listing_text}
 -- ---- program_text
 
 module _ (input : List ℕ) where
-  pub program_long : max_input < length input → program_text input ≡ listing_text (Refused (refusal 1 0)) []
+  pub program_long : max_input < length input → program_text input ≡ listing_text (Refused (refusal WrongSection 0)) []
   unfolding program_text
   program_long h = rw (lt-ltb max_input (length input) h)
 
-  pub program_uneven : (length input % 4 ≡ 0 → ⊥) → program_text input ≡ listing_text (Refused (refusal 1 0)) []
+  pub program_uneven : (length input % 4 ≡ 0 → ⊥) → program_text input ≡ listing_text (Refused (refusal WrongSection 0)) []
   unfolding program_text
   program_uneven h = rw (ne_eqb (length input % 4) 0 h, or-true)
 
@@ -43,7 +44,7 @@ module _ (input : List ℕ) where
 
 module _ (section families selection : List ℕ) (work : ℕ) (b : List ℕ) where
   -- what the buffer holds where nothing refuses
-  listing_kept : listing_refusal section families selection work (length b) ≡ none
+  listing_kept : listing_refusal section families selection work (length b) ≡ None
       → let ms = complete_list section families selection in
       ListingIn (length ms) (strings ms) ms (listing_numbers ms ++ drop (length (listing_numbers ms)) b)
   listing_kept e =
@@ -67,10 +68,10 @@ module _ (section families selection : List ℕ) (work : ℕ) (b : List ℕ) whe
       ms : List Match
       ms = complete_list section families selection
 
-      at : (r : Option Refusal) → (r ≡ none → ListingIn (length ms) (strings ms) ms (listing_numbers ms ++ drop (length (listing_numbers ms)) b))
+      at : (r : Option Refusal) → (r ≡ None → ListingIn (length ms) (strings ms) ms (listing_numbers ms ++ drop (length (listing_numbers ms)) b))
           → PrintableAs (answer_unless r ms) ms (buffer_unless r (listing_numbers ms) b)
-      at (some r) h = tt
-      at none h = h refl
+      at (Some r) h = tt
+      at None h = h refl
 
   -- what the full listing answers and leaves can be printed
   abbrev pub listing_printable : {answer : Listing} {buffer : List ℕ} → answer ≡ listing_answer section families selection work (length b) → buffer ≡ listing_buffer section families selection work b

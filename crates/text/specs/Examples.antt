@@ -4,6 +4,7 @@ use Rattle.std.specs.Prelude.{ℕ, ◌/◌, ◌%◌, ◌≡◌, refl, Bool, true
 use Prim.Native.String.{String}
 use Rattle.std.proofs.Math.Bool.{xor}
 use mathlib.Core.List.{List, [], ◌∷◌, ◌++◌, flat_map}
+use Rattle.model.specs.declared.Reason.TheVariants.{LongList}
 use Rattle.model.specs.AllMatches.{filter_list, all_matches}
 use Rattle.model.specs.Answers.{listed, listing_refusal, listing_answer}
 use Rattle.model.specs.Bytes.{bytes}
@@ -72,7 +73,7 @@ entries =
     ∷ record { printed = program_text (6 ∷ 0 ∷ 0 ∷ 0 ∷ 10 ∷ []); says = "refused 1 0\n" }
     ∷ record { printed = program_text []; says = "refused 1 0\n" }
     -- "any refusal prints `refused`, number, place"
-    ∷ record { printed = listing_text (Refused (refusal 9 64)) []; says = "refused 9 64\n" }
+    ∷ record { printed = listing_text (Refused (refusal LongList 64)) []; says = "refused 9 64\n" }
     -- an empty list
     ∷ record { printed = printed []; says = "no 0 0\n" }
     -- "`.` for a match with none"

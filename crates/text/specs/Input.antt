@@ -1,6 +1,7 @@
 -- What `ftlist` reads, as bytes: "Program `ftlist` reads little-endian u32 from standard input, the section's 1 + 2n numbers (all, if fewer) and then
 -- the selection. Over 65,536 bytes, or a count not divisible by 4, prints `refused 1 0`".
 use Rattle.std.specs.Prelude.{ℕ, ◌+◌, ◌*◌, ◌%◌, Bool, ◌||◌, not, cond, List, [], ◌∷◌, ltb, eqb, length, take, drop, get_or}
+use Rattle.model.specs.declared.Reason.TheVariants.{WrongSection}
 use Rattle.model.specs.Answers.{complete_list, listing_answer}
 use Rattle.model.specs.Checks.{refusal}
 use Rattle.model.specs.Families.{empty_table}
@@ -52,4 +53,4 @@ listing_of section selection = listing_text (listing_answer section empty_table 
 unfoldable pub program_text : List ℕ → List ℕ
 program_text input =
     let numbers = numbers_of input in
-    cond (unreadable input) (listing_text (Refused (refusal 1 0)) []) (listing_of (section_part numbers) (selection_part numbers))
+    cond (unreadable input) (listing_text (Refused (refusal WrongSection 0)) []) (listing_of (section_part numbers) (selection_part numbers))

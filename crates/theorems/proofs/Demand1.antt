@@ -3,11 +3,11 @@ use Prim.Native.Nat.{ℕ, ◌+◌, ◌-◌}
 use mathlib.Core.Bool.{Bool, true, false, ◌&&◌, cond}
 use mathlib.Core.List.{List, [], ◌++◌, append_assoc}
 use mathlib.Core.Logic.{◌⊎◌, inl, inr}
-use mathlib.Core.Option.{Option, some, none}
+use Rattle.std.specs.Prelude.{Option, Some, None}
 use mathlib.Core.Path.{◌≡◌, refl, sym, ap, ◌∙◌}
 use lib.Dec.{leb}
 use lib.ListN.{length, take, drop, take-append-drop}
-use Rattle.model.specs.declared.Quick.TheVariants.{Answered}
+use Rattle.model.specs.Walk.{answered}
 use Rattle.model.specs.declared.Refusal.{Refusal}
 use Rattle.model.specs.Answers.{complete_list, answer_unless, listing_answer, walk_unless, is_accepted, snippet_of}
 use Rattle.model.specs.Checks.{section_refusal}
@@ -21,15 +21,15 @@ use Rattle.model.proofs.AnswersLaws.{listing_buffer-refused}
 use Rattle.theorems.specs.Demands.{ListingGiven, ListingRefuses, QuickGiven, QuickRefuses, listing_table, quick_table, Numbered, Demand1}
 use Rattle.theorems.proofs.TableLaws.{first_fall, first_fall_number, listing_table_lem, quick_table_lem}
 
-listing_either : (o : Option Refusal) (ms : List Match) → ((r : Refusal) → o ≡ some r → Numbered r)
+listing_either : (o : Option Refusal) (ms : List Match) → ((r : Refusal) → o ≡ Some r → Numbered r)
     → ListingGiven (answer_unless o ms) ⊎ ((r : Refusal) × ListingRefuses (answer_unless o ms) r × Numbered r)
-listing_either none ms h = inl (_, _, _, refl)
-listing_either (some r) ms h = inr (r, refl, h r refl)
+listing_either None ms h = inl (_, _, _, refl)
+listing_either (Some r) ms h = inr (r, refl, h r refl)
 
-quick_either : (o : Option Refusal) (y : Bool) (n : ℕ) → ((r : Refusal) → o ≡ some r → Numbered r)
-    → QuickGiven (walk_unless o (Answered y n)) ⊎ ((r : Refusal) × QuickRefuses (walk_unless o (Answered y n)) r × Numbered r)
-quick_either none y n h = inl (y, (n, refl))
-quick_either (some r) y n h = inr (r, refl, h r refl)
+quick_either : (o : Option Refusal) (y : Bool) (n : ℕ) → ((r : Refusal) → o ≡ Some r → Numbered r)
+    → QuickGiven (walk_unless o (answered y n)) ⊎ ((r : Refusal) × QuickRefuses (walk_unless o (answered y n)) r × Numbered r)
+quick_either None y n h = inl (y, (n, refl))
+quick_either (Some r) y n h = inr (r, refl, h r refl)
 
 part : (section : List ℕ) (b : Bool) (from k : ℕ) → (before : List ℕ) × (after : List ℕ) × (section ≡ before ++ cond b (take k (drop from section)) [] ++ after)
 part section true from k =

@@ -5,7 +5,8 @@ use native.Mathlib.Omega.{arith}
 use mathlib.Core.List.{List, ◌++◌}
 use mathlib.Core.Logic.Iff
 use mathlib.Core.Logic.{◌↔◌}
-use mathlib.Core.Option.{Option, some, none, some-ne-none}
+use Rattle.std.specs.Prelude.{Option, Some, None}
+use Rattle.model.proofs.OptionLaws.{some-ne-none}
 use mathlib.Core.Path.{◌≡◌, refl, sym, ◌∙◌}
 use lib.ListN.{length, drop}
 use Rattle.model.specs.declared.Refusal.{Refusal}
@@ -29,13 +30,13 @@ use Rattle.theorems.proofs.WordsLaws.{yes_exists}
 
 -- ---- what an answer tells of the table
 
-refused-some : (o : Option Refusal) (ms : List Match) (r : Refusal) → ListingRefuses (answer_unless o ms) r ↔ (o ≡ some r)
-refused-some none ms r = (λ e. cc, λ e. cc)
-refused-some (some q) ms r = (λ e. cc, λ e. cc)
+refused-some : (o : Option Refusal) (ms : List Match) (r : Refusal) → ListingRefuses (answer_unless o ms) r ↔ (o ≡ Some r)
+refused-some None ms r = (λ e. cc, λ e. cc)
+refused-some (Some q) ms r = (λ e. cc, λ e. cc)
 
-given_none : (o : Option Refusal) (ms : List Match) → ListingGiven (answer_unless o ms) ↔ (o ≡ none)
-given_none none ms = (λ e. refl, λ e. (_, _, _, refl))
-given_none (some q) ms = (λ w. let z : ◌≡◌ {A = ℕ} 0 1 = cc w.3 in absurd (omega arith), λ e. absurd (some-ne-none q e))
+given_none : (o : Option Refusal) (ms : List Match) → ListingGiven (answer_unless o ms) ↔ (o ≡ None)
+given_none None ms = (λ e. refl, λ e. (_, _, _, refl))
+given_none (Some q) ms = (λ w. let z : ◌≡◌ {A = ℕ} 0 1 = cc w.3 in absurd (omega arith), λ e. absurd (some-ne-none q e))
 
 -- ---- what a given listing holds
 
@@ -44,7 +45,7 @@ module _ (section families selection : List ℕ) (work : ℕ) (buffer : List ℕ
   all = complete_list section families selection
 
   -- every span ends within the section
-  complete_ends : input_refusal section families selection ≡ none → EndsBelowRadix all
+  complete_ends : input_refusal section families selection ≡ None → EndsBelowRadix all
   complete_ends e =
       let passed = input_none section families selection e in
       let few = (accepted-section section passed.0).few in

@@ -6,15 +6,18 @@ use mathlib.Core.Bool.{Bool, true, false}
 use mathlib.Core.List.{List}
 use mathlib.Core.Logic.Iff
 use mathlib.Core.Logic.{◌↔◌, ◌⊎◌, inl, inr}
-use mathlib.Core.Option.{Option, some, none, some-ne-none}
+use Rattle.std.specs.Prelude.{Option, Some, None}
+use Rattle.model.specs.declared.Reason.TheVariants.{LongList}
+use Rattle.model.proofs.OptionLaws.{some-ne-none}
 use mathlib.Core.Path.{◌≡◌, refl, sym, ap, ◌∙◌}
 use lib.ListN.{length}
-use Rattle.model.specs.declared.Listing.TheVariants.{Listed}
-use Rattle.model.specs.declared.Quick.TheVariants.{Answered, Refused as QuickRefused}
+use Rattle.std.specs.Prelude.{Err}
+use Rattle.model.specs.Answers.{listed_as}
+use Rattle.model.specs.Walk.{answered}
 use Rattle.model.specs.declared.Refusal.{Refusal}
 use Rattle.model.specs.Accepted.{Passes}
 use Rattle.model.specs.Answers.{complete_list, listing_answer, walk_unless, quick_answer}
-use Rattle.model.specs.Checks.{refusal}
+use Rattle.model.specs.Checks.{number_of, refusal}
 use Rattle.model.specs.Families.{searched_of}
 use Rattle.model.specs.Matches.{is_yes}
 use Rattle.model.specs.Trees.{Tree, tree_of}
@@ -30,13 +33,13 @@ use Rattle.theorems.proofs.WordsLaws.{yes_exists, no_exists, too_long_exactly, t
 
 -- ---- what an answer tells of the table
 
-refused-some : (o : Option Refusal) (y : Bool) (n : ℕ) (r : Refusal) → QuickRefuses (walk_unless o (Answered y n)) r ↔ (o ≡ some r)
-refused-some none y n r = (λ e. cc, λ e. cc)
-refused-some (some q) y n r = (λ e. cc, λ e. cc)
+refused-some : (o : Option Refusal) (y : Bool) (n : ℕ) (r : Refusal) → QuickRefuses (walk_unless o (answered y n)) r ↔ (o ≡ Some r)
+refused-some None y n r = (λ e. cc, λ e. cc)
+refused-some (Some q) y n r = (λ e. cc, λ e. cc)
 
-given_none : (o : Option Refusal) (y : Bool) (n : ℕ) → QuickGiven (walk_unless o (Answered y n)) ↔ (o ≡ none)
-given_none none y n = (λ e. refl, λ e. (y, (n, refl)))
-given_none (some q) y n = (λ w. let z : ◌≡◌ {A = ℕ} 0 1 = cc w.1.1 in absurd (omega arith), λ e. absurd (some-ne-none q e))
+given_none : (o : Option Refusal) (y : Bool) (n : ℕ) → QuickGiven (walk_unless o (answered y n)) ↔ (o ≡ None)
+given_none None y n = (λ e. refl, λ e. (y, (n, refl)))
+given_none (Some q) y n = (λ w. let z : ◌≡◌ {A = ℕ} 0 1 = cc w.1.1 in absurd (omega arith), λ e. absurd (some-ne-none q e))
 
 -- ---- where the checks pass
 
@@ -57,41 +60,41 @@ module _ (section families selection : List ℕ) (work : ℕ) where
     is : quick_answer section families selection work ≡ unless_too_long long yes count
     is = quick_answer-is section families selection work p
 
-    refuses : (place : ℕ) → RefusesForSize (quick_answer section families selection work) place ↔ (long ≡ some place)
+    refuses : (place : ℕ) → RefusesForSize (quick_answer section families selection work) place ↔ (long ≡ Some place)
     refuses place = rw is (unless_too_long-refused long yes count place)
 
     size_exactly : ((place : ℕ) × RefusesForSize (quick_answer section families selection work) place) ↔ Has (PastLimits section families) builds
     size_exactly = Iff.trans (λ w. (w.0, (refuses w.0).0 w.1), λ w. (w.0, (refuses w.0).1 w.1)) (too_long_exists section families builds)
 
-    only_size : (r : Refusal) → QuickRefuses (quick_answer section families selection work) r → r.number ≡ 9
+    only_size : (r : Refusal) → QuickRefuses (quick_answer section families selection work) r → number_of r.reason ≡ 9
     only_size r e = unless_too_long-nine long yes count r (sym is ∙ e)
 
     -- unless it refuses for size, it says whether the complete list has a match without excludes
     module _ (fits : (place : ℕ) → ¬ RefusesForSize (quick_answer section families selection work) place) where
       says : (y : Bool) → QuickSays (quick_answer section families selection work) y ↔ (yes ≡ y)
-      says y = (λ w. sym (answered y w.0 w.1).0, λ e. at e (unless_too_long-either long yes count))
+      says y = (λ w. sym (as_complete y w.0 w.1).0, λ e. at e (unless_too_long-either long yes count))
         where
-          answered : (y : Bool) (n : ℕ) → quick_answer section families selection work ≡ Answered y n → (y ≡ yes) × (n ≡ count)
-          answered y n e = unless_too_long-answered long yes y count n (sym is ∙ e)
+          as_complete : (y : Bool) (n : ℕ) → quick_answer section families selection work ≡ answered y n → (y ≡ yes) × (n ≡ count)
+          as_complete y n e = unless_too_long-answered long yes y count n (sym is ∙ e)
 
-          at : {b : Bool} → yes ≡ b → ((y : Bool) × (n : ℕ) × (unless_too_long long yes count ≡ Answered y n)) ⊎ ((c : ℕ) × (unless_too_long long yes count ≡ QuickRefused (refusal 9 c))) → QuickSays (quick_answer section families selection work) b
-          at {b} e (inl w) = (w.1, is ∙ w.2 ∙ ap (λ (z : Bool). Answered z w.1) ((unless_too_long-answered long yes w.0 count w.1 w.2).0 ∙ e))
+          at : {b : Bool} → yes ≡ b → ((y : Bool) × (n : ℕ) × (unless_too_long long yes count ≡ answered y n)) ⊎ ((c : ℕ) × (unless_too_long long yes count ≡ Err (refusal LongList c))) → QuickSays (quick_answer section families selection work) b
+          at {b} e (inl w) = (w.1, is ∙ w.2 ∙ ap (λ (z : Bool). answered z w.1) ((unless_too_long-answered long yes w.0 count w.1 w.2).0 ∙ e))
           at e (inr w) = absurd (fits w.0 (is ∙ w.1))
 
-  counts : (y : Bool) (codes : ℕ) → quick_answer section families selection work ≡ Answered y codes
-      → (walk (searched_of section families) (tree_of selection) ≡ Answered y codes) × (codes ≡ count)
+  counts : (y : Bool) (codes : ℕ) → quick_answer section families selection work ≡ answered y codes
+      → (walk (searched_of section families) (tree_of selection) ≡ answered y codes) × (codes ≡ count)
   counts y codes e =
       let given = quick_answer-answered section families selection work y codes e in
       (given.1, (unless_too_long-answered long yes y count codes (sym (is given.0) ∙ e)).1)
 
-  at-most_own : (y : Bool) (codes : ℕ) → quick_answer section families selection work ≡ Answered y codes → codes ≤ own_count selection
+  at-most_own : (y : Bool) (codes : ℕ) → quick_answer section families selection work ≡ answered y codes → codes ≤ own_count selection
   at-most_own y codes e =
       let given = quick_answer-answered section families selection work y codes e in
       let passed = input_none section families selection given.0.checks in
       let own = parts_own selection (accepted-selection selection passed.2).spelt in
       rw ((counts y codes e).1, ← own) (length-walk_reaches (searched_of section families) (tree_of selection))
 
-  agrees : Enough work → (lent buffer m s : ℕ) (y : Bool) → listing_answer section families selection lent buffer ≡ Listed m s y → QuickSays (quick_answer section families selection work) y
+  agrees : Enough work → (lent buffer m s : ℕ) (y : Bool) → listing_answer section families selection lent buffer ≡ listed_as m s y → QuickSays (quick_answer section families selection work) y
   agrees enough lent buffer m s y e =
       let given = listing_answer-listed section families selection lent buffer m s y e in
       let passed = listing_refusal-none section families selection lent buffer given.0 in

@@ -7,12 +7,13 @@ use mathlib.Core.List
 use mathlib.Core.List.{List, [], ◌∷◌, ◌++◌, Sublistᴰ}
 use mathlib.Core.Logic.Iff
 use mathlib.Core.Logic.{◌↔◌}
-use mathlib.Core.Option.{Option, some, none}
+use Rattle.std.specs.Prelude.{Option, Some, None}
 use lib.ListN.{length}
 use Rattle.model.specs.declared.Filter.{Filter}
 use Rattle.model.specs.declared.Pair.TheVariants.{Or, And, MildNot}
-use Rattle.model.specs.declared.Quick.{Quick}
-use Rattle.model.specs.declared.Quick.TheVariants.{Answered, Refused}
+use Rattle.model.specs.Walk.{Quick}
+use Rattle.std.specs.Prelude.{Ok, Err}
+use Rattle.model.specs.Walk.{answered}
 use Rattle.model.specs.declared.Refusal.{Refusal}
 use Rattle.model.specs.AllMatches.{filter_match, all_matches}
 use Rattle.model.specs.Families.{Searched, searched_of}
@@ -56,41 +57,47 @@ reached section families f c operand =
     let o = long s f c operand in
     let ms = all_matches s (whole s f c operand) in
     let k = length (parts (whole s f c operand)) in
-    let answered : (y : Bool) (n : ℕ) → walk s (whole s f c operand) ≡ Answered y n → (y ≡ is_yes ms) × (n ≡ k) = λ y n e. unless_too_long-answered o (is_yes ms) y k n (sym (is s f c operand) ∙ e) in
+    let as_complete : (y : Bool) (n : ℕ) → walk s (whole s f c operand) ≡ answered y n → (y ≡ is_yes ms) × (n ≡ k) = λ y n e. unless_too_long-answered o (is_yes ms) y k n (sym (is s f c operand) ∙ e) in
     record {
-      decided_by_first = λ y n e. rw ((answered y n e).0 ∙ yes_under s f c operand) (first_gives s.section f (all_matches s operand));
+      decided_by_first = λ y n e. rw ((as_complete y n e).0 ∙ yes_under s f c operand) (first_gives s.section f (all_matches s operand));
       size_exactly = λ place. rw (is s f c operand) (Iff.trans (unless_too_long-refused o (is_yes ms) k place) (too_long_exactly section families (parts operand) place));
       size_only = λ r e. unless_too_long-nine o (is_yes ms) k r (sym (is s f c operand) ∙ e);
-      held_to_complete = λ y n e. rw (answered y n e).0 (yes_exists ms);
-      counts_part = λ y n e. (answered y n e).1;
+      held_to_complete = λ y n e. rw (as_complete y n e).0 (yes_exists ms);
+      counts_part = λ y n e. (as_complete y n e).1;
     }
 
 -- ---- as before
 
 -- where p answers, q answers the same
 abbrev AsBefore : Quick → Quick → Type 0
-AsBefore p q = (y : Bool) (n : ℕ) → p ≡ Answered y n → q ≡ Answered y n
+AsBefore p q = (y : Bool) (n : ℕ) → p ≡ answered y n → q ≡ answered y n
 
 before-turned : (p q : Quick) → AsBefore p q → AsBefore (turned p) (turned q)
-before-turned (Answered b k) q h y n e = ap turned (h b k refl) ∙ e
-before-turned (Refused r) q h y n e = cc
+before-turned (Ok a) q h y n e = ap turned (h a.yes a.codes refl) ∙ e
+before-turned (Err r) q h y n e = cc
 
 before-or : (p q p' q' : Quick) → AsBefore p q → AsBefore p' q' → AsBefore (or_walk p p') (or_walk q q')
-before-or (Answered true k) q p' q' h h' y n e = rw (h true k refl) e
-before-or (Answered false k) q (Answered b j) q' h h' y n e = rw (h false k refl, h' b j refl) e
-before-or (Answered false k) q (Refused r) q' h h' y n e = cc
-before-or (Refused r) q p' q' h h' y n e = cc
+before-or (Ok a) q p' q' h h' y n e = at a.yes a.codes p' (h a.yes a.codes refl) h' e
+  where
+    at : (b : Bool) (k : ℕ) (p' : Quick) → q ≡ answered b k → AsBefore p' q' → or_walk (answered b k) p' ≡ answered y n → or_walk q q' ≡ answered y n
+    at true k p' is h' e = rw is e
+    at false k (Ok b) is h' e = rw (is, h' b.yes b.codes refl) e
+    at false k (Err r) is h' e = cc
+before-or (Err r) q p' q' h h' y n e = cc
 
 before-and : (p q p' q' : Quick) → AsBefore p q → AsBefore p' q' → AsBefore (and_walk p p') (and_walk q q')
-before-and (Answered false k) q p' q' h h' y n e = rw (h false k refl) e
-before-and (Answered true k) q (Answered b j) q' h h' y n e = rw (h true k refl, h' b j refl) e
-before-and (Answered true k) q (Refused r) q' h h' y n e = cc
-before-and (Refused r) q p' q' h h' y n e = cc
+before-and (Ok a) q p' q' h h' y n e = at a.yes a.codes p' (h a.yes a.codes refl) h' e
+  where
+    at : (b : Bool) (k : ℕ) (p' : Quick) → q ≡ answered b k → AsBefore p' q' → and_walk (answered b k) p' ≡ answered y n → and_walk q q' ≡ answered y n
+    at false k p' is h' e = rw is e
+    at true k (Ok b) is h' e = rw (is, h' b.yes b.codes refl) e
+    at true k (Err r) is h' e = cc
+before-and (Err r) q p' q' h h' y n e = cc
 
 -- fewer lists that count
-before_built : (f g : Option ℕ) (b : Bool) (k : ℕ) → (f ≡ none → g ≡ none) → AsBefore (unless_too_long f b k) (unless_too_long g b k)
-before_built none g b k h y n e = rw (h refl) e
-before_built (some c) g b k h y n e = cc
+before_built : (f g : Option ℕ) (b : Bool) (k : ℕ) → (f ≡ None → g ≡ None) → AsBefore (unless_too_long f b k) (unless_too_long g b k)
+before_built None g b k h y n e = rw (h refl) e
+before_built (Some c) g b k h y n e = cc
 
 filter-before : (s : Searched) (f : Filter) (c : ℕ) (t : Tree) → AsBefore (build s (change (filtered f) c t)) (walk s (change (filtered f) c t))
 unfolding build parts
@@ -110,9 +117,9 @@ as_before s (change (filtered f) c t) y n e = filter-before s f c t y n e
 as_before s (change (occurring k) c t) y n e = e
 
 -- where q refuses, so does p
-refused_before : (p q : Quick) → AsBefore p q → (r : Refusal) → q ≡ Refused r → (o : Refusal) × (p ≡ Refused o)
-refused_before (Answered y n) q h r e = (r, sym (h y n refl) ∙ e)
-refused_before (Refused o) q h r e = (o, refl)
+refused_before : (p q : Quick) → AsBefore p q → (r : Refusal) → q ≡ Err r → (o : Refusal) × (p ≡ Err o)
+refused_before (Ok a) q h r e = (r, sym (h a.yes a.codes refl) ∙ e)
+refused_before (Err o) q h r e = (o, refl)
 
 elsewhere : (s : Searched) (t : Tree) → walk s t ≡ walk_with (λ f c u. walk s (change (filtered f) c u)) s t
 unfolding walk_with walk

@@ -6,7 +6,7 @@ use mathlib.Core.Path.{◌≡◌, refl, sym, ap, ◌∙◌}
 use mathlib.Core.Bool.{Bool, true, false, not, ◌&&◌, ◌||◌, cond, xor, or-false}
 use mathlib.Core.List.{List, [], ◌∷◌, flat_map}
 use mathlib.Core.Logic.{◌↔◌, ◌⊎◌, inl, inr, ⊎_elim}
-use mathlib.Core.Option.{some, none}
+use Rattle.std.specs.Prelude.{Some, None}
 use lib.Dec.{leb, ltb, eqb}
 use lib.ListN.{length}
 use borrow.Author.Tests.{eqb-true, ne_eqb, ltb-true, lt-ltb, not-true}
@@ -76,7 +76,7 @@ reported_never : (unit : ℕ → ℕ) (n : ℕ) → ReportedOrNot unit n → Non
 reported_never unit n (inl zeros) p q h k l x y = absurd (omega (arith, x, zeros p h (omega arith)))
 reported_never unit n (inr r) p q h k l x y = r.never_falling p q h k l
 
-accepted_still : (section : List ℕ) → faulty_before section ≡ none → faulty_position section ≡ none
+accepted_still : (section : List ℕ) → faulty_before section ≡ None → faulty_position section ≡ None
 accepted_still section e =
     let n = size section in
     let in_order : (p : ℕ) → 2 ≤ p → p ≤ n
@@ -103,7 +103,7 @@ first-same p q a b h = go (b + 1 - a) a (λ i k l. h i k (omega arith))
     go zero a h = refl
     go (suc n) a h =
         let e = h a (omega arith) (omega arith) in
-        rw e (ap (λ o. cond (q a) (some a) o) (go n (a + 1) (λ i k l. h i (omega arith) (omega arith))))
+        rw e (ap (λ o. cond (q a) (Some a) o) (go n (a + 1) (λ i k l. h i (omega arith) (omega arith))))
 
 same-as_before : (section : List ℕ) → NotReported (sentence_at section) (size section) ⊎ AllNonzero (sentence_at section) (size section)
     → faulty_position section ≡ faulty_before section
@@ -142,7 +142,7 @@ module _ (section other : List ℕ) (z : SomeZeroed section other) where
         never_falling = λ p q h k l. omega (arith, same_at p h (omega (arith, k, l)), same_at q (omega (arith, h, k)) l, r.never_falling p q h k (omega (arith, l, z.same_size)));
       })
 
-  zeroed : faulty_position section ≡ none → faulty_position other ≡ none
+  zeroed : faulty_position section ≡ None → faulty_position other ≡ None
   zeroed e = let units = (faulty_position-none section).0 e in (faulty_position-none other).1 (zeroed_never units.0, zeroed_reported units.1)
 
 -- ---- what same and different sentence keep

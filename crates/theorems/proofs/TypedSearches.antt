@@ -5,20 +5,23 @@ use native.Mathlib.Omega.{arith}
 use mathlib.Core.Bool.{Bool, true, false}
 use mathlib.Core.List.{List, [], ◌++◌}
 use mathlib.Core.Logic.{◌⊎◌, inl, inr}
-use mathlib.Core.Option.{Option, some, none}
+use Rattle.std.specs.Prelude.{Option, Some, None}
 use mathlib.Core.Path.{◌≡◌, refl, sym, ap, ◌∙◌}
 use lib.Dec.{leb}
 use lib.ListN.{length, drop}
 use borrow.Author.Tests.{le-leb, lt-leb, leb-true, leb-false}
+use Rattle.model.specs.declared.Reason.{Reason}
+use Rattle.model.specs.declared.Reason.TheVariants.{OverLimit, ShortMemory, UnexpectedToken, WrongSelection}
 use Rattle.model.specs.declared.Code.{Code}
-use Rattle.model.specs.declared.Reading.TheVariants.{Read, Refused as ReadingRefused}
+use Rattle.std.specs.Prelude.{Ok, Err}
 use Rattle.model.specs.declared.Refusal.{Refusal}
 use Rattle.model.specs.Answers.{buffer_unless, listing_answer, quick_answer}
-use Rattle.model.specs.Checks.{refusal}
+use Rattle.model.specs.Checks.{number_of, refusal}
 use Rattle.model.specs.Limits.{max_codes, selection_length}
 use Rattle.model.specs.Section.{size}
 use Rattle.model.specs.TextAnswer.{TextAnswer, codes, error, AnswerOf, too_long, by_tokens, selects, not_allowed, too_large}
 use Rattle.model.specs.Typed.{selection_of, typed_listing, typed_quick, codes_refusal, read_unless, read_answer, read_selection}
+use Rattle.model.proofs.ChecksLaws.{number-injective}
 use Rattle.model.proofs.TypedLaws.{length-selection, selection-over}
 use Rattle.grammar.specs.Grammar.{read_text}
 use Rattle.grammar.proofs.AnswerLaws as grammar
@@ -43,13 +46,13 @@ fails (by_tokens h t (not_allowed n)) = inr (h, (_, t, inl (refl, n)))
 fails (by_tokens h t (too_large n)) = inr (h, (_, t, inr (refl, n)))
 
 module _ {text : List ℕ} (r : Refusal) where
-  numbered : (n : ℕ) → r.number ≡ n → AnswerOf text (error (refusal n r.place)) → AnswerOf text (error r)
-  numbered n e h = rw (← e) at h
+  numbered : (reason : Reason) → number_of r.reason ≡ number_of reason → AnswerOf text (error (refusal reason r.place)) → AnswerOf text (error r)
+  numbered reason e h = rw (← number-injective r.reason reason e) at h
 
   failing : HasError text r → AnswerOf text (error r)
   failing (inl (h, e)) = rw e (too_long h)
-  failing (inr (h, (ts, t, inl (e, n)))) = numbered 10 e (by_tokens h t (not_allowed n))
-  failing (inr (h, (ts, t, inr (e, n)))) = numbered 11 e (by_tokens h t (too_large n))
+  failing (inr (h, (ts, t, inl (e, n)))) = numbered UnexpectedToken e (by_tokens h t (not_allowed n))
+  failing (inr (h, (ts, t, inr (e, n)))) = numbered OverLimit e (by_tokens h t (too_large n))
 
   of_text : HasError text r → OfText r
   of_text (inl (h, e)) = rw e (inr refl)
@@ -116,14 +119,14 @@ module _ (section families text : List ℕ) (work : ℕ) (buffer selection : Lis
   Given m = (cs : List Code) × HasCodes text cs × (length cs ≡ m) × (m ≤ max_codes) × (selection_length ≤ length selection)
 
   abbrev Over : List Code → Refusal → Type 0
-  Over cs r = ((max_codes < length cs) × (r ≡ refusal 3 0)) ⊎ ((length cs ≤ max_codes) × (length selection < selection_length) × (r ≡ refusal 8 0))
+  Over cs r = ((max_codes < length cs) × (r ≡ refusal WrongSelection 0)) ⊎ ((length cs ≤ max_codes) × (length selection < selection_length) × (r ≡ refusal ShortMemory 0))
 
   abbrev Refuses : Refusal → Type 0
   Refuses r = HasError text r ⊎ ((cs : List Code) × HasCodes text cs × Over cs r)
 
-  given : (a : TextAnswer) → AnswerOf text a → (m : ℕ) → read_answer a (length selection) ≡ Read m → Given m
+  given : (a : TextAnswer) → AnswerOf text a → (m : ℕ) → read_answer a (length selection) ≡ Ok m → Given m
   given (codes cs) h m e = at (leb (length cs) max_codes) refl (leb selection_length (length selection)) refl e where
-    at : (x : Bool) → leb (length cs) max_codes ≡ x → (y : Bool) → leb selection_length (length selection) ≡ y → read_answer (codes cs) (length selection) ≡ Read m → Given m
+    at : (x : Bool) → leb (length cs) max_codes ≡ x → (y : Bool) → leb selection_length (length selection) ≡ y → read_answer (codes cs) (length selection) ≡ Ok m → Given m
     at true p true q f =
         let g = rw (p, q) at f in
         let same : length cs ≡ m = cc in
@@ -132,35 +135,35 @@ module _ (section families text : List ℕ) (work : ℕ) (buffer selection : Lis
     at false p y q f = let g = rw p at f in let z : ◌≡◌ {A = ℕ} 0 1 = cc in absurd (omega arith)
   given (error r) h m e = let z : ◌≡◌ {A = ℕ} 0 1 = cc in absurd (omega arith)
 
-  refuses : (a : TextAnswer) → AnswerOf text a → (r : Refusal) → read_answer a (length selection) ≡ ReadingRefused r → Refuses r
+  refuses : (a : TextAnswer) → AnswerOf text a → (r : Refusal) → read_answer a (length selection) ≡ Err r → Refuses r
   refuses (codes cs) h r e = at (leb (length cs) max_codes) refl (leb selection_length (length selection)) refl e where
-    at : (x : Bool) → leb (length cs) max_codes ≡ x → (y : Bool) → leb selection_length (length selection) ≡ y → read_answer (codes cs) (length selection) ≡ ReadingRefused r
+    at : (x : Bool) → leb (length cs) max_codes ≡ x → (y : Bool) → leb selection_length (length selection) ≡ y → read_answer (codes cs) (length selection) ≡ Err r
         → Refuses r
     at true p true q f = let g = rw (p, q) at f in let z : ◌≡◌ {A = ℕ} 0 1 = cc in absurd (omega arith)
     at true p false q f =
         let g = rw (p, q) at f in
-        let same : r ≡ refusal 8 0 = cc in
+        let same : r ≡ refusal ShortMemory 0 = cc in
         inr (cs, derives h, inr (leb-true (length cs) max_codes p, leb-false selection_length (length selection) q, same))
     at false p y q f =
         let g = rw p at f in
-        let same : r ≡ refusal 3 0 = cc in
+        let same : r ≡ refusal WrongSelection 0 = cc in
         inr (cs, derives h, inl (leb-false (length cs) max_codes p, same))
   refuses (error s) h r e = let same : s ≡ r = cc in inl (fails (rw same at h))
 
   few : (cs : List Code) → length cs ≤ max_codes → selection_length ≤ length selection
-      → (read_answer (codes cs) (length selection) ≡ Read (length cs))
+      → (read_answer (codes cs) (length selection) ≡ Ok (length cs))
       × (read_selection (codes cs) selection ≡ selection_of cs ++ drop (length (selection_of cs)) selection)
   few cs h k = (rw (le-leb _ _ h, le-leb _ _ k), rw (le-leb _ _ h, le-leb _ _ k))
 
-  over : (cs : List Code) (r : Refusal) → Over cs r → read_answer (codes cs) (length selection) ≡ ReadingRefused r
-  over cs r (inl (h, e)) = rw (lt-leb _ _ h) (ap ReadingRefused (sym e))
-  over cs r (inr (h, k, e)) = rw (le-leb _ _ h, lt-leb _ _ k) (ap ReadingRefused (sym e))
+  over : (cs : List Code) (r : Refusal) → Over cs r → read_answer (codes cs) (length selection) ≡ Err r
+  over cs r (inl (h, e)) = rw (lt-leb _ _ h) (ap Err (sym e))
+  over cs r (inr (h, k, e)) = rw (le-leb _ _ h, lt-leb _ _ k) (ap Err (sym e))
 
-  unchanged : (a : TextAnswer) (r : Refusal) → read_answer a (length selection) ≡ ReadingRefused r → read_selection a selection ≡ selection
+  unchanged : (a : TextAnswer) (r : Refusal) → read_answer a (length selection) ≡ Err r → read_selection a selection ≡ selection
   unchanged (codes cs) r e = at (codes_refusal cs (length selection)) e where
-    at : (o : Option Refusal) → read_unless o cs ≡ ReadingRefused r → buffer_unless o (selection_of cs) selection ≡ selection
-    at (some q) f = refl
-    at none f = let z : ◌≡◌ {A = ℕ} 0 1 = cc in absurd (omega arith)
+    at : (o : Option Refusal) → read_unless o cs ≡ Err r → buffer_unless o (selection_of cs) selection ≡ selection
+    at (Some q) f = refl
+    at None f = let z : ◌≡◌ {A = ℕ} 0 1 = cc in absurd (omega arith)
   unchanged (error q) r e = refl
 
   calls : (a : TextAnswer) → AnswerOf text a → TypedOf section families text a work buffer selection
@@ -171,7 +174,7 @@ module _ (section families text : List ℕ) (work : ℕ) (buffer selection : Lis
     error_first = λ r k. rw (is r k) (refl, refl, refl, refl, refl);
     listing_error_exactly = λ r. (λ f. listing_error a h r f.0 f.1, λ k. (rw (is r k), of_text r k));
     quick_error_exactly = λ r. (λ f. quick_error a h r f.0 f.1, λ k. (rw (is r k), of_text r k));
-    read_exactly = λ m. (given a h m, λ f. rw (are f.0 f.1) ((few f.0 (omega (arith, f.2, f.3)) f.4).0 ∙ ap Read f.2));
+    read_exactly = λ m. (given a h m, λ f. rw (are f.0 f.1) ((few f.0 (omega (arith, f.2, f.3)) f.4).0 ∙ ap Ok f.2));
     read_refused_exactly = λ r. (refuses a h r, refused r);
     read_holds = λ cs m k e. holds cs m k (given a h m e);
     read_unchanged = unchanged a;
@@ -182,7 +185,7 @@ module _ (section families text : List ℕ) (work : ℕ) (buffer selection : Lis
     is : (r : Refusal) → HasError text r → a ≡ error r
     is r k = grammar.one_answer h (failing r k)
 
-    refused : (r : Refusal) → Refuses r → read_answer a (length selection) ≡ ReadingRefused r
+    refused : (r : Refusal) → Refuses r → read_answer a (length selection) ≡ Err r
     refused r (inl k) = rw (is r k)
     refused r (inr (cs, k, o)) = rw (are cs k) (over cs r o)
 

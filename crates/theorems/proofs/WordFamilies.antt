@@ -9,8 +9,9 @@ use mathlib.Core.Bool.{Bool, true, false, ◌&&◌, cond}
 use mathlib.Core.List.{List, [], ◌∷◌, ◌++◌, map, nil≢cons, head-eq_of_cons-eq, tail-eq_of_cons-eq, Sublistᴰ}
 use mathlib.Core.Logic.Iff
 use mathlib.Core.Logic.{◌↔◌, ◌⊎◌, inl, inr, ⊎_elim}
-use mathlib.Core.Option
-use mathlib.Core.Option.{Option, some, none, none-ne-some}
+use Rattle.std.specs.Prelude.{Option, Some, None, option_map}
+use Rattle.model.specs.declared.Reason.TheVariants.{LongList}
+use Rattle.model.proofs.OptionLaws.{none-ne-some}
 use lib.Dec.{leb, eqb}
 use lib.ListN.{length, get_or}
 use borrow.Author.Tests.{leb-true, le-leb, leb-false, eqb-true, eq-eqb, eqb-false}
@@ -120,14 +121,14 @@ module _ (families : List ℕ) where
           at q true e = absurd (f.3 (i - 1) (omega (arith, q)) (omega (arith, q)) (f.2.0, f.2.1, q, leb-true _ _ e))
           at q false e = omega (arith, leb-false (first_at families (i - 1)) (first_at families f.2.0) e, f.2.3)
 
-  entry_exactly : (i : ℕ) → (entry_out_of_order families ≡ some i) ↔ FirstWith (OutOfOrder families) (from_to 1 (size families)) i
+  entry_exactly : (i : ℕ) → (entry_out_of_order families ≡ Some i) ↔ FirstWith (OutOfOrder families) (from_to 1 (size families)) i
   unfolding entry_out_of_order
   entry_exactly i =
       let range = range-first (OutOfOrder families) 1 (size families) i (omega arith) in
       Iff.trans (first_exactly (out_of_order families) NotAbove (λ j. (leb-true _ _, le-leb _ _)) (from_to 2 (size families)) i)
       (Iff.trans (range-first NotAbove 2 (size families) i (omega arith)) (Iff.trans (first_out i) (range.1, range.0)))
 
-  place_zero_exactly : (place : ℕ) → (wrong_families families ≡ some place) ↔ ((place ≡ 0) × ((max_entries < size families) ⊎ (¬ (length families ≡ 1 + 2 * size families))))
+  place_zero_exactly : (place : ℕ) → (wrong_families families ≡ Some place) ↔ ((place ≡ 0) × ((max_entries < size families) ⊎ (¬ (length families ≡ 1 + 2 * size families))))
   unfolding wrong_families well_sized
   place_zero_exactly place = rw (le-leb 0 (size families) (omega arith)) (at (leb (size families) max_entries) refl (eqb (length families) (1 + 2 * size families)) refl)
     where
@@ -135,15 +136,15 @@ module _ (families : List ℕ) where
       Wrong = (max_entries < size families) ⊎ (¬ (length families ≡ 1 + 2 * size families))
 
       at : (a : Bool) → leb (size families) max_entries ≡ a → (b : Bool) → eqb (length families) (1 + 2 * size families) ≡ b
-          → (cond (true && a && b) none (some 0) ≡ some place) ↔ ((place ≡ 0) × Wrong)
+          → (cond (true && a && b) None (Some 0) ≡ Some place) ↔ ((place ≡ 0) × Wrong)
       at true h true k = (λ e. absurd (none-ne-some place e), λ w. ⊎_elim (λ l. absurd (omega (arith, l, leb-true (size families) max_entries h))) (λ n. absurd (n (eqb-true _ _ k))) w.1)
-      at true h false k = (λ e. let same : 0 ≡ place = cc in (sym same, inr (eqb-false _ _ k)), λ w. ap some (sym w.0))
-      at false h b k = (λ e. let same : 0 ≡ place = cc in (sym same, inl (leb-false _ _ h)), λ w. ap some (sym w.0))
+      at true h false k = (λ e. let same : 0 ≡ place = cc in (sym same, inr (eqb-false _ _ k)), λ w. ap Some (sym w.0))
+      at false h b k = (λ e. let same : 0 ≡ place = cc in (sym same, inl (leb-false _ _ h)), λ w. ap Some (sym w.0))
 
 -- ---- what fits
 
 module _ (families : List ℕ) where
-  entry_has : (word i : ℕ) → entry_of families word ≡ some i → EntryHas families i word
+  entry_has : (word i : ℕ) → entry_of families word ≡ Some i → EntryHas families i word
   entry_has word i e = let f = entry_some families word i e in record { from_one = f.0; up_to = f.1; is_word = f.2 }
 
   module _ (rising : RisingStrictly (first_at families) (size families)) (token word : ℕ) where
@@ -152,11 +153,11 @@ module _ (families : List ℕ) where
     same_exactly = (there (entry_of families token) refl (entry_of families word) refl, back)
       where
         there : (o : Option ℕ) → entry_of families token ≡ o → (q : Option ℕ) → entry_of families word ≡ q
-            → same_family (Option.map (second_at families) o) (Option.map (second_at families) q) ≡ true → SameFamilyInTable families token word
-        there (some i) h (some j) k e =
+            → same_family (option_map (second_at families) o) (option_map (second_at families) q) ≡ true → SameFamilyInTable families token word
+        there (Some i) h (Some j) k e =
             record { token_entry = i; word_entry = j; token_in = entry_has token i h; word_in = entry_has word j k; same_family = eqb-true _ _ e }
-        there (some i) h none k e = false-true e
-        there none h q k e = false-true e
+        there (Some i) h None k e = false-true e
+        there None h q k e = false-true e
 
         back : SameFamilyInTable families token word → same_family (family_of families token) (family_of families word) ≡ true
         back w =
@@ -272,7 +273,7 @@ more_finds section families rank words =
 
 -- ---- the empty table
 
-empty_passes : families_refusal empty_table ≡ none
+empty_passes : families_refusal empty_table ≡ None
 unfolding families_refusal tried wrong_families well_sized entry_out_of_order first from_to up_from
 empty_passes = refl
 
@@ -284,8 +285,8 @@ module _ (section selection : List ℕ) where
   refusal-before : (work buffer : ℕ) → listing_refusal section empty_table selection work buffer ≡ listing_refusal_before section selection work buffer
   unfolding listing_refusal listing_checks
   refusal-before work buffer =
-      ap (λ (o : Option Refusal). otherwise (otherwise o (room_refusal (leb work_length work && leb buffer_length buffer))) (Option.map (refusal 9) (first_too_long (searched_of section empty_table) (parts (tree_of selection))))) input_before
-      ∙ ap (λ (s : Searched). otherwise (checks_before section selection (leb work_length work && leb buffer_length buffer)) (Option.map (refusal 9) (first_too_long s (parts (tree_of selection))))) (searched_empty section)
+      ap (λ (o : Option Refusal). otherwise (otherwise o (room_refusal (leb work_length work && leb buffer_length buffer))) (option_map (refusal LongList) (first_too_long (searched_of section empty_table) (parts (tree_of selection))))) input_before
+      ∙ ap (λ (s : Searched). otherwise (checks_before section selection (leb work_length work && leb buffer_length buffer)) (option_map (refusal LongList) (first_too_long s (parts (tree_of selection))))) (searched_empty section)
 
   with_empty_table : (work : ℕ) (buffer : List ℕ) → EmptyTableOf section selection work buffer
   unfolding listing_answer listing_buffer quick_answer quick_checks

@@ -8,8 +8,8 @@ use mathlib.Core.Bool.{Bool, true, false, ◌||◌, cond, false≢true, or-true}
 use mathlib.Core.List.{List, [], ◌∷◌, ◌++◌, map, flat_map, map-append, append_assoc, cons≢nil}
 use mathlib.Core.Logic.Iff
 use mathlib.Core.Logic.{◌↔◌, ◌⊎◌, inl, inr, ⊎_elim}
-use mathlib.Core.Option
-use mathlib.Core.Option.{some, none-ne-some, map-eq-some_iff}
+use Rattle.std.specs.Prelude.{Some, option_map}
+use Rattle.model.proofs.OptionLaws.{map-eq-some_iff, none-ne-some}
 use lib.Dec.{ltb}
 use lib.ListN.{length}
 use borrow.Author.Tests.{ltb-true, lt-ltb}
@@ -109,12 +109,12 @@ first-has P xs x f = record { before = f.before; element = x; after = f.after; o
 module _ {A : Type 0} (p : A → Bool) (P : A → Type 0) (test : (x : A) → (p x ≡ true) ↔ P x) where
   -- ---- FirstWith
 
-  first_found : (xs : List A) (x : A) → first p xs ≡ some x → FirstWith P xs x
+  first_found : (xs : List A) (x : A) → first p xs ≡ Some x → FirstWith P xs x
   unfolding first Every
   first_found [] x e = absurd (none-ne-some x e)
   first_found (y ∷ xs) x e = at (p y) refl e (first_found xs x)
     where
-      at : (b : Bool) → p y ≡ b → cond b (some y) (first p xs) ≡ some x → (first p xs ≡ some x → FirstWith P xs x) → FirstWith P (y ∷ xs) x
+      at : (b : Bool) → p y ≡ b → cond b (Some y) (first p xs) ≡ Some x → (first p xs ≡ Some x → FirstWith P xs x) → FirstWith P (y ∷ xs) x
       at true h e' later =
           let same : y ≡ x = cc in
           record { before = []; after = xs; order = ap (λ z. z ∷ xs) same; none_before = tt; this = (test x).0 cc }
@@ -122,26 +122,26 @@ module _ {A : Type 0} (p : A → Bool) (P : A → Type 0) (test : (x : A) → (p
           let f = later e' in
           record { before = y ∷ f.before; after = f.after; order = ap (λ zs. y ∷ zs) f.order; none_before = (λ q. false-true (sym h ∙ (test y).1 q), f.none_before); this = f.this }
 
-  first_is : (before after : List A) (x : A) → Every (λ y. ¬ P y) before → P x → first p (before ++ x ∷ after) ≡ some x
+  first_is : (before after : List A) (x : A) → Every (λ y. ¬ P y) before → P x → first p (before ++ x ∷ after) ≡ Some x
   unfolding first Every
   first_is [] after x n h = let e = (test x).1 h in rw e
   first_is (y ∷ before) after x n h = at (p y) refl (first_is before after x n.1 h)
     where
-      at : (b : Bool) → p y ≡ b → first p (before ++ x ∷ after) ≡ some x → cond b (some y) (first p (before ++ x ∷ after)) ≡ some x
+      at : (b : Bool) → p y ≡ b → first p (before ++ x ∷ after) ≡ Some x → cond b (Some y) (first p (before ++ x ∷ after)) ≡ Some x
       at true e later = absurd (n.0 ((test y).0 e))
       at false e later = later
 
-  pub first_exactly : (xs : List A) (x : A) → (first p xs ≡ some x) ↔ FirstWith P xs x
+  pub first_exactly : (xs : List A) (x : A) → (first p xs ≡ Some x) ↔ FirstWith P xs x
   first_exactly xs x = (first_found xs x, λ f. ap (first p) f.order ∙ first_is f.before f.after x f.none_before f.this)
 
   -- ---- Has
 
-  any_first : (xs : List A) → any_of p xs ≡ true → (x : A) × (first p xs ≡ some x)
+  any_first : (xs : List A) → any_of p xs ≡ true → (x : A) × (first p xs ≡ Some x)
   unfolding first any_of
   any_first [] e = false-true e
   any_first (x ∷ xs) e = at (p x) e (any_first xs)
     where
-      at : (b : Bool) → (b || any_of p xs) ≡ true → (any_of p xs ≡ true → (y : A) × (first p xs ≡ some y)) → (y : A) × (cond b (some x) (first p xs) ≡ some y)
+      at : (b : Bool) → (b || any_of p xs) ≡ true → (any_of p xs ≡ true → (y : A) × (first p xs ≡ Some y)) → (y : A) × (cond b (Some x) (first p xs) ≡ Some y)
       at true h later = (x, refl)
       at false h later = later h
 
@@ -155,7 +155,7 @@ module _ {A : Type 0} (p : A → Bool) (P : A → Type 0) (test : (x : A) → (p
   any_exactly xs = (λ e. let f = any_first xs e in first-has P xs f.0 ((first_exactly xs f.0).0 f.1), has_any xs)
 
   -- where some element has P, there is a first
-  pub has_first : (xs : List A) → Has P xs → (x : A) × (first p xs ≡ some x)
+  pub has_first : (xs : List A) → Has P xs → (x : A) × (first p xs ≡ Some x)
   has_first xs h = any_first xs (has_any xs h)
 
   -- so it is told by the first that has it
@@ -193,24 +193,24 @@ module _ (section families : List ℕ) where
 
   -- the place of the first code whose list is too long
   pub too_long_exactly : (codes : List Tree) (place : ℕ)
-      → (first_too_long (searched_of section families) codes ≡ some place) ↔ ((code : Tree) × FirstWith (PastLimits section families) codes code × (place_of code ≡ place))
+      → (first_too_long (searched_of section families) codes ≡ Some place) ↔ ((code : Tree) × FirstWith (PastLimits section families) codes code × (place_of code ≡ place))
   unfolding first_too_long
   too_long_exactly codes place = Iff.trans (map-eq-some_iff place_of (first (is_too_long (searched_of section families)) codes)) (there, back)
     where
-      there : ((t : Tree) × (first (is_too_long (searched_of section families)) codes ≡ some t) × (place_of t ≡ place)) → (code : Tree) × FirstWith (PastLimits section families) codes code × (place_of code ≡ place)
+      there : ((t : Tree) × (first (is_too_long (searched_of section families)) codes ≡ Some t) × (place_of t ≡ place)) → (code : Tree) × FirstWith (PastLimits section families) codes code × (place_of code ≡ place)
       there w = (w.0, (first_exactly (is_too_long (searched_of section families)) (PastLimits section families) past_limits codes w.0).0 w.1, w.2)
 
-      back : ((code : Tree) × FirstWith (PastLimits section families) codes code × (place_of code ≡ place)) → (t : Tree) × (first (is_too_long (searched_of section families)) codes ≡ some t) × (place_of t ≡ place)
+      back : ((code : Tree) × FirstWith (PastLimits section families) codes code × (place_of code ≡ place)) → (t : Tree) × (first (is_too_long (searched_of section families)) codes ≡ Some t) × (place_of t ≡ place)
       back w = (w.0, (first_exactly (is_too_long (searched_of section families)) (PastLimits section families) past_limits codes w.0).1 w.1, w.2)
 
-  pub too_long_exists : (codes : List Tree) → ((place : ℕ) × (first_too_long (searched_of section families) codes ≡ some place)) ↔ Has (PastLimits section families) codes
+  pub too_long_exists : (codes : List Tree) → ((place : ℕ) × (first_too_long (searched_of section families) codes ≡ Some place)) ↔ Has (PastLimits section families) codes
   unfolding first_too_long
   too_long_exists codes = (there, back)
     where
-      there : ((place : ℕ) × (first_too_long (searched_of section families) codes ≡ some place)) → Has (PastLimits section families) codes
+      there : ((place : ℕ) × (first_too_long (searched_of section families) codes ≡ Some place)) → Has (PastLimits section families) codes
       there w = let f = (too_long_exactly codes w.0).0 w.1 in first-has (PastLimits section families) codes f.0 f.1
 
-      back : Has (PastLimits section families) codes → (place : ℕ) × (first_too_long (searched_of section families) codes ≡ some place)
+      back : Has (PastLimits section families) codes → (place : ℕ) × (first_too_long (searched_of section families) codes ≡ Some place)
       back h =
           let f = has_first (is_too_long (searched_of section families)) (PastLimits section families) past_limits codes h in
-          (place_of f.0, ap (Option.map place_of) f.1)
+          (place_of f.0, ap (option_map place_of) f.1)

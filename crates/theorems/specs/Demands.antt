@@ -7,17 +7,20 @@
 -- Quotation marks enclose the demands' own words, or document 01's or 02's where it is named. `A ↔ B` is 'A exactly when B', `(x : A) × B` 'there is an x
 -- with B', `⊎` 'or', `¬` 'not'.
 use Rattle.std.specs.Prelude.{ℕ, ◌≤◌, ◌<◌, Bool, true, false, ◌&&◌, cond, List, [], ◌∷◌, ◌++◌, ◌↔◌, ◌⊎◌, ◌≡◌, leb, length, drop}
-use Rattle.std.proofs.Math.Option.{Option, some, none}
-use Rattle.model.specs.declared.Listing.{Listing}
-use Rattle.model.specs.declared.Listing.TheVariants.{Listed, Refused as ListingRefused}
-use Rattle.model.specs.declared.Quick.{Quick}
-use Rattle.model.specs.declared.Quick.TheVariants.{Answered, Refused as QuickRefused}
+use Rattle.std.specs.Prelude.{Option, Some, None}
+use Rattle.model.specs.declared.Reason.TheVariants.{WrongSection, FaultyPosition, WrongSelection, UnknownKind, WrongOperand, WrongShape, NotUnderMildNot, ShortMemory, LongList, NotOverPhrase, WrongFamilies}
+use Rattle.model.specs.declared.Reason.{Reason}
+use Rattle.model.specs.Answers.{Listing}
+use Rattle.std.specs.Prelude.{Err}
+use Rattle.model.specs.Answers.{listed_as}
+use Rattle.model.specs.Walk.{answered}
+use Rattle.model.specs.Walk.{Quick}
 use Rattle.model.specs.declared.Refusal.{Refusal}
 use Rattle.model.specs.Accepted.{NonzeroNeverFall, ReportedOrNot, RisingStrictly}
 use Rattle.model.specs.AllMatches.{all_matches}
 use Rattle.model.specs.AllStrings.{AllList}
 use Rattle.model.specs.Answers.{complete_list, listing_answer, listing_numbers, listing_buffer, quick_answer, snippet_of}
-use Rattle.model.specs.Checks.{refusal, wrong_section, faulty_position, wrong_families, entry_out_of_order}
+use Rattle.model.specs.Checks.{number_of, refusal, wrong_section, faulty_position, wrong_families, entry_out_of_order}
 use Rattle.model.specs.Checks.{wrong_selection, unknown_kind, wrong_operand, wrong_shape, not_over_phrase, not_under_mild_not}
 use Rattle.model.specs.Families.{searched_of}
 use Rattle.model.specs.Limits.{max_matches, max_strings, work_length, buffer_length, radix}
@@ -48,49 +51,49 @@ pub record FirstWith {A : Type 0} (P : A → Type 0) (xs : List A) (x : A) : Typ
 
 -- An answer is given, or refuses by number and place. Document 01: "The listing or the quick answer is given where its call doesn't refuse."
 abbrev pub ListingGiven : Listing → Type 0
-ListingGiven answer = (m : ℕ) × (s : ℕ) × (y : Bool) × (answer ≡ Listed m s y)
+ListingGiven answer = (m : ℕ) × (s : ℕ) × (y : Bool) × (answer ≡ listed_as m s y)
 
 abbrev pub ListingRefuses : Listing → Refusal → Type 0
-ListingRefuses answer r = answer ≡ ListingRefused r
+ListingRefuses answer r = answer ≡ Err r
 
 abbrev pub QuickSays : Quick → Bool → Type 0
-QuickSays answer y = (codes : ℕ) × (answer ≡ Answered y codes)
+QuickSays answer y = (codes : ℕ) × (answer ≡ answered y codes)
 
 abbrev pub QuickGiven : Quick → Type 0
 QuickGiven answer = (y : Bool) × QuickSays answer y
 
 abbrev pub QuickRefuses : Quick → Refusal → Type 0
-QuickRefuses answer r = answer ≡ QuickRefused r
+QuickRefuses answer r = answer ≡ Err r
 
 abbrev pub RefusesForSize : Quick → ℕ → Type 0
-RefusesForSize answer place = QuickRefuses answer (refusal 9 place)
+RefusesForSize answer place = QuickRefuses answer (refusal LongList place)
 
--- Document 01's table of refusals with document 02's F-3, F-5 and F-6, for some input: each row has a number, and the place where it falls, if it does.
+-- Document 01's table of refusals with document 02's F-3, F-5 and F-6, for some input: each row has a reason, which stands for its number, and the place where it falls, if it does.
 -- model/specs/Checks.antt has the table's words beside each.
 pub record Row : Type 0 where
-  pub number : ℕ
+  pub reason : Reason
   pub falls : Option ℕ
 
-abbrev pub row : ℕ → Option ℕ → Row
-row number falls = record { number = number; falls = falls }
+abbrev pub row : Reason → Option ℕ → Row
+row reason falls = record { reason = reason; falls = falls }
 
 abbrev pub input_rows : List ℕ → List ℕ → List ℕ → List Row
 input_rows section families selection =
-    row 1 (wrong_section section)
-    ∷ row 2 (faulty_position section)
-    ∷ row 13 (wrong_families families)
-    ∷ row 13 (entry_out_of_order families)
-    ∷ row 3 (wrong_selection selection)
-    ∷ row 4 (unknown_kind selection)
-    ∷ row 5 (wrong_operand selection)
-    ∷ row 6 (wrong_shape selection)
-    ∷ row 12 (not_over_phrase selection)
-    ∷ row 7 (not_under_mild_not selection)
+    row WrongSection (wrong_section section)
+    ∷ row FaultyPosition (faulty_position section)
+    ∷ row WrongFamilies (wrong_families families)
+    ∷ row WrongFamilies (entry_out_of_order families)
+    ∷ row WrongSelection (wrong_selection selection)
+    ∷ row UnknownKind (unknown_kind selection)
+    ∷ row WrongOperand (wrong_operand selection)
+    ∷ row WrongShape (wrong_shape selection)
+    ∷ row NotOverPhrase (not_over_phrase selection)
+    ∷ row NotUnderMildNot (not_under_mild_not selection)
     ∷ []
 
 -- Document 01: "8, place 0", "a lent buffer too short"; 9, "the first such code built", of the codes that are built
 abbrev pub list_rows : Bool → List ℕ → List ℕ → List Tree → List Row
-list_rows enough section families built = row 8 (cond enough none (some 0)) ∷ row 9 (first_too_long (searched_of section families) built) ∷ []
+list_rows enough section families built = row ShortMemory (cond enough None (Some 0)) ∷ row LongList (first_too_long (searched_of section families) built) ∷ []
 
 -- The listing builds every code but kind 0, the quick answer those that its walk builds.
 abbrev pub listing_table : List ℕ → List ℕ → List ℕ → ℕ → ℕ → List Row
@@ -103,13 +106,13 @@ quick_table section families selection work =
 
 -- none of a table falls; r is the first that does
 abbrev pub Falls : Row → Type 0
-Falls w = (place : ℕ) × (w.falls ≡ some place)
+Falls w = (place : ℕ) × (w.falls ≡ Some place)
 
 abbrev pub NoneFalls : List Row → Type 0
 NoneFalls table = Every (λ w. ¬ Falls w) table
 
 abbrev pub FirstToFall : List Row → Refusal → Type 0
-FirstToFall table r = FirstWith Falls table (row r.number (some r.place))
+FirstToFall table r = FirstWith Falls table (row r.reason (Some r.place))
 
 -- Document 01: "Section and selection pass the checks where no refusal other than 8 falls on them before any list is built. Working memory is enough
 -- from 12,800 u32." F-6: the family table passes them too where it is "without a fault".
@@ -136,7 +139,7 @@ complete_numbers section families selection = listing_numbers (complete_list sec
 
 -- one of document 01's numbers, or F-3's or F-6's
 abbrev pub Numbered : Refusal → Type 0
-Numbered r = ((1 ≤ r.number) × (r.number ≤ 9)) ⊎ (r.number ≡ 12) ⊎ (r.number ≡ 13)
+Numbered r = ((1 ≤ number_of r.reason) × (number_of r.reason ≤ 9)) ⊎ (number_of r.reason ≡ 12) ⊎ (number_of r.reason ≡ 13)
 
 -- ---- demand 1, for a section, a family table, a selection, working memory's length, the listing buffer, and a snippet's bounds
 
@@ -168,13 +171,13 @@ pub record Demand2Of (section families selection : List ℕ) (work : ℕ) (buffe
       ↔ NoneFalls (listing_table section families selection work (length buffer))
   -- What refusal 2 asks of a section stands in these words too. F-5, of sentences: "Sentence zero may now stand among numbered ones, in any place; the
   -- nonzero ones still never fall." Document 01, of paragraphs: "all zero (not reported) or all nonzero and never falling".
-  pub units_exactly : (faulty_position section ≡ none)
+  pub units_exactly : (faulty_position section ≡ None)
       ↔ (NonzeroNeverFall (sentence_at section) (size section) × ReportedOrNot (paragraph_at section) (size section))
   -- And what refusal 13 asks of the words of a family table, by F-6: "word numbers rising strictly".
-  pub words_exactly : (entry_out_of_order families ≡ none) ↔ RisingStrictly (first_at families) (size families)
+  pub words_exactly : (entry_out_of_order families ≡ None) ↔ RisingStrictly (first_at families) (size families)
   -- "is the AllMatches of that standard, as document 01 sets it down: the same matches, in the same order, with every include and exclude."
   -- M and S are the complete list's; the buffer holds its numbers, which are no other list's, and is otherwise unchanged.
-  pub counts_complete : (m s : ℕ) (y : Bool) → listing_answer section families selection work (length buffer) ≡ Listed m s y
+  pub counts_complete : (m s : ℕ) (y : Bool) → listing_answer section families selection work (length buffer) ≡ listed_as m s y
       → (m ≡ length (complete_list section families selection)) × (s ≡ strings (complete_list section families selection))
   pub holds_complete : ListingGiven (listing_answer section families selection work (length buffer))
       → (length (complete_numbers section families selection) ≤ length buffer)
@@ -185,7 +188,7 @@ pub record Demand2Of (section families selection : List ℕ) (work : ℕ) (buffe
       × ((ms : List Match) (rest : List ℕ) → EndsBelowRadix ms → listing_buffer section families selection work buffer ≡ listing_numbers ms ++ rest
       → ms ≡ complete_list section families selection)
   -- "It says yes exactly when a match has no exclude."
-  pub yes_exactly : (m s : ℕ) (y : Bool) → listing_answer section families selection work (length buffer) ≡ Listed m s y
+  pub yes_exactly : (m s : ℕ) (y : Bool) → listing_answer section families selection work (length buffer) ≡ listed_as m s y
       → (y ≡ true) ↔ Has WithoutExcludes (complete_list section families selection)
 
 abbrev pub Demand2 : Type 0
@@ -206,7 +209,7 @@ pub record Demand3Of (section families selection : List ℕ) (work : ℕ) : Type
       ↔ ((code : Tree) × FirstWith (PastLimits section families) (walk_builds (searched_of section families) (tree_of selection)) code × (place_of code ≡ place))
   -- It refuses for nothing else there; and everywhere exactly where document 01's table does.
   pub size_only : PassChecks section families selection → Enough work
-      → (r : Refusal) → QuickRefuses (quick_answer section families selection work) r → r.number ≡ 9
+      → (r : Refusal) → QuickRefuses (quick_answer section families selection work) r → number_of r.reason ≡ 9
   pub refused_exactly : (r : Refusal)
       → QuickRefuses (quick_answer section families selection work) r ↔ FirstToFall (quick_table section families selection work) r
   pub given_exactly : QuickGiven (quick_answer section families selection work) ↔ NoneFalls (quick_table section families selection work)
@@ -218,13 +221,13 @@ pub record Demand3Of (section families selection : List ℕ) (work : ℕ) : Type
       → QuickSays (quick_answer section families selection work) false ↔ (¬ Has WithoutExcludes (complete_list section families selection))
   -- "Where the listing is given for the same section and selection, the quick answer is given too, and both say yes or both say no."
   -- The listing has working memory of its own length, and the same family table.
-  pub agrees_with_listing : Enough work → (lent buffer m s : ℕ) (y : Bool) → listing_answer section families selection lent buffer ≡ Listed m s y
+  pub agrees_with_listing : Enough work → (lent buffer m s : ℕ) (y : Bool) → listing_answer section families selection lent buffer ≡ listed_as m s y
       → QuickSays (quick_answer section families selection work) y
   -- "With each yes or no it reports a count of codes: the walk's, and at most the selection's own."
-  pub counts_walk : (y : Bool) (codes : ℕ) → quick_answer section families selection work ≡ Answered y codes
-      → (walk (searched_of section families) (tree_of selection) ≡ Answered y codes)
+  pub counts_walk : (y : Bool) (codes : ℕ) → quick_answer section families selection work ≡ answered y codes
+      → (walk (searched_of section families) (tree_of selection) ≡ answered y codes)
       × (codes ≡ length (walk_reaches (searched_of section families) (tree_of selection)))
-  pub counts_at_most_own : (y : Bool) (codes : ℕ) → quick_answer section families selection work ≡ Answered y codes → codes ≤ own_count selection
+  pub counts_at_most_own : (y : Bool) (codes : ℕ) → quick_answer section families selection work ≡ answered y codes → codes ≤ own_count selection
 
 abbrev pub Demand3 : Type 0
 Demand3 = (section families selection : List ℕ) (work : ℕ) → Demand3Of section families selection work

@@ -4,16 +4,16 @@
 -- Quotation marks enclose document 02's words, or document 01's where it is named. The words are those of Demands.antt.
 use Rattle.std.specs.Prelude.{ℕ, suc, ◌+◌, ◌*◌, ◌-◌, ◌/◌, ◌%◌, ◌^◌, ◌≤◌, ◌<◌, Bool, true, not, ◌&&◌, ◌||◌, ◌↔◌, ◌⊎◌, ◌≡◌, leb, length, drop, get_or}
 use mathlib.Core.List.{List, [], ◌∷◌, ◌++◌, map, Sublistᴰ}
-use Rattle.std.proofs.Math.Option
-use Rattle.std.proofs.Math.Option.{Option, some, none}
+use Rattle.std.specs.Prelude.{Option, Some, None, option_map}
+use Rattle.model.specs.declared.Reason.TheVariants.{LongList, OverLimit, ShortMemory, WrongSelection}
 use Rattle.model.specs.declared.Code.{Code}
 use Rattle.model.specs.declared.Filter.{Filter}
 use Rattle.model.specs.declared.Filter.TheVariants.{SameSentence, DifferentSentence}
-use Rattle.model.specs.declared.Listing.{Listing}
+use Rattle.model.specs.Answers.{Listing}
 use Rattle.model.specs.declared.Pair.TheVariants.{Or, And, MildNot}
-use Rattle.model.specs.declared.Quick.{Quick}
-use Rattle.model.specs.declared.Quick.TheVariants.{Answered}
-use Rattle.model.specs.declared.Reading.TheVariants.{Read, Refused as ReadingRefused}
+use Rattle.model.specs.Walk.{Quick}
+use Rattle.std.specs.Prelude.{Ok, Err}
+use Rattle.model.specs.Walk.{answered}
 use Rattle.model.specs.declared.Refusal.{Refusal}
 use Rattle.model.specs.declared.Times.{Times}
 use Rattle.model.specs.declared.Times.TheVariants.{FromTo, AtLeast}
@@ -21,7 +21,7 @@ use Rattle.model.specs.Accepted.{LastNonzeroBefore, NotReported, RisingStrictly}
 use Rattle.model.specs.AllMatches.{filter_match, filter_list, all_matches}
 use Rattle.model.specs.AllStrings.{AllList}
 use Rattle.model.specs.Answers.{answer_unless, listing_answer, span_of, listing_numbers, buffer_unless, listing_buffer, walk_unless, quick_answer}
-use Rattle.model.specs.Checks.{refusal, otherwise, breaks_order, faulty_position, wrong_families, entry_out_of_order, wrong_selection}
+use Rattle.model.specs.Checks.{number_of, refusal, otherwise, breaks_order, faulty_position, wrong_families, entry_out_of_order, wrong_selection}
 use Rattle.model.specs.Checks.{section_refusal, selection_refusal, room_refusal}
 use Rattle.model.specs.Families.{empty_table, word_fits, Searched, searched_of, equal_words}
 use Rattle.model.specs.Kinds.{negated, filtered, occurring}
@@ -53,10 +53,10 @@ HasCodes text cs = (length text ≤ max_text) × Derives text cs
 -- first of all, for too long a text"
 abbrev pub FailsAt : List ℕ → Refusal → Type 0
 FailsAt text r = (ts : List Token) × Tokens 1 text ts
-    × (((r.number ≡ 10) × NotAllowed ts (suc (length text)) r.place) ⊎ ((r.number ≡ 11) × TooLarge ts (suc (length text)) r.place))
+    × (((number_of r.reason ≡ 10) × NotAllowed ts (suc (length text)) r.place) ⊎ ((number_of r.reason ≡ 11) × TooLarge ts (suc (length text)) r.place))
 
 abbrev pub HasError : List ℕ → Refusal → Type 0
-HasError text r = ((max_text < length text) × (r ≡ refusal 11 0)) ⊎ ((length text ≤ max_text) × FailsAt text r)
+HasError text r = ((max_text < length text) × (r ≡ refusal OverLimit 0)) ⊎ ((length text ≤ max_text) × FailsAt text r)
 
 -- for a text: it has exactly one answer, codes or an error as the productions say
 pub record TextOf (text : List ℕ) : Type 0 where
@@ -70,7 +70,7 @@ pub record TextOf (text : List ℕ) : Type 0 where
 
 -- a text's error by its number
 abbrev pub OfText : Refusal → Type 0
-OfText r = (r.number ≡ 10) ⊎ (r.number ≡ 11)
+OfText r = (number_of r.reason ≡ 10) ⊎ (number_of r.reason ≡ 11)
 
 -- for a section, a family table, a text and its answer, working memory's length, the listing buffer and a lent selection: what the typed calls answer
 pub record TypedOf (section families text : List ℕ) (a : TextAnswer) (work : ℕ) (buffer selection : List ℕ) : Type 0 where
@@ -80,29 +80,29 @@ pub record TypedOf (section families text : List ℕ) (a : TextAnswer) (work : �
       × (typed_buffer section families a work buffer ≡ listing_buffer section families (selection_of cs) work buffer)
   pub quick_of_codes : (cs : List Code) → HasCodes text cs → typed_quick section families a work ≡ quick_answer section families (selection_of cs) work
   -- "over 64 codes is refusal 3": so of a typed call, after 1, 2 and 13.
-  pub over_64 : (cs : List Code) → max_codes < length cs → wrong_selection (selection_of cs) ≡ some 0
+  pub over_64 : (cs : List Code) → max_codes < length cs → wrong_selection (selection_of cs) ≡ Some 0
   -- The text's errors come "all before document 01's refusals": whatever section, table and memory are, and nothing is written.
   pub error_first : (r : Refusal) → HasError text r
       → ListingRefuses (typed_listing section families a work (length buffer)) r
       × (typed_buffer section families a work buffer ≡ buffer)
       × QuickRefuses (typed_quick section families a work) r
-      × (read_answer a (length selection) ≡ ReadingRefused r)
+      × (read_answer a (length selection) ≡ Err r)
       × (read_selection a selection ≡ selection)
   -- Refusals 10 and 11 are the text's errors, the others those of its codes.
   pub listing_error_exactly : (r : Refusal) → (ListingRefuses (typed_listing section families a work (length buffer)) r × OfText r) ↔ HasError text r
   pub quick_error_exactly : (r : Refusal) → (QuickRefuses (typed_quick section families a work) r × OfText r) ↔ HasError text r
   -- The reader alone reads the grammar and nothing else. It gives the codes of a text exactly where they are at most 64 and 129 numbers are lent,
-  pub read_exactly : (m : ℕ) → (read_answer a (length selection) ≡ Read m)
+  pub read_exactly : (m : ℕ) → (read_answer a (length selection) ≡ Ok m)
       ↔ ((cs : List Code) × HasCodes text cs × (length cs ≡ m) × (m ≤ max_codes) × (selection_length ≤ length selection))
   -- and refuses exactly by the text's error, then 3 for over 64 codes, then 8.
-  pub read_refused_exactly : (r : Refusal) → (read_answer a (length selection) ≡ ReadingRefused r)
+  pub read_refused_exactly : (r : Refusal) → (read_answer a (length selection) ≡ Err r)
       ↔ (HasError text r
       ⊎ ((cs : List Code) × HasCodes text cs
-      × (((max_codes < length cs) × (r ≡ refusal 3 0)) ⊎ ((length cs ≤ max_codes) × (length selection < selection_length) × (r ≡ refusal 8 0)))))
+      × (((max_codes < length cs) × (r ≡ refusal WrongSelection 0)) ⊎ ((length cs ≤ max_codes) × (length selection < selection_length) × (r ≡ refusal ShortMemory 0)))))
   -- The selection then holds the codes, and the rest of it is unchanged; all of it by a refusal.
-  pub read_holds : (cs : List Code) (m : ℕ) → HasCodes text cs → read_answer a (length selection) ≡ Read m
+  pub read_holds : (cs : List Code) (m : ℕ) → HasCodes text cs → read_answer a (length selection) ≡ Ok m
       → (length (selection_of cs) ≤ length selection) × (read_selection a selection ≡ selection_of cs ++ drop (length (selection_of cs)) selection)
-  pub read_unchanged : (r : Refusal) → read_answer a (length selection) ≡ ReadingRefused r → read_selection a selection ≡ selection
+  pub read_unchanged : (r : Refusal) → read_answer a (length selection) ≡ Err r → read_selection a selection ≡ selection
 
 pub record TypedSearches : Type 0 where
   pub texts : (text : List ℕ) → TextOf text
@@ -172,7 +172,7 @@ OccursChosen = (s : Searched) (rank : ℕ) (words : List ℕ) → OccursOf s ran
 
 -- document 01's walk, with its answer where it reaches a filter left open: of the filter, its place and its operand
 unfoldable pub walk_with : (Filter → ℕ → Tree → Quick) → Searched → Tree → Quick
-walk_with at-filter s (phrase c rank ws) = Answered (not (is_empty (phrase_list s rank ws))) 1
+walk_with at-filter s (phrase c rank ws) = answered (not (is_empty (phrase_list s rank ws))) 1
 walk_with at-filter s (change negated c t) = turned (walk_with at-filter s t)
 walk_with at-filter s (pair Or c t u) = let right = walk_with at-filter s u in or_walk (walk_with at-filter s t) right
 walk_with at-filter s (pair And c t u) = let right = walk_with at-filter s u in and_walk (walk_with at-filter s t) right
@@ -192,17 +192,17 @@ walk_at_filter section families f c operand = walk (searched_of section families
 pub record FilterReachedOf (section families : List ℕ) (f : Filter) (c : ℕ) (operand : Tree) : Type 0 where
   -- "it should take the operand's matches one by one and stop at the first that gives a match without excludes." That it reads no match after that one
   -- can't be seen in an answer.
-  pub decided_by_first : (y : Bool) (codes : ℕ) → walk_at_filter section families f c operand ≡ Answered y codes
+  pub decided_by_first : (y : Bool) (codes : ℕ) → walk_at_filter section families f c operand ≡ answered y codes
       → (y ≡ true)
       ↔ ((m : Match) × FirstWith (λ l. Has WithoutExcludes (filter_match (section_of section) f l)) (all_matches (searched_of section families) operand) m)
   -- "That filter's own list no longer counts for refusal 9; the lists under it still do."
   pub size_exactly : (place : ℕ) → RefusesForSize (walk_at_filter section families f c operand) place
       ↔ ((code : Tree) × FirstWith (PastLimits section families) (parts operand) code × (place_of code ≡ place))
-  pub size_only : (r : Refusal) → QuickRefuses (walk_at_filter section families f c operand) r → r.number ≡ 9
+  pub size_only : (r : Refusal) → QuickRefuses (walk_at_filter section families f c operand) r → number_of r.reason ≡ 9
   -- "The yes or no is held, as before, to the complete unlimited list, and the count of codes remains that of the walk."
-  pub held_to_complete : (y : Bool) (codes : ℕ) → walk_at_filter section families f c operand ≡ Answered y codes
+  pub held_to_complete : (y : Bool) (codes : ℕ) → walk_at_filter section families f c operand ≡ answered y codes
       → (y ≡ true) ↔ Has WithoutExcludes (all_matches (searched_of section families) (change (filtered f) c operand))
-  pub counts_part : (y : Bool) (codes : ℕ) → walk_at_filter section families f c operand ≡ Answered y codes
+  pub counts_part : (y : Bool) (codes : ℕ) → walk_at_filter section families f c operand ≡ answered y codes
       → codes ≡ length (parts (change (filtered f) c operand))
 
 pub record EarlyWayOut : Type 0 where
@@ -210,7 +210,7 @@ pub record EarlyWayOut : Type 0 where
   -- Everywhere else the walk is document 01's.
   pub elsewhere : (s : Searched) (t : Tree) → walk s t ≡ walk_with (λ f c operand. walk s (change (filtered f) c operand)) s t
   -- What was answered before is answered so still, count and all; and it refuses only where the walk before refused, though perhaps at a later code.
-  pub answers_as_before : (s : Searched) (t : Tree) (y : Bool) (codes : ℕ) → walk_before s t ≡ Answered y codes → walk s t ≡ Answered y codes
+  pub answers_as_before : (s : Searched) (t : Tree) (y : Bool) (codes : ℕ) → walk_before s t ≡ answered y codes → walk s t ≡ answered y codes
   pub refused_before : (s : Searched) (t : Tree) (r : Refusal) → QuickRefuses (walk s t) r → (q : Refusal) × QuickRefuses (walk_before s t) q
 
 -- ---- document 02's F-5, headings
@@ -243,9 +243,9 @@ pub record HeadingsOf (section : List ℕ) : Type 0 where
   -- of either sort, from 2 on. (By `units_exactly` of demand 2 it falls on every section but those in which "the nonzero
   -- ones still never fall" and paragraphs keep their rule.)
   pub refused_exactly : (p : ℕ)
-      → (faulty_position section ≡ some p) ↔ FirstWith (λ q. SentenceFalls section q ⊎ ParagraphBreaks section q) (from_to 2 (size section)) p
+      → (faulty_position section ≡ Some p) ↔ FirstWith (λ q. SentenceFalls section q ⊎ ParagraphBreaks section q) (from_to 2 (size section)) p
   -- It falls on no more than before; and where sentences are all zero, or all nonzero, where it did.
-  pub accepted_before : faulty_before section ≡ none → faulty_position section ≡ none
+  pub accepted_before : faulty_before section ≡ None → faulty_position section ≡ None
   pub as_before : NotReported (sentence_at section) (size section) ⊎ AllNonzero (sentence_at section) (size section)
       → faulty_position section ≡ faulty_before section
 
@@ -263,7 +263,7 @@ pub record InSentences (s : Section) (i : Str) : Type 0 where
 pub record Headings : Type 0 where
   pub sections : (section : List ℕ) → HeadingsOf section
   -- "Sentence zero may now stand among numbered ones, in any place": refusal 2 doesn't fall where it didn't before they were zero.
-  pub in_any_place : (section other : List ℕ) → SomeZeroed section other → faulty_position section ≡ none → faulty_position other ≡ none
+  pub in_any_place : (section other : List ℕ) → SomeZeroed section other → faulty_position section ≡ None → faulty_position other ≡ None
   -- "Section headings have no sentence": so no string of a match that same sentence or different sentence gives starts or ends at a token without a
   -- sentence, whatever the section.
   pub same_sentence : (s : Section) (ms : List Match) → AllList (InSentences s) (filter_list s SameSentence ms)
@@ -304,9 +304,9 @@ OutOfOrder families entry = (before : ℕ) × (1 ≤ before) × (before < entry)
 pub record TableOf (families : List ℕ) : Type 0 where
   -- "Errors: 13 at the first entry out of order, place 0 for a wrong size or length, tried after 2." (That place 0 comes before an entry, and 13 after 2, is in
   -- the table of refusals, `input_rows`. By `words_exactly` of demand 2 no entry is out of order exactly where the words rise strictly.)
-  pub entry_exactly : (entry : ℕ) → (entry_out_of_order families ≡ some entry) ↔ FirstWith (OutOfOrder families) (from_to 1 (size families)) entry
+  pub entry_exactly : (entry : ℕ) → (entry_out_of_order families ≡ Some entry) ↔ FirstWith (OutOfOrder families) (from_to 1 (size families)) entry
   pub place_zero_exactly : (place : ℕ)
-      → (wrong_families families ≡ some place) ↔ ((place ≡ 0) × ((max_entries < size families) ⊎ (¬ (length families ≡ 1 + 2 * size families))))
+      → (wrong_families families ≡ Some place) ↔ ((place ≡ 0) × ((max_entries < size families) ⊎ (¬ (length families ≡ 1 + 2 * size families))))
   -- A word of a phrase fits a token exactly as F-6 says, in a table whose words rise.
   pub fits_exactly : RisingStrictly (first_at families) (size families) → (token word : ℕ) → (word_fits families token word ≡ true) ↔ Fits families token word
 
@@ -319,7 +319,7 @@ abbrev pub listing_refusal_before : List ℕ → List ℕ → ℕ → ℕ → Op
 listing_refusal_before section selection work buffer =
     otherwise
     (checks_before section selection (leb work_length work && leb buffer_length buffer))
-    (Option.map (refusal 9) (first_too_long (equal_words section) (parts (tree_of selection))))
+    (option_map (refusal LongList) (first_too_long (equal_words section) (parts (tree_of selection))))
 
 abbrev pub complete_before : List ℕ → List ℕ → List Match
 complete_before section selection = all_matches (equal_words section) (tree_of selection)

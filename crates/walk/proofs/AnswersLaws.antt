@@ -6,6 +6,7 @@ use mathlib.Core.Bool.{Bool, true, false, not, cond}
 use lib.Dec.{eqb}
 use mir.Val.{bool_byte}
 use borrow.Author.Tests.{le-leb, lt-leb}
+use Rattle.model.specs.declared.Reason.TheVariants.{LongList}
 use Rattle.model.specs.declared.Pair.{Pair}
 use Rattle.model.specs.declared.Pair.TheVariants.{Or, And, MildNot}
 use Rattle.model.specs.declared.Quick.TheVariants.{Answered, Refused}
@@ -17,7 +18,7 @@ use Rattle.walk.specs.Steps.{answer_of, decides, passed_up}
 pub told-answer : (a : ℕ) → a < 8589934592 → answer_of a ≡ Answered (eqb (a % 2) 1) (a / 2)
 told-answer a h = rw (lt-leb 8589934592 a h)
 
-pub told-long : (a : ℕ) → 8589934592 ≤ a → answer_of a ≡ Refused (refusal 9 (a % 4294967296))
+pub told-long : (a : ℕ) → 8589934592 ≤ a → answer_of a ≡ Refused (refusal LongList (a % 4294967296))
 told-long a h = rw (le-leb 8589934592 a h)
 
 pub bit_le : (y : Bool) → bool_byte y ≤ 1
@@ -34,15 +35,15 @@ answered-told false n h =
     let half : (n * 2 + 0) / 2 ≡ n = omega arith in
     told-answer (n * 2 + 0) (omega arith) ∙ ap₂ Answered (ap (λ (k : ℕ). eqb k 1) bit) half
 
-pub long-told : (place : ℕ) → place < 4294967296 → answer_of (8589934592 + place) ≡ Refused (refusal 9 place)
-long-told place h = let rest : (8589934592 + place) % 4294967296 ≡ place = omega arith in told-long (8589934592 + place) (omega arith) ∙ ap (λ (p : ℕ). Refused (refusal 9 p)) rest
+pub long-told : (place : ℕ) → place < 4294967296 → answer_of (8589934592 + place) ≡ Refused (refusal LongList place)
+long-told place h = let rest : (8589934592 + place) % 4294967296 ≡ place = omega arith in told-long (8589934592 + place) (omega arith) ∙ ap (λ (p : ℕ). Refused (refusal LongList p)) rest
 
 -- ---- decides
 
 pub long-decides : (k : Pair) (a : ℕ) → 8589934592 ≤ a → true ≡ decides k (answer_of a)
 long-decides k a h = sym (ap (decides k) (told-long a h) ∙ all k)
   where
-    all : (k : Pair) → decides k (Refused (refusal 9 (a % 4294967296))) ≡ true
+    all : (k : Pair) → decides k (Refused (refusal LongList (a % 4294967296))) ≡ true
     all Or = refl
     all And = refl
     all MildNot = refl

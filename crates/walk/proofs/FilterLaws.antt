@@ -5,6 +5,7 @@ use mathlib.Core.Path.{◌≡◌, refl, sym, ap, ◌∙◌}
 use mathlib.Core.Bool.{Bool}
 use mathlib.Core.List.{List}
 use lib.ListN.{length}
+use Rattle.model.specs.declared.Reason.TheVariants.{LongList}
 use Rattle.model.specs.declared.Code.TheVariants.{Filter as Filtered}
 use Rattle.model.specs.declared.Filter.{Filter}
 use Rattle.model.specs.declared.Filter.TheVariants.{Window}
@@ -57,7 +58,7 @@ module _ {section families sel mem : List ℕ} {hi : ℕ} (w : Walkable section 
       omega (arith, part_count_lem at (hi - 1) lo under.operand l, more, ap (λ (k : ℕ). part_count (up_to at k)) last)
 
   module _ {mem' : List ℕ} {part : Part} (b : PartList (searched_of section families) operand mem' part) where
-    pub filter-long : {r : Refusal} → part ≡ PartRefused r → Refused (refusal 9 r.place) ≡ walk (searched_of section families) w.part.tree
+    pub filter-long : {r : Refusal} → part ≡ PartRefused r → Refused (refusal LongList r.place) ≡ walk (searched_of section families) w.part.tree
     unfolding filter_walk
     filter-long q = part-long b q (any_of (gives_yes (section_of section) f) (all_matches (searched_of section families) operand)) (length (parts operand) + 1) ∙ walks
 

@@ -4,8 +4,9 @@ use native.Mathlib.Omega.{arith}
 use mathlib.Core.Path.{◌≡◌, refl, sym, ap, ◌∙◌}
 use mathlib.Core.Bool.{Bool}
 use mathlib.Core.List.{List, [], ◌∷◌, ◌++◌, map}
-use mathlib.Core.Option
-use mathlib.Core.Option.{Option, some, none, none-ne-some}
+use Rattle.std.specs.Prelude.{Option, Some, None, option_map}
+use Rattle.model.specs.declared.Reason.TheVariants.{LongList}
+use Rattle.model.proofs.OptionLaws.{none-ne-some}
 use lib.ListN.{length}
 use Rattle.model.specs.declared.Quick.TheVariants.{Answered, Refused}
 use Rattle.model.specs.declared.Refusal.{Refusal}
@@ -100,13 +101,13 @@ module _ {section families sel mem : List ℕ} {hi : ℕ} (w : Walkable section 
 
 -- ---- a part that is built: its list is too long, or answers
 
-nine-at : (r : Refusal) (o : Option ℕ) → Option.map (refusal 9) o ≡ some r → o ≡ some r.place
-nine-at r none f = absurd (none-ne-some r f)
-nine-at r (some place) f = let same : refusal 9 place ≡ r = cc in ap (λ (q : Refusal). some q.place) same
+nine-at : (r : Refusal) (o : Option ℕ) → option_map (refusal LongList) o ≡ Some r → o ≡ Some r.place
+nine-at r None f = absurd (none-ne-some r f)
+nine-at r (Some place) f = let same : refusal LongList place ≡ r = cc in ap (λ (q : Refusal). Some q.place) same
 
 module _ {s : Searched} {t : Tree} {mem : List ℕ} {part : Part} (b : PartList s t mem part) where
   -- where it is too long
-  pub part-long : {r : Refusal} → part ≡ PartRefused r → (answer : Bool) (n : ℕ) → Refused (refusal 9 r.place) ≡ unless_too_long (first_too_long s (parts t)) answer n
+  pub part-long : {r : Refusal} → part ≡ PartRefused r → (answer : Bool) (n : ℕ) → Refused (refusal LongList r.place) ≡ unless_too_long (first_too_long s (parts t)) answer n
   part-long {r} e answer n = rw (nine-at r (first_too_long s (parts t)) (b.refused r e))
 
   -- and where not, what is asked of its list and its count
@@ -117,7 +118,7 @@ module _ {s : Searched} {t : Tree} {mem : List ℕ} {part : Part} (b : PartList 
 -- ---- where the whole part is built
 
 module _ {section families sel mem : List ℕ} {hi : ℕ} (w : Walkable section families sel mem hi) {mem' : List ℕ} {part : Part} (b : PartList (searched_of section families) w.part.tree mem' part) where
-  pub build-long : {r : Refusal} → part ≡ PartRefused r → Refused (refusal 9 r.place) ≡ build (searched_of section families) w.part.tree
+  pub build-long : {r : Refusal} → part ≡ PartRefused r → Refused (refusal LongList r.place) ≡ build (searched_of section families) w.part.tree
   unfolding build
   build-long e = part-long b e (is_yes (all_matches (searched_of section families) w.part.tree)) (length (parts w.part.tree))
 

@@ -4,7 +4,7 @@ use native.Mathlib.Omega.{arith}
 use mathlib.Core.Path.{◌≡◌, refl, sym, ap, ◌∙◌, subst}
 use mathlib.Core.Bool.{Bool, true, false, not, cond}
 use mathlib.Core.List.{List, [], ◌∷◌, ◌++◌, map, append-nil}
-use mathlib.Core.Option.{Option, some, none}
+use Rattle.std.specs.Prelude.{Option, Some, None}
 use lib.ListN.{length, length-append}
 use borrow.Author.Tests.{not-false}
 use lib.Seq.{append_snoc}
@@ -41,8 +41,8 @@ use Rattle.walk.specs.Walkable.{Walkable}
 -- ---- counts
 
 codes_unless : (f : Option ℕ) (b : Bool) (n : ℕ) → codes_in (unless_too_long f b n) ≤ n
-codes_unless none b n = omega arith
-codes_unless (some c) b n = omega arith
+codes_unless None b n = omega arith
+codes_unless (Some c) b n = omega arith
 
 -- a part's walk counts at most its codes
 pub codes-few : (s : Searched) (t : Tree) → codes_in (walk s t) ≤ length (postfix t)

@@ -1,6 +1,7 @@
 -- The steps of the walk: an answer as the number that the code keeps it in, and what a code makes of its sides' answers. That they make document 01's
 -- walk is proved.
 use Rattle.std.specs.Prelude.{ℕ, ◌+◌, ◌/◌, ◌%◌, Bool, true, false, not, cond, leb, eqb}
+use Rattle.model.specs.declared.Reason.TheVariants.{LongList}
 use Rattle.model.specs.declared.Pair.{Pair}
 use Rattle.model.specs.declared.Pair.TheVariants.{Or, And, MildNot}
 use Rattle.model.specs.declared.Quick.{Quick}
@@ -11,7 +12,7 @@ use Rattle.model.specs.Parts.{is_mild_not}
 
 -- The answer that a number tells: from 2^33 on refusal 9, the only one of a walk, with its place; below it the codes, twice, and one more for yes.
 abbrev pub answer_of : ℕ → Quick
-answer_of a = cond (leb 8589934592 a) (Refused (refusal 9 (a % 4294967296))) (Answered (eqb (a % 2) 1) (a / 2))
+answer_of a = cond (leb 8589934592 a) (Refused (refusal LongList (a % 4294967296))) (Answered (eqb (a % 2) 1) (a / 2))
 
 -- Does the walk go into the part of this code? Into that of a not, an or and an and.
 abbrev pub goes_into : Shape → Bool

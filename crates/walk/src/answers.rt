@@ -1,5 +1,6 @@
 // A part's answer in one number, so that a frame of the walk's recursion holds no copy of an answer; and what a code makes of its sides' answers.
 ghost use Rattle.std.specs.Prelude.{◌≡◌, ◌+◌, ◌≤◌};
+ghost use Rattle.model.specs.declared.Reason.TheVariants.{LongList};
 ghost use Rattle.model.specs.Checks.{refusal};
 ghost use Rattle.model.specs.Limits.{max_codes};
 ghost use Rattle.model.specs.declared.Quick.TheVariants.{Answered, Refused};
@@ -19,7 +20,7 @@ pub fn answered(yes: bool, codes: u32) -> u64
 }
 
 pub fn too_long(place: u32) -> u64
-    ensures { answer_of result ≡ Refused (refusal 9 place) }
+    ensures { answer_of result ≡ Refused (refusal LongList place) }
 {
     TOO_LONG + place as u64
 }

@@ -2,13 +2,13 @@
 use Rattle.selection.proofs.PartSearchLaws.{found}
 use Rattle.model.specs.Checks.{mild_over_not}
 use Rattle.model.specs.Kinds.{shape_at}
-use mathlib.Core.Option.{none}
+use Rattle.std.specs.Prelude.{None}
 use mathlib.Core.Path.{◌≡◌}
 use Prim.Native.Nat.{◌≤◌, ◌-◌}
 use Rattle.selection.proofs.not_under_mild_not.Given as goal
 
 abbrev pub invariant-loop-c : goal.invariant-loop-c
-invariant-loop-c l = (l.c ≤ l.m) × (found mild_over_not (shape_at l.selection) l.c ≡ none)
+invariant-loop-c l = (l.c ≤ l.m) × (found mild_over_not (shape_at l.selection) l.c ≡ None)
 
 abbrev pub decreases-loop-c : goal.decreases-loop-c
 decreases-loop-c l = l.m - l.c
