@@ -7,6 +7,7 @@ ghost use Rattle.candidates.specs.Overlapping.{overlap_both};
 
 use super::edges::Ranges;
 use store::Bounds;
+use strings::Run;
 use strings::covering::any_overlaps;
 
 // Do the strings have positions in both ranges?
@@ -14,10 +15,15 @@ fn overlap_both(strs: &[u32], ranges: Ranges) -> bool
     ensures { result ≡ overlap_both ranges (strs_at strs.now) }
 {
     let Ranges { start, end } = ranges;
-    if !any_overlaps(strs, start.lo, start.hi) {
-        return false;
-    }
-    any_overlaps(strs, end.lo, end.hi)
+    let start = Run {
+        lo: start.lo,
+        hi: start.hi,
+    };
+    let end = Run {
+        lo: end.lo,
+        hi: end.hi,
+    };
+    any_overlaps(strs, start) && any_overlaps(strs, end)
 }
 
 // The first match of R, from the one at `from` on, that overlaps both ranges: where it lies, or the end.

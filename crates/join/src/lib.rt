@@ -11,7 +11,7 @@ ghost use Rattle.strings.specs.Strings.{strs_at};
 use model::Position;
 use strings::covering::run_covered;
 use strings::positions::{earlier, later};
-use strings::{end_of, is_contiguous, query_of, span_of, start_of, tag_of};
+use strings::{end_of, strings_in, query_of, span_of, start_of, tag_of};
 
 // Where strings begin and where they end.
 #[derive(Clone, Copy)]
@@ -46,14 +46,7 @@ pub fn extent_of(strs: &[u32]) -> Extent
 pub fn all_contiguous(strs: &[u32]) -> bool
     ensures { result ≡ all_of (λ t. t.contiguous) (strs_at strs.now) }
 {
-    let mut i = 0;
-    while i + 1 < strs.len() {
-        if !is_contiguous(strs[i + 1]) {
-            return false;
-        }
-        i += 2;
-    }
-    true
+    strings_in(strs).all(|s| s.is_contiguous())
 }
 
 // The span of the join: "one include from least start to greatest end".

@@ -11,8 +11,8 @@ ghost use Rattle.candidates.specs.Passing.{from_first};
 
 use model::Position;
 use store::Bounds;
-use strings::covering::run_end;
-use strings::{end_of, start_of};
+use strings::covering::{Chosen, run_end};
+use strings::{Run, end_of, start_of};
 
 // A position that includes of a left match cover, and those of a right match don't.
 #[derive(Clone, Copy)]
@@ -29,7 +29,14 @@ pub fn find_uncovered(lefts: &[u32], rights: &[u32]) -> Found
     while i + 1 < lefts.len() {
         let span = lefts[i];
         let end = end_of(span);
-        let p = run_end(rights, start_of(span), end, false);
+        let p = run_end(
+            rights,
+            Run {
+                lo: start_of(span),
+                hi: end,
+            },
+            Chosen::All,
+        );
         if p.0 <= end.0 {
             return Found::At(p);
         }

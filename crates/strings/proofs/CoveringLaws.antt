@@ -14,6 +14,9 @@ use Rattle.model.proofs.EveryLaws.{every_weaker}
 use Rattle.model.proofs.ListsLaws.{range_empty, range_cons}
 use Rattle.model.proofs.TestsLaws.{both_true}
 use Rattle.strings.specs.Covering.{chosen, passed, advanced}
+use Rattle.strings.specs.declared.covering.Chosen.{Chosen}
+use Rattle.strings.specs.declared.covering.Chosen.TheVariants.{All, Contiguous}
+use Rattle.std.specs.List.{fold}
 
 -- ---- all, over a range
 
@@ -67,7 +70,7 @@ covered-each (s ∷ ss) = (λ x e. rw e, every_weaker _ _ (λ t h x e. rw (h x e
 pub advanced_up : (p : ℕ) (ss : List Str) → p ≤ advanced p ss
 unfolding advanced
 advanced_up p [] = omega arith
-advanced_up p (s ∷ ss) = at (covers s p) refl (advanced_up (passed false p s) ss)
+advanced_up p (s ∷ ss) = at (covers s p) refl (advanced_up (passed All p s) ss)
   where
     at : (t : Bool) → covers s p ≡ t → cond t (s.end + 1) p ≤ advanced (cond t (s.end + 1) p) ss → p ≤ advanced (cond t (s.end + 1) p) ss
     at true e h = let k = covers-end s p e in omega arith
@@ -77,7 +80,7 @@ advanced_up p (s ∷ ss) = at (covers s p) refl (advanced_up (passed false p s) 
 pub advanced_stuck : (p : ℕ) (ss : List Str) → advanced p ss ≡ p → covered ss p ≡ false
 unfolding advanced any_of
 advanced_stuck p [] e = refl
-advanced_stuck p (s ∷ ss) e = at (covers s p) refl (advanced_up (passed false p s) ss) e (advanced_stuck p ss)
+advanced_stuck p (s ∷ ss) e = at (covers s p) refl (advanced_up (passed All p s) ss) e (advanced_stuck p ss)
   where
     at : (t : Bool) → covers s p ≡ t → cond t (s.end + 1) p ≤ advanced (cond t (s.end + 1) p) ss
         → advanced (cond t (s.end + 1) p) ss ≡ p → (advanced p ss ≡ p → covered ss p ≡ false) → (t || covered ss p) ≡ false
@@ -88,7 +91,7 @@ advanced_stuck p (s ∷ ss) e = at (covers s p) refl (advanced_up (passed false 
 advanced_under : (c : ℕ → Bool) (p : ℕ) (ss : List Str) → Every (Under c) ss → (to : ℕ) → all_of c (from_to p to) ≡ all_of c (from_to (advanced p ss) to)
 unfolding advanced Every
 advanced_under c p [] a to = refl
-advanced_under c p (s ∷ ss) a to = at (covers s p) refl ∙ advanced_under c (passed false p s) ss a.1 to
+advanced_under c p (s ∷ ss) a to = at (covers s p) refl ∙ advanced_under c (passed All p s) ss a.1 to
   where
     at : (t : Bool) → covers s p ≡ t → all_of c (from_to p to) ≡ all_of c (from_to (cond t (s.end + 1) p) to)
     at true e =
@@ -102,17 +105,14 @@ covered-advanced ss p to = advanced_under (covered ss) p ss (covered-each ss) to
 
 -- ---- chosen
 
-pub advanced-none : (only : Bool) (p : ℕ) → advanced p (chosen only []) ≡ p
+-- the strings gone through one by one, those that aren't chosen too
+pub fold_advanced : (which : Chosen) (p : ℕ) (ss : List Str) → fold (passed which) p ss ≡ advanced p (chosen which ss)
 unfolding advanced keep
-advanced-none true p = refl
-advanced-none false p = refl
-
--- the chosen strings, gone through one by one
-pub advanced-chosen : (only : Bool) (p q : ℕ) (s : Str) (ss : List Str) → q ≡ passed only p s → advanced p (chosen only (s ∷ ss)) ≡ advanced q (chosen only ss)
-unfolding advanced keep
-advanced-chosen false p q s ss e = rw e
-advanced-chosen true p q s ss e = rw e (at s.contiguous)
+fold_advanced All p [] = refl
+fold_advanced All p (s ∷ ss) = fold_advanced All (passed All p s) ss
+fold_advanced Contiguous p [] = refl
+fold_advanced Contiguous p (s ∷ ss) = fold_advanced Contiguous (passed Contiguous p s) ss ∙ at s.contiguous
   where
-    at : (t : Bool) → advanced p (cond t (s ∷ chosen true ss) (chosen true ss)) ≡ advanced (cond (t && covers s p) (s.end + 1) p) (chosen true ss)
+    at : (t : Bool) → advanced (cond (t && covers s p) (s.end + 1) p) (chosen Contiguous ss) ≡ advanced p (cond t (s ∷ chosen Contiguous ss) (chosen Contiguous ss))
     at true = refl
     at false = refl

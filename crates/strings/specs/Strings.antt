@@ -4,6 +4,8 @@ use Rattle.model.specs.Answers.{span_of, tag_of}
 use Rattle.model.specs.Limits.{radix}
 use Rattle.model.specs.Matches.{Str}
 use Rattle.strings.specs.declared.packed.Packed.{Packed}
+use Rattle.strings.specs.declared.packed.Sort.{Sort}
+use Rattle.strings.specs.declared.packed.Sort.TheVariants.{Include, Exclude}
 
 -- strings of one sort (0: includes, 1: excludes), one after the other
 unfoldable pub strs_of : ℕ → List Str → List ℕ
@@ -23,3 +25,8 @@ strs_at (span ∷ tag ∷ rest) = str_of span tag ∷ strs_at rest
 -- the string of a span and a tag that stand together
 abbrev pub str_packed : Packed → Str
 str_packed p = str_of p.span p.tag
+
+-- a sort as the number that a tag has of it
+abbrev pub number_of_sort : Sort → ℕ
+number_of_sort Include = 0
+number_of_sort Exclude = 1

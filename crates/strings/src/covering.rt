@@ -2,89 +2,84 @@
 ghost use Rattle.std.specs.Prelude.{◌≡◌};
 ghost use Rattle.model.specs.Lists.{all_of, from_to};
 ghost use Rattle.model.specs.Rules.{covered, covers};
-ghost use Rattle.strings.specs.Strings.{str_of, strs_at};
+ghost use Rattle.strings.specs.Strings.{str_packed, strs_at};
 ghost use Rattle.strings.specs.Covering.{advanced, any_overlaps, chosen, is_chosen, overlaps, passed, RunEnd};
 
-use super::packed::strings_in;
-use super::positions::is_between;
-use super::spans::{end_of, is_contiguous, start_of};
+use super::packed::{Packed, strings_in};
+use super::positions::Run;
 use model::Position;
 
-// Does a string of this span cover a position?
-pub fn covers(span: u32, p: Position) -> bool
-    ensures { result ≡ covers (str_of span 0) p.0 }
-{
-    is_between(p, start_of(span), end_of(span))
+// Which strings count: all of them, or only the contiguous ones.
+#[derive(Clone, Copy, PartialEq, Eq)]
+pub enum Chosen {
+    All,
+    Contiguous,
 }
 
-// Does a string of this span have a position from lo to hi?
-fn overlaps(span: u32, lo: Position, hi: Position) -> bool
-    ensures { result ≡ overlaps lo.0 hi.0 (str_of span 0) }
+// Does a string cover a position?
+fn covers(s: Packed, p: Position) -> bool
+    ensures { result ≡ covers (str_packed s) p.0 }
 {
-    if hi.0 < start_of(span).0 {
-        return false;
-    }
-    lo.0 <= end_of(span).0
+    s.start() <= p && p <= s.end()
 }
 
-// Does any of the strings have a position from lo to hi?
-pub fn any_overlaps(strs: &[u32], lo: Position, hi: Position) -> bool
-    ensures { result ≡ any_overlaps lo.0 hi.0 (strs_at strs.now) }
+// Does a string have a position of the run?
+fn overlaps(s: Packed, run: Run) -> bool
+    ensures { result ≡ overlaps run.lo.0 run.hi.0 (str_packed s) }
 {
-    strings_in(strs).any(|s| overlaps(s.span, lo, hi))
+    s.start() <= run.hi && run.lo <= s.end()
+}
+
+// Does any of the strings have a position of the run?
+pub fn any_overlaps(strs: &[u32], run: Run) -> bool
+    ensures { result ≡ any_overlaps run.lo.0 run.hi.0 (strs_at strs.now) }
+{
+    strings_in(strs).any(|s| overlaps(s, run))
 }
 
 // "some include covers position"
 pub fn covered(strs: &[u32], p: Position) -> bool
     ensures { result ≡ covered (strs_at strs.now) p.0 }
 {
-    any_overlaps(strs, p, p)
+    any_overlaps(strs, Run { lo: p, hi: p })
 }
 
-// Is a string among the chosen: all, or only the contiguous ones?
-fn is_chosen(tag: u32, only_contiguous: bool) -> bool
-    ensures { result ≡ is_chosen only_contiguous (str_of 0 tag) }
+// Does a string count?
+fn is_chosen(s: Packed, which: Chosen) -> bool
+    ensures { result ≡ is_chosen which (str_packed s) }
 {
-    if !only_contiguous {
-        return true;
+    match which {
+        Chosen::All => true,
+        Chosen::Contiguous => s.is_contiguous(),
     }
-    is_contiguous(tag)
 }
 
 // A position, moved to the one after a chosen string that covers it.
-fn passed(span: u32, tag: u32, p: Position, only_contiguous: bool) -> Position
-    ensures { result.0 ≡ passed only_contiguous p.0 (str_of span tag) }
+fn passed(s: Packed, p: Position, which: Chosen) -> Position
+    ensures { result.0 ≡ passed which p.0 (str_packed s) }
 {
-    if !is_chosen(tag, only_contiguous) {
-        return p;
+    if is_chosen(s, which) && covers(s, p) {
+        Position(s.end().0 + 1)
+    } else {
+        p
     }
-    if !covers(span, p) {
-        return p;
-    }
-    Position(end_of(span).0 + 1)
 }
 
 // A position, moved past each chosen string in turn that covers it.
-pub fn advance(strs: &[u32], p: Position, only_contiguous: bool) -> Position
-    ensures { result.0 ≡ advanced p.0 (chosen only_contiguous (strs_at strs.now)) }
+pub fn advance(strs: &[u32], p: Position, which: Chosen) -> Position
+    ensures { result.0 ≡ advanced p.0 (chosen which (strs_at strs.now)) }
 {
-    let mut at = p;
-    let mut i = 0;
-    while i + 1 < strs.len() {
-        at = passed(strs[i], strs[i + 1], at, only_contiguous);
-        i += 2;
-    }
-    at
+    strings_in(strs).fold(p, |at, s| passed(s, at, which))
 }
 
 // Where a run of positions stops being covered: at the first that no chosen string covers, or after its last.
-pub fn run_end(strs: &[u32], from: Position, to: Position, only_contiguous: bool) -> Position
-    ensures { RunEnd (chosen only_contiguous (strs_at strs.now)) from.0 to.0 result.0 }
+pub fn run_end(strs: &[u32], run: Run, which: Chosen) -> Position
+    ensures { RunEnd (chosen which (strs_at strs.now)) run.lo.0 run.hi.0 result.0 }
 {
-    let mut p = from;
-    while p.0 <= to.0 {
-        let next = advance(strs, p, only_contiguous);
-        if next.0 == p.0 {
+    let mut p = run.lo;
+    while p <= run.hi {
+        let next = advance(strs, p, which);
+        if next == p {
             return p;
         }
         p = next;
@@ -92,9 +87,9 @@ pub fn run_end(strs: &[u32], from: Position, to: Position, only_contiguous: bool
     p
 }
 
-// "every position in it is covered"; with `only_contiguous`, "by some contiguous include"
-pub fn run_covered(strs: &[u32], from: Position, to: Position, only_contiguous: bool) -> bool
-    ensures { result ≡ all_of (covered (chosen only_contiguous (strs_at strs.now))) (from_to from.0 to.0) }
+// "every position in it is covered"; with `Chosen::Contiguous`, "by some contiguous include"
+pub fn run_covered(strs: &[u32], run: Run, which: Chosen) -> bool
+    ensures { result ≡ all_of (covered (chosen which (strs_at strs.now))) (from_to run.lo.0 run.hi.0) }
 {
-    to.0 < run_end(strs, from, to, only_contiguous).0
+    run.hi < run_end(strs, run, which)
 }

@@ -10,5 +10,6 @@ mod packed;
 pub mod positions;
 pub mod spans;
 
-pub use packed::{Packed, Strings, strings_in};
+pub use packed::{Packed, Sort, Strings, strings_in};
+pub use positions::Run;
 pub use spans::{end_of, is_contiguous, query_of, sort_of, span_of, start_of, tag_of, with_sort};

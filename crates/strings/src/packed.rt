@@ -1,12 +1,21 @@
 // A string in lent memory, its two numbers, and the strings of a slice one after the other.
-ghost use Rattle.std.specs.Prelude.{List, ◌≡◌};
+ghost use Rattle.std.specs.Prelude.{List, cond, ◌≡◌, ◌+◌, ◌*◌, ◌/◌, ◌%◌, ◌<◌, ◌^◌};
 ghost use Rattle.std.specs.Iterator.{YieldsFirstBy, item_count};
+ghost use Rattle.model.specs.Limits.{radix};
 ghost use Rattle.model.specs.Matches.{Str};
-ghost use Rattle.strings.specs.Strings.{str_packed, strs_at};
+ghost use Rattle.strings.specs.Strings.{number_of_sort, str_packed, strs_at};
 
-use super::spans::{end_of, is_contiguous, query_of, start_of};
+use super::positions::Run;
+use super::spans::{end_of, is_contiguous, query_of, span_of, start_of, tag_of};
 use model::Position;
 use std::marker::Model;
+
+// Whether a string has to be there or must not.
+#[derive(Clone, Copy, PartialEq, Eq)]
+pub enum Sort {
+    Include = 0,
+    Exclude = 1,
+}
 
 // A string: its span and its tag.
 #[derive(Clone, Copy, PartialEq, Eq)]
@@ -16,6 +25,19 @@ pub struct Packed {
 }
 
 impl Packed {
+    // The string of the positions of a run, a query position, a contiguous mark and a sort.
+    pub fn new(run: Run, query: u32, contiguous: bool, sort: Sort) -> Packed
+        requires positions { (run.lo.0 < radix) × (run.hi.0 < radix) }
+        requires queries { query < 2 ^ 30 }
+        ensures span_value { result.span ≡ run.lo.0 * radix + run.hi.0 }
+        ensures tag_value { result.tag ≡ query * 4 + cond contiguous 2 0 + number_of_sort sort }
+    {
+        Packed {
+            span: span_of(run.lo, run.hi),
+            tag: tag_of(query, contiguous, sort as u32),
+        }
+    }
+
     // Where the string starts.
     pub fn start(self) -> Position
         ensures { result.0 ≡ (str_packed self).start }
@@ -43,6 +65,28 @@ impl Packed {
     {
         is_contiguous(self.tag)
     }
+
+    // Its sort.
+    pub fn sort(self) -> Sort
+        ensures { number_of_sort result ≡ self.tag % 2 }
+    {
+        if self.tag % 2 == 0 {
+            Sort::Include
+        } else {
+            Sort::Exclude
+        }
+    }
+
+    // The string, turned to a sort.
+    pub fn with_sort(self, sort: Sort) -> Packed
+        ensures span_value { result.span ≡ self.span }
+        ensures tag_value { result.tag ≡ self.tag / 2 * 2 + number_of_sort sort }
+    {
+        Packed {
+            span: self.span,
+            tag: self.tag / 2 * 2 + sort as u32,
+        }
+    }
 }
 
 // The strings that a slice has left.
@@ -62,6 +106,15 @@ pub fn strings_in<'a>(numbers: &'a [u32]) -> Strings<'a>
     ensures { result ≡ strs_at numbers.now }
 {
     Strings { rest: numbers }
+}
+
+impl<'a> Strings<'a> {
+    // The numbers that are left.
+    pub fn as_slice(&self) -> &'a [u32]
+        ensures { strs_at result.now ≡ self.now }
+    {
+        self.rest
+    }
 }
 
 impl<'a> Iterator for Strings<'a> {

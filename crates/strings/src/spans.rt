@@ -61,8 +61,5 @@ pub fn tag_of(query: u32, contiguous: bool, sort: u32) -> u32
     requires { (query < 2 ^ 30) × (sort ≤ 1) }
     ensures { result ≡ query * 4 + cond contiguous 2 0 + sort }
 {
-    if contiguous {
-        return query * 4 + 2 + sort;
-    }
-    query * 4 + sort
+    query * 4 + if contiguous { 2 } else { 0 } + sort
 }

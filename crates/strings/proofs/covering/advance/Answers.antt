@@ -1,14 +1,12 @@
-use mathlib.Core.Path.{sym, ◌∙◌}
-use Rattle.strings.proofs.CoveringLaws.{advanced-chosen, advanced-none}
-use Rattle.strings.proofs.StringsLaws.{left-start, left-next, left-none}
+-- A pass over all strings moves a position as one over the chosen strings does.
+use Rattle.std.proofs.Common.{rules, ◌∙◌}
+use Rattle.strings.specs.Covering.{passed}
+use Rattle.strings.specs.Strings.{strs_at}
+use Rattle.strings.proofs.CoveringLaws.{fold_advanced}
+use Rattle.strings.proofs.PackedLaws.{fold_strs}
 use Rattle.strings.proofs.covering.advance.Goals as goal
 
-pub loop-i-init : goal.loop-i-init
-loop-i-init c = left-start _ _
-
-pub loop-i-preserved : goal.loop-i-preserved
-loop-i-preserved c =
-    left-next c.loop-i.invariant c.loop-i-test.true _ (advanced-chosen c.args.only_contiguous _ _ _ _ c.passed-at.ensures)
-
 pub returns : goal.returns
-returns c = sym (advanced-none c.args.only_contiguous _) ∙ left-none c.loop-i.invariant c.loop-i-test.false
+returns c =
+    fold_strs (λ p. p.0) (passed c.args.which) _ _ c.fold.ensures.ran c.strings_in.ensures (λ a x b q k. search rules)
+    ∙ fold_advanced c.args.which c.args.p.0 (strs_at c.args.strs.now)

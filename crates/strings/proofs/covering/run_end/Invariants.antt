@@ -8,9 +8,9 @@ use Rattle.strings.specs.Covering.{chosen}
 use Rattle.strings.specs.Strings.{strs_at}
 use Rattle.strings.proofs.covering.run_end.Given as goal
 
-abbrev pub invariant-loop-p : goal.invariant-loop-p
-invariant-loop-p l =
-    (l.initial.p.0 ≤ l.p.0) × (all_of (covered (chosen l.only_contiguous (strs_at l.strs))) (from_to l.initial.p.0 l.to.0) ≡ all_of (covered (chosen l.only_contiguous (strs_at l.strs))) (from_to l.p.0 l.to.0))
+abbrev pub invariant-loop-which : goal.invariant-loop-which
+invariant-loop-which l =
+    (l.initial.p.0 ≤ l.p.0) × (all_of (covered (chosen l.which (strs_at l.strs))) (from_to l.initial.p.0 l.run.hi.0) ≡ all_of (covered (chosen l.which (strs_at l.strs))) (from_to l.p.0 l.run.hi.0))
 
-abbrev pub decreases-loop-p : goal.decreases-loop-p
-decreases-loop-p l = l.to.0 + 1 - l.p.0
+abbrev pub decreases-loop-which : goal.decreases-loop-which
+decreases-loop-which l = l.run.hi.0 + 1 - l.p.0
