@@ -5,13 +5,15 @@ use native.Mathlib.Omega.{arith}
 use mathlib.Core.Path.{◌≡◌, refl, sym, ap, ap₂, ◌∙◌, subst}
 use mathlib.Core.List.{List, [], ◌∷◌, ◌++◌, map}
 use lib.ListN.{length, take, drop, get_or, set, length-append, length-drop}
-use lib.Seq.{sets, length-take-le}
+use lib.Seq.{length-take-le}
 use Rattle.model.specs.Matches.{Match}
 use Rattle.model.specs.Rules.{joined, and_list}
 use Rattle.model.proofs.RulesLaws.{strings-joined, length-and, strings-and}
 use Rattle.strings.specs.Strings.{strs_of}
 use Rattle.store.specs.declared.bounds.Bounds.{Bounds}
-use Rattle.store.specs.declared.Built.TheVariants.{Made}
+use Rattle.std.specs.Prelude.{Ok}
+use Rattle.std.specs.List.{copy_within}
+use Rattle.store.specs.declared.Size.{Size}
 use Rattle.store.specs.Built.{built_of, sized_as}
 use Rattle.store.specs.Indices.{ClosingMatch, SlotBelow}
 use Rattle.store.specs.Layout.{BoundsOf, Holds, header_between, matches_at, strings_at, match_length, match_numbers, matches_numbers, slot_length, slot_size}
@@ -38,13 +40,13 @@ holds-here : (l : List ℕ) (a n : ℕ) → a + n ≤ length l → Holds l a (ta
 holds-here l a n h = let e = length-here l a n h in record { within = omega arith; part = ap (λ k. take k (drop a l)) e }
 
 -- the second copy is of what lay there before the first
-pub copied-both : (E : List ℕ) {E₁ E₂ : List ℕ} {a e b f to : ℕ} → CopyBoth (length E) a e b f to → E₁ ≡ sets E to (take (e - a) (drop a E))
-    → E₂ ≡ sets E₁ (to + (e - a)) (take (f - b) (drop b E₁)) → Put E E₂ to (take (e - a) (drop a E) ++ take (f - b) (drop b E)) (to + (e - a) + (f - b))
+pub copied-both : (E : List ℕ) {E₁ E₂ : List ℕ} {a e b f to : ℕ} → CopyBoth (length E) a e b f to → E₁ ≡ copy_within E a e to
+    → E₂ ≡ copy_within E₁ b f (to + (e - a)) → Put E E₂ to (take (e - a) (drop a E) ++ take (f - b) (drop b E)) (to + (e - a) + (f - b))
 copied-both E {a = a} {e} {b} {f} {to} h g i =
-    let n_is : e - a ≡ length (take (e - a) (drop a E)) = sym (length-here E a (e - a) (omega arith)) in
-    let k_is : f - b ≡ length (take (f - b) (drop b E)) = sym (length-here E b (f - b) (omega arith)) in
-    let v = put_copy (e - a) to n_is (holds-here E a (e - a) (omega arith)) g in
-    put-append v (put_copy (f - b) (to + (e - a)) k_is (holds-below v (omega arith) (holds-here E b (f - b) (omega arith))) i)
+    let n_is : length (take (e - a) (drop a E)) ≡ e - a = length-here E a (e - a) (omega arith) in
+    let k_is : length (take (f - b) (drop b E)) ≡ f - b = length-here E b (f - b) (omega arith) in
+    let v : Put E _ to (take (e - a) (drop a E)) (to + (e - a)) = put_copy (omega arith) (omega arith) (omega arith) (holds-here E a (e - a) (omega arith)) g in
+    put-append v (put_copy (omega arith) (omega arith) (omega (arith, length-put v)) (holds-below v (omega arith) (holds-here E b (f - b) (omega arith))) i)
 
 -- ---- joined
 
@@ -158,7 +160,7 @@ module _ {mem₀ : List ℕ} {l r : ℕ} (w : TwoSlots mem₀ l r) where
       ap₂ (λ m s. sized_as m s) (ap₂ ◌*◌ ml mr ∙ sym (length-and w.lefts w.rights))
       (ap₂ ◌+◌ (ap₂ ◌*◌ mr (c ∙ strings-held w.left)) (ap₂ ◌*◌ ml (d ∙ strings-held w.right)) ∙ sym (strings-and w.lefts w.rights))
 
-  pub and-start : {m s at k : ℕ} → Made m s ≡ built_of (and_list w.lefts w.rights) → SlotBelow (length mem₀) l at → k ≡ matches_at mem₀ l
+  pub and-start : {size : Size} {at k : ℕ} → Ok size ≡ built_of (and_list w.lefts w.rights) → SlotBelow (length mem₀) l at → k ≡ matches_at mem₀ l
       → Going (row_of w.rights) w.lefts mem₀ k (at + 2) mem₀ (l + 2) (at + 2) 0
   unfolding and_list
   and-start {k = k} e u f = start (slot-each w.left u (answer_made (and_list w.lefts w.rights) e).small k f)

@@ -13,16 +13,12 @@ pub fn or_list(mem: &mut [u32], l: usize, r: usize) -> Built
     requires slot_size_bound { l + slot_size ≤ r }
     ensures { (w : TwoSlots mem.old l r) → Outcome (or_list w.lefts w.rights) mem.old mem.new l result }
 {
-    let matches = store::slot_matches(mem, l) + store::slot_matches(mem, r);
-    let strings = store::slot_strings(mem, l) + store::slot_strings(mem, r);
-    let size = store::sized(matches, strings);
-    let Built::Made { matches, strings } = size else {
-        return size;
-    };
+    let left = store::size_at(mem, l);
+    let right = store::size_at(mem, r);
+    let size = store::sized(left.matches + right.matches, left.strings + right.strings)?;
     let to = store::slot_end(mem, l);
-    let from = r + store::FIRST_MATCH;
-    let n = store::slot_end(mem, r) - from;
-    store::copy_down(mem, from, n, to);
-    store::put_slot_header(mem, l, matches, strings);
-    size
+    let end = store::slot_end(mem, r);
+    mem.copy_within(r + store::FIRST_MATCH..end, to);
+    store::put_slot_header(mem, l, size);
+    Ok(size)
 }

@@ -15,6 +15,7 @@ use Rattle.model.specs.Limits.{max_matches, max_strings}
 use Rattle.model.specs.Matches.{Match, strings, too_long}
 use Rattle.model.proofs.TestsLaws.{both_false}
 use Rattle.store.specs.declared.Size.{Size}
+use Rattle.store.specs.declared.TooLong.{TooLong}
 use Rattle.store.specs.Built.{Built, built_of, made, over, Small}
 use Rattle.store.specs.Indices.{Closing}
 use Rattle.store.specs.ValidStr.{ValidStr}
@@ -25,7 +26,7 @@ use Rattle.store.specs.Slot.{SlotHeader, SlotHolds}
 use Rattle.store.specs.Stream.{Remaining}
 use Rattle.store.proofs.MemoryLaws.{get_d_head, holds_tail}
 use Rattle.store.proofs.PutLaws.{holds-put, holds-below, put_front, length-put}
-use Rattle.std.specs.Prelude.{Ok}
+use Rattle.std.specs.Prelude.{IsErr, Ok, Err}
 use Rattle.store.proofs.LayoutLaws.{length_matches, length-slot, slot-fits}
 
 -- ---- SlotHolds
@@ -121,6 +122,11 @@ module _ (ms : List Match) where
       at true e' = refl
       at false e' = absurd cc
 
+-- there is one error
+pub the-error : (b : Built) → IsErr b → b ≡ over
+the-error (Ok z) h = absurd (true≢false (sym h))
+the-error (Err e) h = refl
+
 -- ---- Outcome
 
 -- what closing a slot wants, where its list is within the limits
@@ -129,9 +135,12 @@ pub closing : {ms : List Match} {entry exit : List ℕ} {at next matches : ℕ} 
 closing {ms} h v room = omega (arith, v.put.next_is, length_matches ms, v.count_is, length-put v.put)
 
 module _ {ms : List Match} {entry exit : List ℕ} {at : ℕ} where
-  -- a rule that sizes first refuses a list that is too long
-  pub refused : {built : Built} → built ≡ built_of ms → built ≡ over → Outcome ms entry exit at built
-  refused e t = record { answered = e; written = λ f. absurd (true≢false (sym (answer-long ms (sym t ∙ e)) ∙ f)) }
+  -- a rule that sizes first refuses a list that is too long: it returns the error
+  pub refused : {built result : Built} {e : TooLong} → built ≡ built_of ms → built ≡ Err e → IsErr result → Outcome ms entry exit at result
+  refused {built} {result} e t h =
+      let g : result ≡ over = the-error result h in
+      let long : over ≡ built_of ms = sym t ∙ e in
+      record { answered = g ∙ long; written = λ f. absurd (true≢false (sym (answer-long ms long) ∙ f)) }
 
   -- a rule has written its list after the header, and then puts it
   pub filled : {E : List ℕ} {size : Size} {next : ℕ} → Ok size ≡ built_of ms → Put entry E (at + 2) (matches_numbers ms) next

@@ -6,37 +6,36 @@ use Rattle.store.proofs.EachLaws.{item}
 use Rattle.store.proofs.SlotsLaws.{refused, filled}
 use Rattle.or_and.proofs.AndLaws.{and-start, and_item, and_step, and_finish}
 use Rattle.or_and.proofs.and.and_list.Goals as goal
-use Rattle.or_and.proofs.and.and_list.Goals.{In-loop-i}
+use Rattle.or_and.proofs.and.and_list.Goals.{In-loop}
 
 -- the header of the left match in hand
-one : (c : In-loop-i) → MatchHeader c.loop-i.mem c.loop-i.left
+one : (c : In-loop) → MatchHeader c.loop.mem c.loop.left
 one c =
     let w = c.requires.two_slots in
-    (item (c.loop-i.invariant.2 w) c.loop-i-test.true).one.held.header
+    (item (c.loop.invariant.1 w) c.loop-test.true).one.held.header
 
-pub returns-in_default : goal.returns-in_default
-returns-in_default c w = refused (c.and_size-size.ensures w) c.in_default.is
+pub returns-in_err-size : goal.returns-in_err-size
+returns-in_err-size c w = refused (c.and_size.ensures w) c.in_err-size.was c.from_residual.ensures.0
 
-pub loop-i-init : goal.loop-i-init
-loop-i-init c =
-    (search rules, refl, λ w. and-start w (sym c.in-Made.is ∙ c.and_size-size.ensures w) c.requires.slot_below c.slot_matches-m.ensures)
+pub loop-init : goal.loop-init
+loop-init c =
+    (refl, λ w. and-start w (sym c.in_ok-size.was ∙ c.and_size.ensures w) c.requires.slot_below c.size_at-m.ensures.matches)
 
 pub match_end-end-requires : goal.match_end-end-requires
-match_end-end-requires c = one (goal.at.match_end-end-requires c).In-loop-i
+match_end-end-requires c = one (goal.at.match_end-end-requires c).In-loop
 
 pub put_row-q-requires : goal.put_row-q-requires
 put_row-q-requires c =
-    and_item c.requires.two_slots (c.loop-i.invariant.2 c.requires.two_slots) (omega (arith, c.requires.slot_below_2)) c.slot_matches-n.ensures c.loop-i-test.true
+    and_item c.requires.two_slots (c.loop.invariant.1 c.requires.two_slots) (omega (arith, c.requires.slot_below_2)) c.size_at-n.ensures.matches c.loop-test.true
 
-pub loop-i-preserved : goal.loop-i-preserved
-loop-i-preserved c =
+pub loop-preserved : goal.loop-preserved
+loop-preserved c =
     let u = c.requires.slot_below_2 in (
       search rules,
-      search rules,
-      λ w. and_step w (c.loop-i.invariant.2 w) (omega (arith, u)) c.slot_matches-n.ensures c.loop-i-test.true
-          (c.put_row-q.ensures (and_item w (c.loop-i.invariant.2 w) (omega (arith, u)) c.slot_matches-n.ensures c.loop-i-test.true)) c.match_end-end.ensures,
+      λ w. and_step w (c.loop.invariant.1 w) (omega (arith, u)) c.size_at-n.ensures.matches c.loop-test.true
+          (c.put_row-q.ensures (and_item w (c.loop.invariant.1 w) (omega (arith, u)) c.size_at-n.ensures.matches c.loop-test.true)) c.match_end-end.ensures,
     )
 
 pub returns : goal.returns
 returns c w =
-    filled (sym c.in-Made.is ∙ c.and_size-size.ensures w) (and_finish w (c.loop-i.invariant.2 w) c.loop-i-test.false) c.put_slot_header.ensures
+    filled (sym c.in_ok-size.was ∙ c.and_size.ensures w) (and_finish w (c.loop.invariant.1 w) c.loop-test.false) c.put_slot_header.ensures
