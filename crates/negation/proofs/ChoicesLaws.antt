@@ -11,9 +11,9 @@ use Rattle.model.specs.Choices.{choice}
 use Rattle.model.specs.Matches.{Match, strings_in}
 use Rattle.model.specs.Rules.{no_strings, not_list}
 use Rattle.model.proofs.RulesLaws.{length-not, not_at, strings-choice}
-use Rattle.store.specs.declared.Built.{Built}
-use Rattle.store.specs.declared.Built.TheVariants.{Made}
-use Rattle.store.specs.Built.{built_of}
+use Rattle.std.specs.Prelude.{Ok}
+use Rattle.store.specs.declared.Size.{Size}
+use Rattle.store.specs.Built.{Built, built_of}
 use Rattle.store.specs.Layout.{header_between, match_numbers, matches_numbers}
 use Rattle.store.specs.Outcome.{Outcome}
 use Rattle.store.specs.Indices.{ClosingMatch, SlotBelow}
@@ -122,9 +122,9 @@ module _ {mem₀ : List ℕ} {src total at : ℕ} (w : ChoicesAt mem₀ src tota
 
 -- ---- a not in its slot
 
-module _ {mem : List ℕ} {src at m s : ℕ} {size : Built} (w : SlotAt mem src) (u : SlotBelow (length mem) src at)
-    (e : size ≡ built_of (not_list w.list)) (t : size ≡ Made m s) where
-  pub all_of : ChoicesAt mem src m (at + 2)
+module _ {mem : List ℕ} {src at : ℕ} {built : Built} {size : Size} (w : SlotAt mem src) (u : SlotBelow (length mem) src at)
+    (e : built ≡ built_of (not_list w.list)) (t : built ≡ Ok size) where
+  pub all_of : ChoicesAt mem src size.matches (at + 2)
   all_of =
       let z = answer_made (not_list w.list) (sym t ∙ e) in
       record {
@@ -133,7 +133,7 @@ module _ {mem : List ℕ} {src at m s : ℕ} {size : Built} (w : SlotAt mem src)
         room = omega (arith, length_matches (not_list w.list), z.small.few, z.small.strs, u.room);
       }
 
-  pub made : {E exit : List ℕ} {next : ℕ} → Put mem E (at + 2) (matches_numbers (not_list all_of.list)) next → exit ≡ sets E at (m ∷ s ∷ [])
-      → Outcome (not_list w.list) mem exit at (Made m s)
+  pub made : {E exit : List ℕ} {next : ℕ} → Put mem E (at + 2) (matches_numbers (not_list all_of.list)) next → exit ≡ sets E at (size.matches ∷ size.strings ∷ [])
+      → Outcome (not_list w.list) mem exit at (Ok size)
   unfolding all_of
   made v f = filled (sym t ∙ e) v f

@@ -5,8 +5,7 @@ use Rattle.model.specs.Choices.{choices, turned_strings, choice}
 use Rattle.model.specs.Lists.{up_from}
 use Rattle.model.specs.Matches.{Str, Match, strings}
 use Rattle.model.specs.Rules.{no_strings, not_list}
-use Rattle.store.specs.declared.Built.TheVariants.{Made, TooLong}
-use Rattle.store.specs.Built.{built_of}
+use Rattle.store.specs.Built.{built_of, made, over}
 
 abbrev str : ℕ → Str
 str p = record { start = p; end = p; query = 1; contiguous = true }
@@ -36,10 +35,10 @@ unfolding not_list flat_map up_from choice choices turned_strings
 choices_of_two = refl
 
 -- of no matches; with a match without strings, whatever the others; with 256 choices of two strings, and with more matches or strings than the limits
-pub sizes : (built_of (not_list []) ≡ Made 1 0)
-    × (built_of (not_list (included 16 ∷ included 17 ∷ no_strings ∷ [])) ≡ Made 0 0)
-    × (built_of (not_list (included 16 ∷ included 16 ∷ [])) ≡ Made 256 512)
-    × (built_of (not_list (included 16 ∷ included 17 ∷ [])) ≡ TooLong)
-    × (built_of (not_list (included 5 ∷ included 5 ∷ included 7 ∷ [])) ≡ TooLong)
+pub sizes : (built_of (not_list []) ≡ made 1 0)
+    × (built_of (not_list (included 16 ∷ included 17 ∷ no_strings ∷ [])) ≡ made 0 0)
+    × (built_of (not_list (included 16 ∷ included 16 ∷ [])) ≡ made 256 512)
+    × (built_of (not_list (included 16 ∷ included 17 ∷ [])) ≡ over)
+    × (built_of (not_list (included 5 ∷ included 5 ∷ included 7 ∷ [])) ≡ over)
 unfolding not_list flat_map up_from strings
 sizes = (refl, refl, refl, refl, refl)

@@ -1,5 +1,5 @@
-// The choices from the list in the slot at src, of which there are `total`, written above it. A choice is written by two walks over the list, its includes
-// and then its excludes; each match's string is the next digit of the choice's number.
+// The choices from a list, written above it. A choice is written by two walks over the list, its includes and then its excludes; each match's string is the
+// next digit of the choice's number.
 ghost use Rattle.std.specs.Prelude.{◌+◌, get_or};
 ghost use Rattle.model.specs.Choices.{choice};
 ghost use Rattle.model.specs.Rules.{not_list};
@@ -8,64 +8,71 @@ ghost use Rattle.store.specs.Put.{Put};
 ghost use Rattle.negation.specs.Chosen.{ChoiceAt, ChoicesAt, SideAt, TurnAt};
 ghost use Rattle.negation.specs.Turned.{side_numbers, turned_numbers};
 
+use store::Header;
+
 // Writes the string at a turned to a sort (0: include, 1: exclude), if it is of the other. Like every function here, returns the index after what it wrote.
 fn put_turned(mem: &mut [u32], a: usize, sort: u32, q: usize) -> usize
     requires { TurnAt mem.old a sort q }
     ensures { Put mem.old mem.new q (turned_numbers sort (get_or mem.old a 0) (get_or mem.old (a + 1) 0)) result }
 {
+    let span = mem[a];
     let tag = mem[a + 1];
     if strings::sort_of(tag) == sort {
         return q;
     }
-    let span = mem[a];
     store::put_string(mem, q, span, strings::with_sort(tag, sort))
 }
 
-// Writes the strings of a sort of choice number c.
-fn put_side(mem: &mut [u32], src: usize, total: usize, c: usize, sort: u32, at: usize) -> usize
-    requires { SideAt mem.old src total c sort at }
-    ensures { (w : SideAt mem.old src total c sort at) →
-        Put mem.old mem.new at (side_numbers sort (choice w.list c)) result }
-{
-    let n = store::slot_matches(mem, src);
-    let mut from = src + store::FIRST_MATCH;
-    let mut q = at;
-    let mut rest = c;
-    let mut weight = total;
-    let mut i = 0;
-    while i < n {
-        let bounds = store::bounds_at(mem, from);
-        // how many choices there are from the matches after this one
-        weight /= store::strings_in(mem[from]);
-        q = put_turned(mem, bounds.includes + 2 * (rest / weight), sort, q);
-        rest %= weight;
-        from = bounds.end;
-        i += 1;
-    }
-    q
+// The choices from the list in the slot at src, so many.
+#[derive(Clone, Copy)]
+pub struct Choices {
+    pub src: usize,
+    pub total: usize,
 }
 
-// Writes choice number c.
-fn put_choice(mem: &mut [u32], src: usize, total: usize, c: usize, at: usize) -> usize
-    requires { ChoiceAt mem.old src total c at }
-    ensures { (w : ChoiceAt mem.old src total c at) → Put mem.old mem.new at (match_numbers (choice w.list c)) result }
-{
-    let excludes = put_side(mem, src, total, c, 0, at + store::FIRST_STRING);
-    let end = put_side(mem, src, total, c, 1, excludes);
-    store::close_match(mem, at, excludes, end);
-    end
-}
-
-// Writes all choices.
-pub fn put_choices(mem: &mut [u32], src: usize, total: usize, at: usize) -> usize
-    requires { ChoicesAt mem.old src total at }
-    ensures { (w : ChoicesAt mem.old src total at) → Put mem.old mem.new at (matches_numbers (not_list w.list)) result }
-{
-    let mut q = at;
-    let mut c = 0;
-    while c < total {
-        q = put_choice(mem, src, total, c, q);
-        c += 1;
+impl Choices {
+    // Writes the strings of a sort of choice number c.
+    fn put_side(self, mem: &mut [u32], c: usize, sort: u32, at: usize) -> usize
+        requires { SideAt mem.old self.src self.total c sort at }
+        ensures { (w : SideAt mem.old self.src self.total c sort at) → Put mem.old mem.new at (side_numbers sort (choice w.list c)) result }
+    {
+        let n = store::size_at(mem, self.src).matches;
+        let mut from = self.src + store::FIRST_MATCH;
+        let mut q = at;
+        let mut rest = c;
+        let mut weight = self.total;
+        for _ in 0..n {
+            let header = Header(mem[from]);
+            let bounds = header.bounds(from);
+            // how many choices there are from the matches after this one
+            weight /= header.strings();
+            q = put_turned(mem, bounds.includes + 2 * (rest / weight), sort, q);
+            rest %= weight;
+            from = bounds.end;
+        }
+        q
     }
-    q
+
+    // Writes choice number c.
+    fn put(self, mem: &mut [u32], c: usize, at: usize) -> usize
+        requires { ChoiceAt mem.old self.src self.total c at }
+        ensures { (w : ChoiceAt mem.old self.src self.total c at) → Put mem.old mem.new at (match_numbers (choice w.list c)) result }
+    {
+        let excludes = self.put_side(mem, c, 0, at + store::FIRST_STRING);
+        let end = self.put_side(mem, c, 1, excludes);
+        store::close_match(mem, at, excludes, end);
+        end
+    }
+
+    // Writes all choices.
+    pub fn put_all(self, mem: &mut [u32], at: usize) -> usize
+        requires { ChoicesAt mem.old self.src self.total at }
+        ensures { (w : ChoicesAt mem.old self.src self.total at) → Put mem.old mem.new at (matches_numbers (not_list w.list)) result }
+    {
+        let mut q = at;
+        for c in 0..self.total {
+            q = self.put(mem, c, q);
+        }
+        q
+    }
 }

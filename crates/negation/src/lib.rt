@@ -12,6 +12,7 @@ ghost use Rattle.store.specs.Outcome.{Outcome};
 ghost use Rattle.store.specs.Indices.{SlotBelow};
 ghost use Rattle.store.specs.Slot.{SlotAt};
 
+use choices::Choices;
 use store::Built;
 
 // Not: of the list in the slot at src, in the slot at `at` above it.
@@ -20,11 +21,12 @@ pub fn not_list(mem: &mut [u32], src: usize, at: usize) -> Built
     requires slot_below { SlotBelow (length mem.old) src at }
     ensures { (w : SlotAt mem.old src) → Outcome (not_list w.list) mem.old mem.new at result }
 {
-    let size = sizes::not_size(mem, src);
-    let Built::Made { matches, strings } = size else {
-        return size;
+    let size = sizes::not_size(mem, src)?;
+    let choices = Choices {
+        src,
+        total: size.matches as usize,
     };
-    choices::put_choices(mem, src, matches as usize, at + store::FIRST_MATCH);
-    store::put_slot_header(mem, at, matches, strings);
-    size
+    choices.put_all(mem, at + store::FIRST_MATCH);
+    store::put_slot_header(mem, at, size);
+    Ok(size)
 }

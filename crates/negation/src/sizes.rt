@@ -9,18 +9,17 @@ ghost use Rattle.store.specs.Slot.{SlotAt};
 ghost use Rattle.negation.specs.Sizes.{capped, ceiling};
 
 use model::MAX_MATCHES;
-use store::Built;
+use store::{Built, Header};
 
-// A product, or the first number above the limit of matches, 257, where it is above the limit.
+// The first number above the limit of matches, for every product that is above the limit.
+const CEILING: u32 = MAX_MATCHES + 1;
+
+// A product, or the ceiling where it is above the limit.
 fn product(total: u32, strings: u32) -> u32
     requires { (total ≤ ceiling) × (strings ≤ max_strings) }
     ensures { result ≡ capped (total * strings) }
 {
-    let exact = total * strings;
-    if exact <= MAX_MATCHES {
-        return exact;
-    }
-    MAX_MATCHES + 1
+    (total * strings).min(CEILING)
 }
 
 // The number of choices from the list in the slot at src, up to the ceiling.
@@ -28,15 +27,13 @@ fn count_choices(mem: &[u32], src: usize) -> u32
     requires { SlotAt mem.now src }
     ensures { (w : SlotAt mem.now src) → result ≡ capped (choices w.list) }
 {
-    let n = store::slot_matches(mem, src);
+    let n = store::size_at(mem, src).matches;
     let mut at = src + store::FIRST_MATCH;
     let mut total = 1;
-    let mut i = 0;
-    while i < n {
-        let header = mem[at];
-        total = product(total, store::strings_in(header) as u32);
-        at += store::match_length(header);
-        i += 1;
+    for _ in 0..n {
+        let header = Header(mem[at]);
+        total = product(total, header.strings() as u32);
+        at += header.length();
     }
     total
 }
@@ -47,5 +44,5 @@ pub fn not_size(mem: &[u32], src: usize) -> Built
     ensures { (w : SlotAt mem.now src) → result ≡ built_of (not_list w.list) }
 {
     let matches = count_choices(mem, src);
-    store::sized(matches, matches * store::slot_matches(mem, src))
+    store::sized(matches, matches * store::size_at(mem, src).matches)
 }

@@ -12,9 +12,9 @@ use Rattle.negation.proofs.sizes.not_size.Goals as goal
 pub overflow_mul-matches : goal.overflow_mul-matches
 overflow_mul-matches c =
     let capped : c.count_choices-matches.result ≤ ceiling = omega (arith, c.count_choices-matches.ensures c.requires) in
-    let few : c.slot_matches.result ≤ max_matches = omega (arith, c.slot_matches.ensures, c.requires.slot.header.few) in
+    let few : c.size_at.result.matches ≤ max_matches = omega (arith, c.size_at.ensures.matches, c.requires.slot.header.few) in
     omega (arith, mul-le-mul capped few)
 
 pub returns : goal.returns
 returns c w =
-    c.sized.ensures ∙ ap (λ n. sized_as c.count_choices-matches.result (c.count_choices-matches.result * n)) c.slot_matches.ensures ∙ not-sized w (c.count_choices-matches.ensures w)
+    c.sized.ensures ∙ ap (λ n. sized_as c.count_choices-matches.result (c.count_choices-matches.result * n)) c.size_at.ensures.matches ∙ not-sized w (c.count_choices-matches.ensures w)

@@ -1,6 +1,6 @@
 -- The includes and the excludes after them are the strings of the choice, one of each match, so that a header holds both counts.
 use Rattle.negation.proofs.ChoicesLaws.{first, second, ends, whole}
-use Rattle.negation.proofs.choices.put_choice.Goals as goal
+use Rattle.negation.proofs.choices.Choices.put.Goals as goal
 
 pub put_side-excludes-requires : goal.put_side-excludes-requires
 put_side-excludes-requires c = first c.requires
