@@ -11,7 +11,7 @@ ghost use Rattle.std.specs.Prelude.{◌≡◌};
 ghost use Rattle.store.specs.Built.{sized_as};
 
 pub use bounds::Bounds;
-pub use matches::{Header, bounds_at, close_match, match_end, put_string};
+pub use matches::{Header, bounds_at, close_match, match_end, put_string, string_at};
 use model::{MAX_MATCHES, MAX_STRINGS};
 pub use slots::{
     close_slot, copy_slot_down, count_one, is_yes, put_slot_header, size_at, slot_end,

@@ -8,6 +8,7 @@ ghost use Rattle.store.specs.Stream.{MatchHeader};
 use super::FIRST_STRING;
 use super::bounds::Bounds;
 use model::RADIX;
+use strings::Packed;
 
 // A match's header: how many includes and how many excludes it has, in one number.
 #[derive(Clone, Copy, PartialEq, Eq)]
@@ -82,13 +83,25 @@ pub fn match_end(mem: &[u32], at: usize) -> usize
     at + Header(mem[at]).length()
 }
 
-// Puts a string; gives the index after it.
-pub fn put_string(mem: &mut [u32], q: usize, span: u32, tag: u32) -> usize
-    requires { q + 2 ≤ length mem.old }
-    ensures { Put mem.old mem.new q (span ∷ tag ∷ []) result }
+// The string at an index.
+pub fn string_at(mem: &[u32], i: usize) -> Packed
+    requires { i + 2 ≤ length mem.now }
+    ensures span_value { result.span ≡ get_or mem.now i 0 }
+    ensures tag_value { result.tag ≡ get_or mem.now (i + 1) 0 }
 {
-    mem[q] = span;
-    mem[q + 1] = tag;
+    Packed {
+        span: mem[i],
+        tag: mem[i + 1],
+    }
+}
+
+// Puts a string; gives the index after it.
+pub fn put_string(mem: &mut [u32], q: usize, string: Packed) -> usize
+    requires { q + 2 ≤ length mem.old }
+    ensures { Put mem.old mem.new q (string.span ∷ string.tag ∷ []) result }
+{
+    mem[q] = string.span;
+    mem[q + 1] = string.tag;
     q + 2
 }
 
