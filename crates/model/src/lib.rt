@@ -51,7 +51,7 @@ pub struct Sentence(pub u32);
 pub struct Paragraph(pub u32);
 
 // A combination of the last two lists: kinds 2, 3 and 5.
-#[derive(Clone, Copy)]
+#[derive(Clone, Copy, PartialEq, Eq)]
 pub enum Pair {
     Or,
     And,
@@ -59,7 +59,7 @@ pub enum Pair {
 }
 
 // Kinds 6 to 15, window and distance with their numbers.
-#[derive(Clone, Copy)]
+#[derive(Clone, Copy, PartialEq, Eq)]
 pub enum Filter {
     Ordered,
     Window(u32),
@@ -74,14 +74,14 @@ pub enum Filter {
 }
 
 // F-3: how often a phrase occurs: kinds 16 and 17, with their numbers.
-#[derive(Clone, Copy)]
+#[derive(Clone, Copy, PartialEq, Eq)]
 pub enum Times {
     FromTo { least: u32, most: u32 },
     AtLeast(u32),
 }
 
 // One code of a selection.
-#[derive(Clone, Copy)]
+#[derive(Clone, Copy, PartialEq, Eq)]
 pub enum Code {
     // kind 0: a word of a phrase
     Word(u32),
