@@ -2,8 +2,9 @@
 
 #![tactic(auto)]
 
-ghost use Rattle.std.specs.Prelude.{◌≡◌};
-ghost use Rattle.model.specs.Checks.{number_of};
+ghost use Rattle.std.specs.Prelude.{◌≡◌, MatchOption, Ok, Err};
+ghost use Rattle.std.specs.Bool.{MatchBool};
+ghost use Rattle.model.specs.Checks.{number_of, refusal};
 
 // "A section is n (0 to 4,096)"
 pub const MAX_TOKENS: u32 = 4096;
@@ -143,6 +144,28 @@ impl From<Reason> for u32 {
 pub struct Refusal {
     pub reason: Reason,
     pub place: u32,
+}
+
+impl Reason {
+    // What a check answers that goes on where it finds no place, and refuses at the place that it finds.
+    pub fn refuse_at(self, found: Option<u32>) -> Result<(), Refusal>
+        ensures { MatchOption found (result ≡ Ok tt) (λ place. result ≡ Err (refusal self place)) }
+    {
+        match found {
+            None => Ok(()),
+            Some(place) => Err(Refusal {
+                reason: self,
+                place,
+            }),
+        }
+    }
+
+    // What a check answers that refuses the whole of what it is given, at place 0, unless it is right.
+    pub fn refuse_unless(self, right: bool) -> Result<(), Refusal>
+        ensures { MatchBool right (result ≡ Ok tt) (result ≡ Err (refusal self 0)) }
+    {
+        self.refuse_at((!right).then_some(0))
+    }
 }
 
 // What the full listing answers.
