@@ -1,10 +1,11 @@
 -- The join's numbers, gathered string by string: the least of the starts passed and the greatest of the ends passed stand for the strings passed.
-use Prim.Native.Nat.{ℕ, ◌-◌, ◌/◌, ◌%◌, ◌≤◌, ◌<◌, ◌^◌, min, max}
+use Prim.Native.Nat.{ℕ, ◌+◌, ◌-◌, ◌*◌, ◌<◌, ◌^◌, min, max}
 use native.Mathlib.Omega.{arith}
-use mathlib.Core.Bool.{Bool, true, false, ◌&&◌, and-true, and-false}
+use mathlib.Core.Bool.{Bool, false, ◌&&◌, and_comm, cond}
 use mathlib.Core.List.{List, [], ◌∷◌}
-use mathlib.Core.Path.{◌≡◌, refl, ap, sym, ◌∙◌}
-use lib.ListN.{length, drop, get_or}
+use mathlib.Core.Path.{◌≡◌, refl, ap, ap₂, sym, subst, ◌∙◌}
+use lib.ListN.{length, get_or}
+use Rattle.std.specs.List.{fold}
 use Rattle.model.specs.AllStrings.{AllStrs}
 use Rattle.model.specs.Answers.{span_of, tag_of}
 use Rattle.model.specs.Limits.{radix}
@@ -14,8 +15,10 @@ use Rattle.model.specs.Rules.{covered, least_start, greatest_end, join}
 use Rattle.model.proofs.EveryLaws.{every_weaker}
 use Rattle.model.proofs.RulesLaws.{greatest_end_bound, start-least_start}
 use Rattle.strings.specs.Strings.{str_of, strs_of, strs_at}
-use Rattle.strings.proofs.StringsLaws.{end-strs_at, str_at, strs_at-cons, strs_at-none}
-use Rattle.join.specs.Joined.{joined, zero_str}
+use Rattle.strings.proofs.StringsLaws.{end-strs_at}
+use Rattle.strings.specs.declared.packed.Packed.{Packed}
+use Rattle.strings.specs.declared.positions.Run.{Run}
+use Rattle.join.specs.Joined.{Extent, joined}
 
 -- a string of which only the start and the end are read
 abbrev pub from_to_lem : ℕ → ℕ → Str
@@ -27,11 +30,11 @@ from_to_lem a b = record { start = a; end = b; query = 0; contiguous = false }
 abbrev pub least_from : ℕ → List Str → ℕ
 least_from a ss = least_start (from_to_lem a 0) ss
 
--- the least start so far takes in one string more
-pub least_start-next : (a b : ℕ) (t : Str) (ts : List Str) → b ≡ min a t.start → least_from a (t ∷ ts) ≡ least_from b ts
+-- it takes in the strings one by one
+least_start-next : (a : ℕ) (t : Str) (ts : List Str) → least_from a (t ∷ ts) ≡ least_from (min a t.start) ts
 unfolding least_start
-least_start-next a b t [] e = sym e
-least_start-next a b t (u ∷ us) e = omega arith
+least_start-next a t [] = refl
+least_start-next a t (u ∷ us) = omega arith
 
 -- begun with a string, it comes to the least start of that string and the others
 least_start-from : (s : Str) (ss : List Str) → least_from s.start ss ≡ least_start s ss
@@ -45,11 +48,11 @@ least_start-from s (t ∷ ts) = refl
 abbrev pub greatest_from : ℕ → List Str → ℕ
 greatest_from a ss = greatest_end (from_to_lem 0 a) ss
 
--- the greatest end so far takes in one string more
-pub greatest_end-next : (a b : ℕ) (t : Str) (ts : List Str) → b ≡ max a t.end → greatest_from a (t ∷ ts) ≡ greatest_from b ts
+-- it takes in the strings one by one
+greatest_end-next : (a : ℕ) (t : Str) (ts : List Str) → greatest_from a (t ∷ ts) ≡ greatest_from (max a t.end) ts
 unfolding greatest_end
-greatest_end-next a b t [] e = sym e
-greatest_end-next a b t (u ∷ us) e = omega arith
+greatest_end-next a t [] = refl
+greatest_end-next a t (u ∷ us) = omega arith
 
 -- begun with a string, it comes to the greatest end of that string and the others
 greatest_end-from : (s : Str) (ss : List Str) → greatest_from s.end ss ≡ greatest_end s ss
@@ -57,44 +60,39 @@ unfolding greatest_end
 greatest_end-from s [] = refl
 greatest_end-from s (t ∷ ts) = refl
 
--- ---- joined
+-- ---- the extent
 
--- of a slice without a string
-pub joined-none : (l : List ℕ) → length l ≤ 1 → joined (strs_at l) ≡ zero_str
+-- a start and an end, with those of a string
+abbrev pub spread : ℕ × ℕ → Str → ℕ × ℕ
+spread p s = (min p.0 s.start, max p.1 s.end)
+
+fold-spread : (a b : ℕ) (ss : List Str) → fold spread (a, b) ss ≡ (least_from a ss, greatest_from b ss)
+unfolding least_start greatest_end
+fold-spread a b [] = refl
+fold-spread a b (s ∷ ss) = fold-spread (min a s.start) (max b s.end) ss ∙ sym (ap₂ (λ (x y : ℕ). (x, y)) (least_start-next a s ss) (greatest_end-next b s ss))
+
+has-first : (s : Str) (ss : List Str) → s ∷ ss ≡ [] → ⊥
+has-first s ss n = cc
+
+-- gathered from the first string on
+pub extent-spread : (s : Str) (ss : List Str) {all : List Str} {run : Run} → all ≡ s ∷ ss → (run.lo.0, run.hi.0) ≡ fold spread (s.start, s.end) ss → Extent all run
 unfolding joined join
-joined-none l h = ap joined (strs_at-none l 0 h)
+extent-spread s ss {all} {run} e f =
+    let g : (run.lo.0, run.hi.0) ≡ (least_from s.start ss, greatest_from s.end ss) = f ∙ fold-spread s.start s.end ss in
+    subst (λ ys. Extent ys run) (sym e) (record {
+      some = has-first s ss;
+      lo_value = ap (λ p. p.0) g ∙ least_start-from s ss;
+      hi_value = ap (λ p. p.1) g ∙ greatest_end-from s ss;
+    })
 
--- of a slice with strings, gathered from its first one on
-module _ (l : List ℕ) (h : 1 < length l) where
-  first : {A : Type 0} (f : Str → A) → f (joined (str_at l 0 ∷ strs_at (drop 2 l))) ≡ f (joined (strs_at l))
-  first f = ap (λ ss. f (joined ss)) (sym (strs_at-cons l 0 h))
-
-  pub start-joined : (a : ℕ) → a ≡ get_or l 0 0 / radix → least_from a (strs_at (drop 2 l)) ≡ (joined (strs_at l)).start
-  unfolding joined join
-  start-joined a e = ap (λ k. least_from k (strs_at (drop 2 l))) e ∙ least_start-from (str_at l 0) (strs_at (drop 2 l)) ∙ first (λ t. t.start)
-
-  pub end-joined : (a : ℕ) → a ≡ get_or l 0 0 % radix → greatest_from a (strs_at (drop 2 l)) ≡ (joined (strs_at l)).end
-  unfolding joined join
-  end-joined a e = ap (λ k. greatest_from k (strs_at (drop 2 l))) e ∙ greatest_end-from (str_at l 0) (strs_at (drop 2 l)) ∙ first (λ t. t.end)
-
-  pub query-joined : get_or l 1 0 / 4 ≡ (joined (strs_at l)).query
-  unfolding joined join
-  query-joined = first (λ t. t.query)
+-- ---- joined
 
 -- "contiguous if every position in it is covered and all were contiguous"; of no strings position 0 isn't covered
 contiguous-joined : (ss : List Str)
-    → (joined ss).contiguous ≡ (all_of (covered ss) (from_to (joined ss).start (joined ss).end) && all_of (λ t. t.contiguous) ss)
+    → (all_of (λ t. t.contiguous) ss && all_of (covered ss) (from_to (joined ss).start (joined ss).end)) ≡ (joined ss).contiguous
 unfolding joined join all_of any_of from_to up_from
 contiguous-joined [] = refl
-contiguous-joined (s ∷ ss) = refl
-
-module _ (ss : List Str) where
-  pub contiguous_broken : all_of (λ t. t.contiguous) ss ≡ false → false ≡ (joined ss).contiguous
-  contiguous_broken f = rw (contiguous-joined ss, f, and-false)
-
-  pub contiguous_run : all_of (λ t. t.contiguous) ss ≡ true → (a b : ℕ) → a ≡ (joined ss).start → b ≡ (joined ss).end
-      → (r : Bool) → r ≡ all_of (covered ss) (from_to a b) → r ≡ (joined ss).contiguous
-  contiguous_run f a b p q r g = rw (contiguous-joined ss, f, and-true, g, p, q)
+contiguous-joined (s ∷ ss) = and_comm (all_of (λ t. t.contiguous) (s ∷ ss)) (all_of (covered (s ∷ ss)) (from_to (joined (s ∷ ss)).start (joined (s ∷ ss)).end))
 
 -- its start and end are halves of numbers
 pub start_bound : (l : List ℕ) → get_or l 0 0 < 2 ^ 32 → (joined (strs_at l)).start < radix
@@ -120,3 +118,16 @@ join-some (s ∷ ss) h = refl
 pub strs_of-join : (ss : List Str) → (length ss ≡ 0 → ⊥) → strs_of 0 (join ss) ≡ span_of (joined ss) ∷ tag_of 0 (joined ss) ∷ []
 unfolding strs_of
 strs_of-join ss h = ap (strs_of 0) (join-some ss h)
+
+first-query : (s : Str) (ss : List Str) → (joined (s ∷ ss)).query ≡ s.query
+unfolding joined join
+first-query s ss = refl
+
+-- the numbers of the join, from those of its positions and of the first string
+pub join-numbers : (s : Str) (rest : List Str) (ss : List Str) (run : Run) (contiguous : Bool) (p : Packed) → Extent ss run → ss ≡ s ∷ rest
+    → contiguous ≡ (all_of (λ t. t.contiguous) ss && all_of (covered ss) (from_to run.lo.0 run.hi.0)) → p.span ≡ run.lo.0 * radix + run.hi.0
+    → p.tag ≡ s.query * 4 + cond contiguous 2 0 + 0 → strs_of 0 (join ss) ≡ p.span ∷ p.tag ∷ []
+join-numbers s rest ss run contiguous p x e c f g =
+    let mark : contiguous ≡ (joined ss).contiguous = c ∙ rw (x.lo_value, x.hi_value) (contiguous-joined ss) in
+    let query : (joined ss).query ≡ s.query = rw e (first-query s rest) in
+    strs_of-join ss (λ n. absurd (omega (arith, rw e at n))) ∙ ap₂ (λ (a b : ℕ). a ∷ b ∷ []) (sym (rw (← x.lo_value, ← x.hi_value) f)) (sym (rw (query, ← mark) g))

@@ -1,45 +1,23 @@
-// The join of the strings of a slice, as the two numbers of one string. Of no strings it is the string of zeros (`joined`).
+// The join of the strings of a slice, if it has any.
 
 #![tactic(auto)]
 
-ghost use Rattle.std.specs.Prelude.{◌≡◌};
-ghost use Rattle.model.specs.Answers.{span_of, tag_of};
-ghost use Rattle.model.specs.Lists.{all_of};
-ghost use Rattle.join.specs.Joined.{joined};
-ghost use Rattle.strings.specs.Strings.{strs_at};
+ghost use Rattle.std.specs.Prelude.{MatchOption, [], ◌∷◌, ◌≡◌, ◌&&◌};
+ghost use Rattle.model.specs.Lists.{all_of, from_to};
+ghost use Rattle.model.specs.Rules.{covered, join};
+ghost use Rattle.join.specs.Joined.{Extent};
+ghost use Rattle.strings.specs.Strings.{strs_at, strs_of};
 
-use model::Position;
-use strings::covering::run_covered;
-use strings::positions::{earlier, later};
-use strings::{end_of, strings_in, query_of, span_of, start_of, tag_of};
-
-// Where strings begin and where they end.
-#[derive(Clone, Copy)]
-pub struct Extent {
-    pub start: Position,
-    pub end: Position,
-}
+use strings::covering::{Chosen, run_covered};
+use strings::{Packed, Run, Sort, strings_in};
 
 // "from least start to greatest end"
-pub fn extent_of(strs: &[u32]) -> Extent
-    ensures start_value { result.start.0 ≡ (joined (strs_at strs.now)).start }
-    ensures end_value { result.end.0 ≡ (joined (strs_at strs.now)).end }
+pub fn extent_of(strs: &[u32]) -> Option<Run>
+    ensures { MatchOption result (strs_at strs.now ≡ []) (Extent (strs_at strs.now)) }
 {
-    if strs.len() < 2 {
-        return Extent {
-            start: Position(0),
-            end: Position(0),
-        };
-    }
-    let mut start = start_of(strs[0]);
-    let mut end = end_of(strs[0]);
-    let mut i = 2;
-    while i + 1 < strs.len() {
-        start = earlier(start, start_of(strs[i]));
-        end = later(end, end_of(strs[i]));
-        i += 2;
-    }
-    Extent { start, end }
+    let mut rest = strings_in(strs);
+    let first = rest.next()?;
+    Some(rest.fold(first.run(), |run, s| run.joined(s.run())))
 }
 
 // "all were contiguous"
@@ -49,31 +27,24 @@ pub fn all_contiguous(strs: &[u32]) -> bool
     strings_in(strs).all(|s| s.is_contiguous())
 }
 
-// The span of the join: "one include from least start to greatest end".
-pub fn join_span(strs: &[u32]) -> u32
-    ensures { result ≡ span_of (joined (strs_at strs.now)) }
-{
-    let extent = extent_of(strs);
-    span_of(extent.start, extent.end)
-}
-
 // "contiguous if every position in it is covered and all were contiguous"
-fn joins_contiguous(strs: &[u32]) -> bool
-    ensures { result ≡ (joined (strs_at strs.now)).contiguous }
+fn joins_contiguous(strs: &[u32], run: Run) -> bool
+    ensures { result ≡ (all_of (λ t. t.contiguous) (strs_at strs.now) && all_of (covered (strs_at strs.now)) (from_to run.lo.0 run.hi.0)) }
 {
-    if !all_contiguous(strs) {
-        return false;
-    }
-    let extent = extent_of(strs);
-    run_covered(strs, extent.start, extent.end, false)
+    all_contiguous(strs) && run_covered(strs, run, Chosen::All)
 }
 
-// The tag of the join, an include's: "with the first include's query position".
-pub fn join_tag(strs: &[u32]) -> u32
-    ensures { result ≡ tag_of 0 (joined (strs_at strs.now)) }
+#[tactic(auto, unfolding(model::specs::Rules::join))]
+// "no includes give none. Otherwise one include from least start to greatest end, with the first include's query position"
+pub fn join(strs: &[u32]) -> Option<Packed>
+    ensures { MatchOption result (join (strs_at strs.now) ≡ []) (λ s. strs_of 0 (join (strs_at strs.now)) ≡ s.span ∷ s.tag ∷ []) }
 {
-    if strs.len() < 2 {
-        return 0;
-    }
-    tag_of(query_of(strs[1]), joins_contiguous(strs), 0)
+    let run = extent_of(strs)?;
+    let first = strings_in(strs).next()?;
+    Some(Packed::new(
+        run,
+        first.query(),
+        joins_contiguous(strs, run),
+        Sort::Include,
+    ))
 }

@@ -20,7 +20,7 @@ pub enum Chosen {
 fn covers(s: Packed, p: Position) -> bool
     ensures { result ≡ covers (str_packed s) p.0 }
 {
-    s.start() <= p && p <= s.end()
+    s.run().has(p)
 }
 
 // Does a string have a position of the run?

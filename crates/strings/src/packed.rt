@@ -52,6 +52,17 @@ impl Packed {
         end_of(self.span)
     }
 
+    // The positions that it covers.
+    pub fn run(self) -> Run
+        ensures lo_value { result.lo.0 ≡ (str_packed self).start }
+        ensures hi_value { result.hi.0 ≡ (str_packed self).end }
+    {
+        Run {
+            lo: self.start(),
+            hi: self.end(),
+        }
+    }
+
     // Its query position.
     pub fn query(self) -> u32
         ensures { result ≡ (str_packed self).query }

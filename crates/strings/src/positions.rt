@@ -17,6 +17,17 @@ impl Run {
     {
         self.lo <= p && p <= self.hi
     }
+
+    // The run that takes in both, and what is between them.
+    pub fn joined(self, other: Run) -> Run
+        ensures lo_value { result.lo.0 ≡ min self.lo.0 other.lo.0 }
+        ensures hi_value { result.hi.0 ≡ max self.hi.0 other.hi.0 }
+    {
+        Run {
+            lo: self.lo.min(other.lo),
+            hi: self.hi.max(other.hi),
+        }
+    }
 }
 
 // The earlier of two positions.

@@ -1,29 +1,11 @@
-use Prim.Native.Nat.{min, max}
-use native.Mathlib.Omega.{arith}
-use mathlib.Core.Path.{refl, ap, sym, ◌∙◌}
-use Rattle.model.specs.Rules.{least_start, greatest_end}
-use Rattle.join.proofs.JoinLaws.{least_start-next, greatest_end-next, joined-none, start-joined, end-joined}
-use Rattle.strings.proofs.StringsLaws.{left-next, left-none}
+use Rattle.std.proofs.Common.{rules, refl, sym, ap₂, ◌∙◌}
+use Rattle.std.specs.List.{fold}
+use Rattle.strings.proofs.PackedLaws.{fold_strs}
+use Rattle.join.proofs.JoinLaws.{spread, extent-spread}
 use Rattle.join.proofs.extent_of.Goals as goal
 
-pub returns-then-strs-lt2 : goal.returns-then-strs-lt2
-returns-then-strs-lt2 c =
-    let none = sym (joined-none c.args.strs.now (omega arith)) in
-    record { start_value = ap (λ s. s.start) none; end_value = ap (λ s. s.end) none }
-
-pub loop-i-init : goal.loop-i-init
-loop-i-init c = (record { bounded = omega arith; same = refl }, record { bounded = omega arith; same = refl })
-
-pub loop-i-preserved : goal.loop-i-preserved
-loop-i-preserved c =
-    let more = c.loop-i-test.true in
-    let least = c.earlier-start.ensures ∙ ap (min c.loop-i.start.0) c.start_of.ensures in
-    let greatest = c.later-end.ensures ∙ ap (max c.loop-i.end.0) c.end_of.ensures in
-    (left-next c.loop-i.invariant.0 more _ (least_start-next _ _ _ _ least), left-next c.loop-i.invariant.1 more _ (greatest_end-next _ _ _ _ greatest))
-
 pub returns : goal.returns
-unfolding least_start greatest_end
 returns c =
-    let l = c.args.strs.now in
-    let left = c.loop-i-test.false in
-    record { start_value = left-none c.loop-i.invariant.0 left ∙ start-joined l (omega arith) _ c.start_of-start.ensures; end_value = left-none c.loop-i.invariant.1 left ∙ end-joined l (omega arith) _ c.end_of-end.ensures }
+    let gathered = fold_strs (λ run. (run.lo.0, run.hi.0)) spread _ _ c.fold.ensures.ran refl (λ a x b q k. search rules) in
+    extent-spread _ _ (sym c.strings_in-rest.ensures ∙ c.in_ok-first.ensures.steps)
+    (gathered ∙ ap₂ (λ a b. fold spread (a, b) c.next.new.self) c.run.ensures.lo_value c.run.ensures.hi_value)
