@@ -2,8 +2,12 @@
 -- numbers after its header.
 use Prim.Native.Nat.{ℕ, zero, suc, ◌+◌, ◌*◌, ◌/◌, ◌%◌, ◌≤◌, ◌<◌}
 use native.Mathlib.Omega.{arith}
-use mathlib.Core.Path.{◌≡◌, sym, ap, ap₂, ◌∙◌, subst}
-use mathlib.Core.Bool.{Bool, true, false, cond}
+use mathlib.Core.Path.{◌≡◌, refl, sym, ap, ap₂, ◌∙◌, subst}
+use mathlib.Core.Bool.{Bool, true, false, cond, true≢false}
+use denote.Enum.Bare.{sameb}
+use Rattle.strings.specs.contracts.packed.Sort.{the_type}
+use Rattle.strings.specs.declared.packed.Sort.{Sort}
+use Rattle.strings.specs.declared.packed.Sort.TheVariants.{Include, Exclude}
 use mathlib.Core.List.{List, [], ◌∷◌, ◌++◌, map}
 use borrow.Author.Tests.{eq-eqb, ne_eqb}
 use lib.ListN.{length, get_or, length-append}
@@ -11,7 +15,7 @@ use Rattle.model.specs.Answers.{span_of, tag_of}
 use Rattle.model.specs.Choices.{turned_strings}
 use Rattle.model.specs.Matches.{Str, Match, strings_in}
 use Rattle.model.specs.Rules.{no_strings, with_include, with_exclude}
-use Rattle.strings.specs.Strings.{strs_of}
+use Rattle.strings.specs.Strings.{number_of_sort, strs_of}
 use Rattle.strings.proofs.StringsLaws.{tag-turned}
 use Rattle.store.specs.Put.{Put}
 use Rattle.store.specs.Stream.{MatchHolds}
@@ -33,6 +37,20 @@ module _ (sort span tag : ℕ) where
   unfolding turned_numbers
   turned-some h = rw (ne_eqb (tag % 2) sort h)
 
+-- ---- sorts
+
+pub same_sort : (a b : Sort) → true ≡ sameb the_type a b → number_of_sort a ≡ number_of_sort b
+same_sort Include Include e = refl
+same_sort Include Exclude e = absurd (true≢false e)
+same_sort Exclude Include e = absurd (true≢false e)
+same_sort Exclude Exclude e = refl
+
+pub other_sort : (a b : Sort) → false ≡ sameb the_type a b → number_of_sort a ≡ number_of_sort b → ⊥
+other_sort Include Include e h = absurd (true≢false (sym e))
+other_sort Include Exclude e h = omega arith
+other_sort Exclude Include e h = omega arith
+other_sort Exclude Exclude e h = absurd (true≢false (sym e))
+
 -- ---- a string written again
 
 module _ (mem : List ℕ) (a sort q : ℕ) where
@@ -43,10 +61,10 @@ module _ (mem : List ℕ) (a sort q : ℕ) where
     pub roomy : TurnAt mem a sort q → q + 2 ≤ length mem
     roomy w = rw (turned-some sort (get_or mem a 0) (get_or mem (a + 1) 0) h) at w.room
 
-    pub turns : {exit : List ℕ} {tag next : ℕ} → tag ≡ get_or mem (a + 1) 0 / 2 * 2 + sort → Put mem exit q (get_or mem a 0 ∷ tag ∷ []) next
+    pub turns : {exit : List ℕ} {span tag next : ℕ} → span ≡ get_or mem a 0 → tag ≡ get_or mem (a + 1) 0 / 2 * 2 + sort → Put mem exit q (span ∷ tag ∷ []) next
         → Put mem exit q (turned_numbers sort (get_or mem a 0) (get_or mem (a + 1) 0)) next
-    turns {exit} {next = next} e v =
-        subst (λ xs. Put mem exit q xs next) (ap (λ t. get_or mem a 0 ∷ t ∷ []) e ∙ sym (turned-some sort (get_or mem a 0) (get_or mem (a + 1) 0) h)) v
+    turns {exit} {next = next} e f v =
+        subst (λ xs. Put mem exit q xs next) (ap₂ (λ s t. s ∷ t ∷ []) e f ∙ sym (turned-some sort (get_or mem a 0) (get_or mem (a + 1) 0) h)) v
 
 -- ---- the strings of a match
 

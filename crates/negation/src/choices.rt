@@ -3,24 +3,25 @@
 ghost use Rattle.std.specs.Prelude.{◌+◌, get_or};
 ghost use Rattle.model.specs.Choices.{choice};
 ghost use Rattle.model.specs.Rules.{not_list};
+ghost use Rattle.strings.specs.Strings.{number_of_sort};
 ghost use Rattle.store.specs.Layout.{match_numbers, matches_numbers};
 ghost use Rattle.store.specs.Put.{Put};
 ghost use Rattle.negation.specs.Chosen.{ChoiceAt, ChoicesAt, SideAt, TurnAt};
 ghost use Rattle.negation.specs.Turned.{side_numbers, turned_numbers};
 
 use store::Header;
+use strings::Sort;
 
-// Writes the string at a turned to a sort (0: include, 1: exclude), if it is of the other. Like every function here, returns the index after what it wrote.
-fn put_turned(mem: &mut [u32], a: usize, sort: u32, q: usize) -> usize
-    requires { TurnAt mem.old a sort q }
-    ensures { Put mem.old mem.new q (turned_numbers sort (get_or mem.old a 0) (get_or mem.old (a + 1) 0)) result }
+// Writes the string at a turned to a sort, if it is of the other. Like every function here, returns the index after what it wrote.
+fn put_turned(mem: &mut [u32], a: usize, sort: Sort, q: usize) -> usize
+    requires { TurnAt mem.old a (number_of_sort sort) q }
+    ensures { Put mem.old mem.new q (turned_numbers (number_of_sort sort) (get_or mem.old a 0) (get_or mem.old (a + 1) 0)) result }
 {
-    let span = mem[a];
-    let tag = mem[a + 1];
-    if strings::sort_of(tag) == sort {
+    let string = store::string_at(mem, a);
+    if string.sort() == sort {
         return q;
     }
-    store::put_string(mem, q, span, strings::with_sort(tag, sort))
+    store::put_string(mem, q, string.with_sort(sort))
 }
 
 // The choices from the list in the slot at src, so many.
@@ -32,9 +33,10 @@ pub struct Choices {
 
 impl Choices {
     // Writes the strings of a sort of choice number c.
-    fn put_side(self, mem: &mut [u32], c: usize, sort: u32, at: usize) -> usize
-        requires { SideAt mem.old self.src self.total c sort at }
-        ensures { (w : SideAt mem.old self.src self.total c sort at) → Put mem.old mem.new at (side_numbers sort (choice w.list c)) result }
+    fn put_side(self, mem: &mut [u32], c: usize, sort: Sort, at: usize) -> usize
+        requires { SideAt mem.old self.src self.total c (number_of_sort sort) at }
+        ensures { (w : SideAt mem.old self.src self.total c (number_of_sort sort) at) →
+            Put mem.old mem.new at (side_numbers (number_of_sort sort) (choice w.list c)) result }
     {
         let n = store::size_at(mem, self.src).matches;
         let mut from = self.src + store::FIRST_MATCH;
@@ -58,8 +60,8 @@ impl Choices {
         requires { ChoiceAt mem.old self.src self.total c at }
         ensures { (w : ChoiceAt mem.old self.src self.total c at) → Put mem.old mem.new at (match_numbers (choice w.list c)) result }
     {
-        let excludes = self.put_side(mem, c, 0, at + store::FIRST_STRING);
-        let end = self.put_side(mem, c, 1, excludes);
+        let excludes = self.put_side(mem, c, Sort::Include, at + store::FIRST_STRING);
+        let end = self.put_side(mem, c, Sort::Exclude, excludes);
         store::close_match(mem, at, excludes, end);
         end
     }

@@ -1,6 +1,7 @@
 use native.Mathlib.Omega.{arith}
 use mathlib.Core.Path.{refl}
 use Rattle.store.specs.Stream.{MatchHeader}
+use Rattle.strings.specs.Strings.{number_of_sort}
 use Rattle.negation.proofs.SideLaws.{Turn, start, here, turn, step, finish}
 use borrow.Author.Rules.{rules}
 use Rattle.negation.proofs.choices.Choices.put_side.Goals as goal
@@ -11,7 +12,7 @@ one : (c : In-loop) → MatchHeader c.loop.mem c.loop.from
 one c = (here (c.loop.invariant.1 c.requires) c.loop-test.true).held.header
 
 here-turn : (c : After-strings-weight)
-    → Turn c.loop.mem c.args.sort c.bounds-bounds.result.includes c.loop.q c.loop.rest c.loop.weight c.strings-weight.result
+    → Turn c.loop.mem (number_of_sort c.args.sort) c.bounds-bounds.result.includes c.loop.q c.loop.rest c.loop.weight c.strings-weight.result
 here-turn c = turn (c.loop.invariant.1 c.requires) c.loop-test.true c.bounds-bounds.ensures c.strings-weight.ensures
 
 pub loop-init : goal.loop-init
