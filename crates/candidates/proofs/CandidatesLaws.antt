@@ -15,14 +15,14 @@ use Rattle.store.specs.Layout.{slot_length, slot_size}
 use Rattle.store.specs.Put.{Put}
 use Rattle.store.specs.Slot.{SlotHolds}
 use Rattle.store.specs.Stream.{Remaining}
-use Rattle.store.proofs.SlotsLaws.{slot-stream}
 use Rattle.store.proofs.StreamLaws.{remaining_below}
 use Rattle.strings.specs.Covering.{overlaps}
 use Rattle.candidates.specs.declared.Candidates.{Candidates}
-use Rattle.candidates.specs.declared.edges.Range.{Range}
+use Rattle.strings.specs.declared.positions.Run.{Run}
+use Rattle.std.specs.Prelude.{Option, None, Some}
 use Rattle.candidates.specs.declared.edges.Ranges.{Ranges}
 use Rattle.candidates.specs.Edges.{Within}
-use Rattle.candidates.specs.Candidates.{CandidatesAre}
+use Rattle.candidates.specs.Candidates.{CandidatesAre, KnownAre}
 use Rattle.candidates.specs.Overlapping.{overlap_both, any_in_range}
 use Rattle.candidates.specs.Passing.{from_first, up_to_last}
 use Rattle.candidates.proofs.UncoveredLaws.{uncovered-at}
@@ -30,14 +30,14 @@ use Rattle.candidates.proofs.PassingLaws.{all_from_first, all_up_to_last, length
 
 -- ---- any_in_range
 
-covers-overlaps : (range : Range) (p : ℕ) → Within range p → (s : Str) → covers s p ≡ true → overlaps range.lo.0 range.hi.0 s ≡ true
+covers-overlaps : (range : Run) (p : ℕ) → Within range p → (s : Str) → covers s p ≡ true → overlaps range.lo.0 range.hi.0 s ≡ true
 covers-overlaps range p w s e =
     let both = both_true (leb s.start p) (leb p s.end) e in
     let a = leb-true s.start p both.0 in
     let b = leb-true p s.end both.1 in
     and-join (le-leb s.start range.hi.0 (omega arith)) (le-leb range.lo.0 s.end (omega arith))
 
-covered-overlaps : (range : Range) (p : ℕ) → Within range p → (ss : List Str) → covered ss p ≡ true → any_in_range range ss ≡ true
+covered-overlaps : (range : Run) (p : ℕ) → Within range p → (ss : List Str) → covered ss p ≡ true → any_in_range range ss ≡ true
 unfolding any_of
 covered-overlaps range p w [] e = false-true e
 covered-overlaps range p w (s ∷ ss) e = at (covers s p) refl e (covered-overlaps range p w ss)
@@ -47,7 +47,7 @@ covered-overlaps range p w (s ∷ ss) e = at (covers s p) refl e (covered-overla
     at false c e later = rw (later e) (or-true (overlaps range.lo.0 range.hi.0 s))
 
 -- what has no position in the range isn't covered
-apart-uncovered : (range : Range) (p : ℕ) → Within range p → (ss : List Str) → any_in_range range ss ≡ false → covered ss p ≡ false
+apart-uncovered : (range : Run) (p : ℕ) → Within range p → (ss : List Str) → any_in_range range ss ≡ false → covered ss p ≡ false
 apart-uncovered range p w ss e = at (covered ss p) refl
   where
     at : (b : Bool) → covered ss p ≡ b → b ≡ false
@@ -75,16 +75,6 @@ module _ (l : Match) (p q : ℕ) (e : covered l.includes p ≡ true) (f : covere
 -- ---- the part of R
 
 module _ {mem : List ℕ} {r : ℕ} {rights : List Match} (slot : SlotHolds mem r rights) where
-  -- R whole
-  pub candidates_all : {candidates : Candidates} → candidates.from ≡ r + 2 → candidates.end ≡ r + slot_length mem r → CandidatesAre rights mem r candidates
-  candidates_all {candidates} e f =
-      record {
-        part = rights;
-        stream = slot-stream slot candidates.from candidates.end e f;
-        within = omega (arith, f, slot.header);
-        same = λ p q v w l c d. refl;
-      }
-
   -- from the first match on that overlaps both ranges up to the last one
   pub candidates-part : {ranges : Ranges} {stop from end : ℕ} → stop ≡ r + slot_length mem r → Remaining (from_first (overlap_both ranges) rights) mem from stop
       → Remaining (up_to_last (overlap_both ranges) (from_first (overlap_both ranges) rights)) mem from end → CandidatesAre rights mem r (record { ranges = ranges; from = from; end = end })
@@ -100,9 +90,10 @@ module _ {mem : List ℕ} {r : ℕ} {rights : List Match} (slot : SlotHolds mem 
       }
 
 -- stores above R leave the part
-pub candidates-below : {mem mem' : List ℕ} {q next : ℕ} {xs : List ℕ} {r : ℕ} {rights : List Match} {candidates : Candidates} → Put mem mem' q xs next → r + slot_size ≤ q
-    → CandidatesAre rights mem r candidates → CandidatesAre rights mem' r candidates
-candidates-below v h n =
+pub known-below : {mem mem' : List ℕ} {q next : ℕ} {xs : List ℕ} → Put mem mem' q xs next → (r : ℕ) → r + slot_size ≤ q → (rights : List Match) (known : Option Candidates)
+    → KnownAre rights mem r known → KnownAre rights mem' r known
+known-below v r h rights None n = tt
+known-below v r h rights (Some candidates) n =
     record {
       part = n.part;
       stream = remaining_below v (omega (arith, n.within)) n.stream;

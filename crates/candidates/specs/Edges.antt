@@ -1,11 +1,10 @@
 -- The edges of a match of L, and the ranges of the edges of several.
-use Rattle.std.specs.Prelude.{ℕ, ◌≤◌, Bool, ◌&&◌, cond, List, [], ◌∷◌, leb, ltb}
-use Rattle.model.specs.Lists.{is_empty}
+use Rattle.std.specs.Prelude.{ℕ, ◌≤◌, min, max, Bool, ◌&&◌, List, [], ◌∷◌, leb, Option, None, Some}
 use Rattle.model.specs.Matches.{Str, Match}
 use Rattle.model.specs.declared.Position.{Position}
 use Rattle.store.specs.Stream.{MatchHolds}
 use Rattle.candidates.specs.declared.edges.Edges.{Edges}
-use Rattle.candidates.specs.declared.edges.Range.{Range}
+use Rattle.strings.specs.declared.positions.Run.{Run}
 use Rattle.candidates.specs.declared.edges.Ranges.{Ranges}
 
 abbrev pub position : ℕ → Position
@@ -17,22 +16,20 @@ unfoldable pub last_of : Str → List Str → Str
 last_of s [] = s
 last_of s (t ∷ ts) = last_of t ts
 
--- the start of the first string and the end of the last one; of no strings position 0, which is none
-abbrev pub edges_of : List Str → Edges
-edges_of [] = record { start = position 0; end = position 0 }
-edges_of (s ∷ ss) = record { start = position s.start; end = position (last_of s ss).end }
+-- the start of the first string and the end of the last one, if there are any
+abbrev pub edges_of : List Str → Option Edges
+edges_of [] = None
+edges_of (s ∷ ss) = Some (record { start = position s.start; end = position (last_of s ss).end })
 
 -- ---- ranges
 
-abbrev pub is_within : Range → ℕ → Bool
-is_within range p = leb range.lo.0 p && leb p range.hi.0
-
 abbrev pub contain : Ranges → Edges → Bool
-contain ranges edges = is_within ranges.start edges.start.0 && is_within ranges.end edges.end.0
+contain ranges edges =
+    (leb ranges.start.lo.0 edges.start.0 && leb edges.start.0 ranges.start.hi.0) && (leb ranges.end.lo.0 edges.end.0 && leb edges.end.0 ranges.end.hi.0)
 
 -- .. as numbers
-abbrev pub Within : Range → ℕ → Type 0
-Within range p = (range.lo.0 ≤ p) × (p ≤ range.hi.0)
+abbrev pub Within : Run → ℕ → Type 0
+Within run p = (run.lo.0 ≤ p) × (p ≤ run.hi.0)
 
 abbrev pub Contains : Ranges → Edges → Type 0
 Contains ranges edges = Within ranges.start edges.start.0 × Within ranges.end edges.end.0
@@ -41,16 +38,21 @@ Contains ranges edges = Within ranges.start edges.start.0 × Within ranges.end e
 abbrev pub ranges_at : Edges → Ranges
 ranges_at edges = record { start = record { lo = edges.start; hi = edges.start }; end = record { lo = edges.end; hi = edges.end } }
 
--- the range, widened to a position
-abbrev pub widened : Range → Position → Range
-widened range p =
-    cond (ltb p.0 range.lo.0) (record { lo = p; hi = range.hi }) (cond (ltb range.hi.0 p.0) (record { lo = range.lo; hi = p }) range)
+-- a run, widened to a position
+abbrev pub widened_to : Run → Position → Run
+widened_to run p = record { lo = position (min run.lo.0 p.0); hi = position (max run.hi.0 p.0) }
 
--- the ranges, widened to the edges of a match that has includes
+-- the ranges, widened to the edges of one more match
+abbrev pub widened : Ranges → Edges → Ranges
+widened ranges edges = record { start = widened_to ranges.start edges.start; end = widened_to ranges.end edges.end }
+
+-- .. to the edges of a match, if it has includes
+abbrev pub widened_if_some : Ranges → Option Edges → Ranges
+widened_if_some ranges None = ranges
+widened_if_some ranges (Some edges) = widened ranges edges
+
 abbrev pub with_match : Ranges → Match → Ranges
-with_match ranges m =
-    cond (is_empty m.includes) ranges
-    (record { start = widened ranges.start (edges_of m.includes).start; end = widened ranges.end (edges_of m.includes).end })
+with_match ranges m = widened_if_some ranges (edges_of m.includes)
 
 -- .. of each of some matches
 unfoldable pub with_matches : Ranges → List Match → Ranges

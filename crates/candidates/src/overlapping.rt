@@ -6,24 +6,13 @@ ghost use Rattle.candidates.specs.Passing.{from_first, up_to_last};
 ghost use Rattle.candidates.specs.Overlapping.{overlap_both};
 
 use super::edges::Ranges;
-use store::Bounds;
-use strings::Run;
 use strings::covering::any_overlaps;
 
 // Do the strings have positions in both ranges?
 fn overlap_both(strs: &[u32], ranges: Ranges) -> bool
     ensures { result ≡ overlap_both ranges (strs_at strs.now) }
 {
-    let Ranges { start, end } = ranges;
-    let start = Run {
-        lo: start.lo,
-        hi: start.hi,
-    };
-    let end = Run {
-        lo: end.lo,
-        hi: end.hi,
-    };
-    any_overlaps(strs, start) && any_overlaps(strs, end)
+    any_overlaps(strs, ranges.start) && any_overlaps(strs, ranges.end)
 }
 
 // The first match of R, from the one at `from` on, that overlaps both ranges: where it lies, or the end.
@@ -33,15 +22,11 @@ pub fn first_overlapping(mem: &[u32], from: usize, end: usize, ranges: Ranges) -
 {
     let mut at = from;
     while at < end {
-        let Bounds {
-            includes,
-            excludes,
-            end: next,
-        } = store::bounds_at(mem, at);
-        if overlap_both(&mem[includes..excludes], ranges) {
+        let bounds = store::bounds_at(mem, at);
+        if overlap_both(bounds.includes(mem), ranges) {
             return at;
         }
-        at = next;
+        at = bounds.end;
     }
     at
 }
@@ -54,15 +39,11 @@ pub fn end_of_overlapping(mem: &[u32], from: usize, end: usize, ranges: Ranges) 
     let mut stop = from;
     let mut at = from;
     while at < end {
-        let Bounds {
-            includes,
-            excludes,
-            end: next,
-        } = store::bounds_at(mem, at);
-        if overlap_both(&mem[includes..excludes], ranges) {
-            stop = next;
+        let bounds = store::bounds_at(mem, at);
+        if overlap_both(bounds.includes(mem), ranges) {
+            stop = bounds.end;
         }
-        at = next;
+        at = bounds.end;
     }
     stop
 }

@@ -118,6 +118,13 @@ module _ {mem : List ℕ} {p : ℕ} {m : Match} (h : MatchHolds mem p m) {b : Bo
   pub excludes-within : strs_at (take (b.end - b.excludes) (drop b.excludes mem)) ≡ m.excludes
   excludes-within = excludes-read h b.excludes b.end (omega (arith, s)) (omega (arith, s))
 
+  -- .. where the slices are lent
+  pub includes-lent : {xs : List ℕ} → xs ≡ take (b.excludes - b.includes) (drop b.includes mem) → strs_at xs ≡ m.includes
+  includes-lent e = ap strs_at e ∙ includes-within
+
+  pub excludes-lent : {xs : List ℕ} → xs ≡ take (b.end - b.excludes) (drop b.excludes mem) → strs_at xs ≡ m.excludes
+  excludes-lent e = ap strs_at e ∙ excludes-within
+
   -- how many numbers they take
   pub includes-length : b.excludes - b.includes ≡ length (strs_of 0 m.includes)
   includes-length = omega (arith, s, includes-held h, length-strs_of 0 m.includes)

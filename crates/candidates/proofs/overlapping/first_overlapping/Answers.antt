@@ -1,4 +1,6 @@
 use native.Mathlib.Omega.{arith}
+use mathlib.Core.Path.{ap, ◌∙◌}
+use Rattle.strings.specs.Strings.{strs_at}
 use Rattle.store.specs.Stream.{MatchHeader}
 use Rattle.store.proofs.StreamLaws.{next-at, search_start}
 use Rattle.candidates.specs.Overlapping.{overlap_both}
@@ -13,30 +15,21 @@ one c = (next-at (c.loop-at.invariant c.requires).left c.loop-at-test.true).held
 pub loop-at-init : goal.loop-at-init
 loop-at-init c = λ w. search_start _ w.stream
 
-pub bounds_at-includes-requires : goal.bounds_at-includes-requires
-bounds_at-includes-requires c = one c
+pub bounds_at-bounds-requires : goal.bounds_at-bounds-requires
+bounds_at-bounds-requires c = one c
 
-pub offset_bounds-mem-includes : goal.offset_bounds-mem-includes
-offset_bounds-mem-includes c = omega (arith, one (goal.at.offset_bounds-mem-includes c).In-loop-at, c.bounds_at-includes.ensures)
-
-pub slice_bounds-overlap_both-count : goal.slice_bounds-overlap_both-count
-slice_bounds-overlap_both-count c = omega (arith, one (goal.at.slice_bounds-overlap_both-count c).In-loop-at, c.bounds_at-includes.ensures)
-
-pub slice_bounds-overlap_both-start : goal.slice_bounds-overlap_both-start
-slice_bounds-overlap_both-start c = omega (arith, one (goal.at.slice_bounds-overlap_both-start c).In-loop-at, c.bounds_at-includes.ensures)
-
-pub slice_bounds-overlap_both-end : goal.slice_bounds-overlap_both-end
-slice_bounds-overlap_both-end c = omega (arith, one (goal.at.slice_bounds-overlap_both-end c).In-loop-at, c.bounds_at-includes.ensures)
+pub includes-requires : goal.includes-requires
+includes-requires c = omega (arith, one (goal.at.includes-requires c).In-loop-at, c.bounds_at-bounds.ensures)
 
 pub returns-then-overlap_both : goal.returns-then-overlap_both
-returns-then-overlap_both c w = passing-here (overlap_both c.args.ranges) (c.loop-at.invariant w) c.loop-at-test.true c.bounds_at-includes.ensures c.overlap_both.ensures c.if-overlap_both.true
+returns-then-overlap_both c w = passing-here (overlap_both c.args.ranges) (c.loop-at.invariant w) c.loop-at-test.true c.bounds_at-bounds.ensures (c.overlap_both.ensures ∙ ap (λ xs. overlap_both c.args.ranges (strs_at xs)) c.includes.ensures) c.if-overlap_both.true
 
 pub loop-at-smaller : goal.loop-at-smaller
-loop-at-smaller c = omega (arith, c.loop-at-test.true, c.bounds_at-includes.ensures)
+loop-at-smaller c = omega (arith, c.loop-at-test.true, c.bounds_at-bounds.ensures)
 
 pub loop-at-preserved : goal.loop-at-preserved
 loop-at-preserved c = λ w.
-    passing-later (overlap_both c.args.ranges) (c.loop-at.invariant w) c.loop-at-test.true c.bounds_at-includes.ensures c.overlap_both.ensures c.if-overlap_both.false c.bounds_at-includes.ensures.end
+    passing-later (overlap_both c.args.ranges) (c.loop-at.invariant w) c.loop-at-test.true c.bounds_at-bounds.ensures (c.overlap_both.ensures ∙ ap (λ xs. overlap_both c.args.ranges (strs_at xs)) c.includes.ensures) c.if-overlap_both.false c.bounds_at-bounds.ensures.end
 
 pub returns : goal.returns
 returns c w = passing-none (overlap_both c.args.ranges) (c.loop-at.invariant w) c.loop-at-test.false
