@@ -9,7 +9,6 @@ use mathlib.Core.Logic.{⊎_elim}
 use mathlib.Core.Path.{◌≡◌, refl, ap, ap₂, sym, subst, ◌∙◌, fun_ext}
 use borrow.Author.Tests.{leb-true, leb-false, eq-eqb, ne_eqb, le-leb, lt-leb}
 use lib.Dec.{leb, eqb}
-use lib.ListN.{length, drop, get_or}
 use Rattle.model.specs.AllStrings.{AllStrs}
 use Rattle.model.specs.Answers.{span_of}
 use Rattle.model.specs.Limits.{radix}
@@ -18,9 +17,10 @@ use Rattle.model.specs.Matches.{Str}
 use Rattle.model.specs.Rules.{not_after, distance}
 use Rattle.model.proofs.EveryLaws.{every_weaker}
 use Rattle.distance.specs.Sorting.{counted, copies, nearer, above, passing, passes, spans_within}
-use Rattle.strings.specs.Strings.{strs_at}
+use Rattle.strings.specs.Strings.{str_packed, strs_at}
+use Rattle.strings.specs.declared.packed.Packed.{Packed}
 use Rattle.distance.proofs.DistanceLaws.{not_after-span_of, neighbours-span_of}
-use Rattle.strings.proofs.StringsLaws.{Left, left-next, left-none, str_at, span_of-str_of, end-strs_at}
+use Rattle.strings.proofs.StringsLaws.{end-strs_at, span_of-str_of}
 
 -- ---- what is gathered of a list in any order
 
@@ -249,9 +249,6 @@ abbrev pub followed : ℕ → ℕ → List ℕ → Str → Bool
 followed least most l s = passes (spans_within least most) (span_of s) (map span_of (strs_at l))
 
 module _ (least most : ℕ) (l : List ℕ) where
-  pub followed_str_at : (i : ℕ) → passes (spans_within least most) (get_or l i 0) (map span_of (strs_at l)) ≡ followed least most l (str_at l i)
-  followed_str_at i = ap (λ v. passes (spans_within least most) v (map span_of (strs_at l))) (sym (span_of-str_of (get_or l i 0) (get_or l (i + 1) 0)))
-
   -- the rule's test on the sorted strings, made on the strings unsorted
   pub neighbours-strings : (distance least most).keeps (strs_at l) ≡ all_of (followed least most l) (strs_at l)
   neighbours-strings =
@@ -266,16 +263,8 @@ module _ (least most : ℕ) (l : List ℕ) where
 abbrev pub gathered : (ℕ → ℕ → ℕ) → ℕ → List Str → ℕ
 gathered step b ss = foldr step b (map span_of ss)
 
-pub gathered_next : (step : ℕ → ℕ → ℕ) (swap : (x y b : ℕ) → step x (step y b) ≡ step y (step x b))
-    → {result b : ℕ} {l : List ℕ} {i : ℕ} → Left result (gathered step b) l i → i + 1 < length l
-    → (c : ℕ) → step (get_or l i 0) b ≡ c → Left result (gathered step c) l (i + 2)
-gathered_next step swap {b = b} {l = l} {i = i} left more c e =
-    let rest : List Str = strs_at (drop (i + 2) l) in
-    let here = ap (λ x. foldr step b (x ∷ map span_of rest)) (span_of-str_of (get_or l i 0) (get_or l (i + 1) 0)) in
-    left-next left more (gathered step c) (here ∙ foldr_first step swap b (get_or l i 0) (map span_of rest) ∙ ap (λ k. gathered step k rest) e)
-
--- at the end of a loop that gathers copies and the least above, v passes by what it has gathered
-pub passes_gathered : (r : ℕ → ℕ → Bool) (v : ℕ) {n m : ℕ} {l : List ℕ} {i : ℕ}
-    → Left (gathered (counted v) 0 (strs_at l)) (gathered (counted v) n) l i → Left (gathered (nearer v) v (strs_at l)) (gathered (nearer v) m) l i
-    → length l ≤ i + 1 → passing r v n m ≡ passes r v (map span_of (strs_at l))
-passes_gathered r v counts nears h = ap₂ (passing r v) (left-none counts h) (left-none nears h)
+-- gathered with the first string, two numbers of a slice
+pub gathered_next : (step : ℕ → ℕ → ℕ) (swap : (x y b : ℕ) → step x (step y b) ≡ step y (step x b)) (b c : ℕ) (s : Packed) (ss : List Str)
+    → step s.span b ≡ c → gathered step b (str_packed s ∷ ss) ≡ gathered step c ss
+gathered_next step swap b c s ss e =
+    rw (span_of-str_of s.span s.tag) (foldr_first step swap b s.span (map span_of ss) ∙ ap (λ k. gathered step k ss) e)

@@ -1,9 +1,5 @@
--- The two tests of the definition, in its order.
-use borrow.Author.Tests.{le-leb, lt-leb}
+-- No distance reads a tag.
 use Rattle.distance.proofs.lies_within.Goals as goal
 
-pub returns-then-distance-least : goal.returns-then-distance-least
-returns-then-distance-least c = rw (← c.distance_of-distance.ensures 0 0, lt-leb _ _ c.if-distance-least.true)
-
 pub returns : goal.returns
-returns c = rw (← c.distance_of-distance.ensures 0 0, le-leb _ _ c.if-distance-least.false)
+returns c = rw (← c.distance_of.ensures 0 0) c.has.ensures

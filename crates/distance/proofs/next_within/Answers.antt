@@ -1,28 +1,27 @@
-use Prim.Native.Nat.{◌+◌, ◌≤◌}
-use native.Mathlib.Omega.{arith}
-use mathlib.Core.Path.{◌≡◌, sym, ◌∙◌}
+use Rattle.std.proofs.Common.{arith, ap, sym, ◌≡◌, ◌+◌, ◌≤◌, ◌∙◌, length}
 use borrow.Author.Tests.{eq-eqb, ne_eqb}
-use lib.ListN.{get_or}
-use Rattle.distance.specs.Sorting.{counted, spans_within}
-use Rattle.distance.proofs.SortingLaws.{gathered_next, counted_swap, nearer_swap, passes_gathered}
-use Rattle.strings.proofs.StringsLaws.{left-start}
+use Rattle.distance.specs.Sorting.{counted, nearer}
+use Rattle.distance.proofs.SortingLaws.{gathered, gathered_next, counted_swap, nearer_swap}
+use Rattle.strings.proofs.StringsLaws.{length-strs_at}
 use Rattle.distance.proofs.next_within.Goals as goal
-use Rattle.distance.proofs.next_within.Goals.{then-strs-i, else-strs-i}
+use Rattle.distance.proofs.next_within.Goals.{then-s-span, else-s-span}
 
-pub loop-i-init : goal.loop-i-init
-loop-i-init c = (omega arith, left-start _ _, left-start _ _)
+pub overflow_add-copies : goal.overflow_add-copies
+overflow_add-copies c = omega (arith, c.loop-s.invariant.2, ap length c.in-Some.ensures.steps, length-strs_at c.args.strs.now)
 
-pub loop-i-preserved : goal.loop-i-preserved
-loop-i-preserved c =
+pub loop-s-preserved : goal.loop-s-preserved
+loop-s-preserved c =
     let v = c.args.span in
-    let x = get_or c.args.strs.now c.loop-i.i 0 in
-    let one : counted v x c.loop-i.copies ≡ c.if-strs-i.copies = elim c.if-strs-i.branch [
-      | then-strs-i w ↦ rw (eq-eqb x v w.if-strs-i.true) (sym w.copies-is)
-      | else-strs-i w ↦ rw (ne_eqb x v w.if-strs-i.false) (sym w.copies-is)
+    let x = c.in-Some.s.span in
+    let here = c.in-Some.ensures.steps in
+    let one : counted v x c.loop-s.copies ≡ c.if-s-span.copies = elim c.if-s-span.branch [
+      | then-s-span w ↦ rw (eq-eqb x v w.if-s-span.true) (sym w.copies-is)
+      | else-s-span w ↦ rw (ne_eqb x v w.if-s-span.false) (sym w.copies-is)
     ] in
-    let few : c.if-strs-i.copies ≤ c.loop-i.i + 2 = elim c.if-strs-i.branch [ then-strs-i w ↦ omega arith | else-strs-i w ↦ omega arith ] in
-    (few, gathered_next _ (counted_swap _) c.loop-i.invariant.1 c.loop-i-test.true _ one, gathered_next _ (nearer_swap _) c.loop-i.invariant.2 c.loop-i-test.true _ (sym c.nearer-above.ensures))
-
-pub returns : goal.returns
-returns c =
-    c.followed_within.ensures ∙ passes_gathered (spans_within c.args.least c.args.most) _ c.loop-i.invariant.1 c.loop-i.invariant.2 c.loop-i-test.false
+    let few : c.if-s-span.copies ≤ c.loop-s.copies + 1 = elim c.if-s-span.branch [ then-s-span w ↦ omega arith | else-s-span w ↦ omega arith ] in (
+      tt,
+      tt,
+      omega (arith, c.loop-s.invariant.2, ap length here),
+      sym (gathered_next (counted v) (counted_swap v) _ _ c.in-Some.s _ one) ∙ ap (gathered (counted v) c.loop-s.copies) (sym here) ∙ c.loop-s.invariant.3,
+      sym (gathered_next (nearer v) (nearer_swap v) _ _ c.in-Some.s _ (sym c.nearer-above.ensures)) ∙ ap (gathered (nearer v) c.loop-s.above) (sym here) ∙ c.loop-s.invariant.4,
+    )

@@ -1,21 +1,12 @@
-use mathlib.Core.Path.{sym, ◌∙◌}
-use Rattle.distance.proofs.SortingLaws.{followed_str_at, neighbours-strings}
-use Rattle.strings.proofs.StringsLaws.{left-start, decides_all, decided_here, decided_later, decided_end}
+-- A string passes with what would follow it in the sorted list, and where all do the sorted list's neighbours pass (SortingLaws).
+use Rattle.std.proofs.Common.{rules, sym, ◌∙◌}
+use borrow.Author.Tests.{tests}
+use Rattle.distance.proofs.SortingLaws.{followed, neighbours-strings}
+use Rattle.strings.proofs.StringsLaws.{span_of-str_of}
+use Rattle.strings.proofs.PackedLaws.{all_of_strs}
 use Rattle.distance.proofs.sorted_within.Goals as goal
-
-pub loop-i-init : goal.loop-i-init
-loop-i-init c = left-start _ _
-
-pub returns-then-not-next_within : goal.returns-then-not-next_within
-returns-then-not-next_within c =
-    let e = sym (c.next_within.ensures ∙ followed_str_at c.args.least c.args.most c.args.strs.now _) ∙ c.if-not-next_within.true in
-    decided_here (decides_all _) c.loop-i.invariant c.loop-i-test.true e ∙ sym (neighbours-strings c.args.least c.args.most c.args.strs.now)
-
-pub loop-i-preserved : goal.loop-i-preserved
-loop-i-preserved c =
-    let e = sym (c.next_within.ensures ∙ followed_str_at c.args.least c.args.most c.args.strs.now _) ∙ c.if-not-next_within.false in
-    decided_later (decides_all _) c.loop-i.invariant c.loop-i-test.true e
 
 pub returns : goal.returns
 returns c =
-    decided_end (decides_all _) c.loop-i.invariant c.loop-i-test.false ∙ sym (neighbours-strings c.args.least c.args.most c.args.strs.now)
+    all_of_strs (followed c.args.distances.least c.args.distances.most c.args.strs.now) _ _ _ c.all.ensures.ran c.strings_in.ensures (λ x b q k. rw (span_of-str_of x.span x.tag) (search (rules, tests)))
+    ∙ sym (neighbours-strings c.args.distances.least c.args.distances.most c.args.strs.now)
