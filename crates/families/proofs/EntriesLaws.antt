@@ -1,73 +1,49 @@
--- A word is looked for by halving: every entry up to `low` has a word that isn't above it, every entry after the ones left has one above it.
-use Prim.Native.Nat.{ℕ, zero, suc, ◌+◌, ◌-◌, ◌/◌, ◌≤◌, ◌<◌}
-use native.Mathlib.Nat.{eq-or-lt_of_le, lt_of_not-le}
+-- The entry that has a word gives its family; entries that are passed don't have the family that is looked for.
+use Prim.Native.Nat.{ℕ, zero, suc, ◌+◌, ◌≤◌, ◌<◌}
+use native.Mathlib.Nat.{eq-or-lt_of_le}
 use native.Mathlib.Omega.{arith}
-use mathlib.Core.Path.{◌≡◌, sym, ap, subst}
+use mathlib.Core.Path.{◌≡◌, refl, subst}
 use mathlib.Core.List.{List}
 use mathlib.Core.Logic.{⊎_elim}
+use Rattle.std.specs.Prelude.{Option, Some, None, MatchOption, option_map}
 use lib.ListN.{get_or}
-use Rattle.model.specs.Accepted.{AcceptedFamilies}
-use Rattle.model.specs.Families.{entry_of}
+use Rattle.model.specs.Accepted.{RisingStrictly}
+use Rattle.model.specs.Families.{entry_of, family_of}
 use Rattle.model.specs.Section.{size, first_at, second_at}
-use Rattle.model.proofs.FamiliesLaws.{entry_none, entry_at}
+use Rattle.model.proofs.FamiliesLaws.{entry_some, entry_none, entry_at}
 use Rattle.slices.specs.Blocks.{Lacks, block_size}
-use Rattle.families.specs.Entries.{entry_number, PassedBy}
+use Rattle.families.specs.Entries.{PassedBy, NextMember}
+use Rattle.model.proofs.TestsLaws.{lt-or-le}
 
--- ---- entry_of
+-- ---- family_of
 
-pub record Halving (families : List ℕ) (word low left : ℕ) : Type 0 where
-  pub within : low + left ≤ size families
-  pub not-above : (i : ℕ) → 1 ≤ i → i ≤ low → first_at families i ≤ word
-  pub above : (i : ℕ) → low + left < i → i ≤ size families → word < first_at families i
+-- an entry that has a word, and its family
+pub record EntryHas (families : List ℕ) (word family : ℕ) : Type 0 where
+  pub at : ℕ
+  pub from_one : 1 ≤ at
+  pub up_to : at ≤ size families
+  pub has_word : first_at families at ≡ word
+  pub has_family : second_at families at ≡ family
 
-pub halve_start : (families : List ℕ) (word left : ℕ) → left ≡ size families → Halving families word 0 left
-halve_start families word left e =
-    record { within = omega arith; not-above = λ i h k. absurd (omega arith); above = λ i h k. absurd (omega arith) }
+module _ (families : List ℕ) (word : ℕ) where
+  pub family_none : ((i : ℕ) → 1 ≤ i → i ≤ size families → first_at families i ≡ word → ⊥) → family_of families word ≡ None
+  unfolding family_of
+  family_none h = rw (entry_none families word h)
 
-module _ {families : List ℕ} (a : AcceptedFamilies families) where
-  -- an entry not after another has a word that isn't above it
-  never_above : (i j : ℕ) → 1 ≤ i → i ≤ j → j ≤ size families → first_at families i ≤ first_at families j
-  never_above i j h k l =
-      ⊎_elim (λ e. subst (λ (x : ℕ). first_at families i ≤ first_at families x) e (omega arith)) (λ m. omega (arith, a.rising i j h m l)) (eq-or-lt_of_le k)
+  pub family_at : RisingStrictly (first_at families) (size families) → (i : ℕ) → 1 ≤ i → i ≤ size families → first_at families i ≡ word
+      → family_of families word ≡ Some (second_at families i)
+  unfolding family_of
+  family_at r i a b e = rw (entry_at families word r i a b e)
 
-  module _ {word low left half : ℕ} (g : Halving families word low left) (some_left : 0 < left) (half_is : half ≡ left - left / 2) where
-    pub halve_up : first_at families (low + half) ≤ word → Halving families word (low + half) (left - half)
-    halve_up e =
-        record {
-          within = omega (arith, g.within);
-          not-above = λ i h k. omega (arith, never_above i (low + half) h k (omega (arith, g.within)));
-          above = λ i h k. g.above i (omega arith) k;
-        }
+  pub family_some : (family : ℕ) → family_of families word ≡ Some family → EntryHas families word family
+  unfolding family_of
+  family_some family e = at (entry_of families word) refl e
+    where
+      at : (o : Option ℕ) → entry_of families word ≡ o → option_map (second_at families) o ≡ Some family → EntryHas families word family
+      at (Some i) f g = let h = entry_some families word i f in record { at = i; from_one = h.0; up_to = h.1; has_word = h.2; has_family = cc }
+      at None f g = absurd (cc)
 
-    pub halve_down : word < first_at families (low + half) → Halving families word low (left - half)
-    halve_down e =
-        record {
-          within = omega (arith, g.within);
-          not-above = g.not-above;
-          above = λ i h k. omega (arith, never_above (low + half) i (omega arith) (omega arith) k);
-        }
-
-  -- no entry is left
-  module _ {word low left : ℕ} (g : Halving families word low left) (done : left ≤ 0) where
-    pub halved_none : low ≡ 0 → 0 ≡ entry_number (entry_of families word)
-    halved_none e = sym (ap entry_number (entry_none families word (λ i h k f. absurd (omega (arith, g.above i (omega arith) k)))))
-
-    module _ (from_one : 1 ≤ low) where
-      pub halved_other : (first_at families low ≡ word → ⊥) → 0 ≡ entry_number (entry_of families word)
-      halved_other e = sym (ap entry_number (entry_none families word absent))
-        where
-          upto : (i : ℕ) → 1 ≤ i → i ≤ low → first_at families i ≡ word → ⊥
-          upto i h k f =
-              ⊎_elim (λ q. e (subst (λ (x : ℕ). first_at families x ≡ word) q f))
-              (λ m. absurd (omega (arith, a.rising i low h m (omega (arith, g.within)), g.not-above low from_one (omega arith), f))) (eq-or-lt_of_le k)
-
-          absent : (i : ℕ) → 1 ≤ i → i ≤ size families → first_at families i ≡ word → ⊥
-          absent i h k f = let low-enough : i < low + 1 = lt_of_not-le (λ l. absurd (omega (arith, g.above i (omega arith) k, f))) in upto i h (omega arith) f
-
-      pub halved_here : first_at families low ≡ word → low ≡ entry_number (entry_of families word)
-      halved_here e = sym (ap entry_number (entry_at families word a.rising low from_one (omega (arith, g.within)) e))
-
--- ---- PassedBy, NextMember
+-- ---- PassedBy
 
 module _ {families : List ℕ} {family : ℕ} where
   pub passed_none : {from : ℕ} → from ≤ size families + 1 → PassedBy families family from from
@@ -96,3 +72,21 @@ module _ {families : List ℕ} {family : ℕ} where
   passed_block {from} {i} {m} e g h lacks =
       passed-more block_size g (omega arith)
       (λ j l q. let at : size families + (i + j) ≡ m + i + j = omega arith in lacks j l (subst (λ (x : ℕ). get_or families x 0 ≡ family) at q))
+
+-- the next entry that has the family, from the one that is reached on
+abbrev Reached : List ℕ → ℕ → ℕ → Option ℕ → ℕ → Type 0
+Reached families family begin next m =
+    MatchOption next ((k : ℕ) → begin ≤ k → k < m + 1 → get_or families (m + k) 0 ≡ family → ⊥)
+    (λ i. (begin ≤ i) × (i < m + 1) × (get_or families (m + i) 0 ≡ family) × ((k : ℕ) → begin ≤ k → k < i → get_or families (m + k) 0 ≡ family → ⊥))
+
+module _ {families : List ℕ} {family : ℕ} where
+  pub next_from : (m : ℕ) → m ≡ size families → {from begin : ℕ} → PassedBy families family from begin → (next : Option ℕ) → Reached families family begin next m → NextMember families family from next
+  next_from m e {from} {begin} g next reached = told next (subst (Reached families family begin next) e reached)
+    where
+      passed : {i : ℕ} → begin ≤ i → i ≤ size families + 1 → ((k : ℕ) → begin ≤ k → k < i → second_at families k ≡ family → ⊥) → PassedBy families family from i
+      passed h l none_in =
+          record { not_before = omega (arith, g.not_before); up_to = l; none_has = λ j a b. ⊎_elim (λ c. g.none_has j a c) (λ c. none_in j c b) (lt-or-le j begin) }
+
+      told : (next : Option ℕ) → Reached families family begin next (size families) → NextMember families family from next
+      told None h = passed g.up_to (omega arith) h
+      told (Some i) h = record { passed = passed h.0 (omega (arith, h.1)) h.3; in_table = omega (arith, h.1); has = h.2 }

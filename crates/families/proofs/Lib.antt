@@ -1,3 +1,4 @@
 pub mod OrderLaws
 pub mod EntriesLaws
 pub mod KinLaws
+pub mod TableLaws

@@ -1,7 +1,5 @@
--- Entries of a family table: how many there are and whether their words rise, where a word stands, and the next entry of a family.
-use Rattle.std.specs.Prelude.{ℕ, ◌+◌, ◌*◌, ◌≤◌, ◌<◌, List, ◌≡◌, length}
-use Rattle.std.specs.Prelude.{Option, Some, None}
-use Rattle.model.specs.Families.{entry_of}
+-- Entries of a family table: how many there are and whether their words rise, and the next entry of a family.
+use Rattle.std.specs.Prelude.{ℕ, ◌+◌, ◌*◌, ◌≤◌, ◌<◌, List, Option, ◌≡◌, MatchOption, length}
 use Rattle.model.specs.Limits.{max_entries}
 use Rattle.model.specs.Section.{size, first_at, second_at}
 
@@ -15,23 +13,18 @@ pub record TableSized (families : List ℕ) (m : ℕ) : Type 0 where
 abbrev pub RisesFrom : List ℕ → ℕ → ℕ → Type 0
 RisesFrom families p n = (i : ℕ) → i < n → first_at families (p + i) < first_at families (p + i + 1)
 
--- an entry by its number, 0 for none: entries count from 1
-abbrev pub entry_number : Option ℕ → ℕ
-entry_number (Some i) = i
-entry_number None = 0
-
--- the entry of a word, or 0
-pub record EntryIs (families : List ℕ) (word entry : ℕ) : Type 0 where
-  pub is : entry ≡ entry_number (entry_of families word)
-  pub up_to : entry ≤ size families
-
 -- none of the entries from `from` on and before i has the family, and i isn't after the entry that would come after the last
 pub record PassedBy (families : List ℕ) (family from i : ℕ) : Type 0 where
   pub not_before : from ≤ i
   pub up_to : i ≤ size families + 1
   pub none_has : (j : ℕ) → from ≤ j → j < i → second_at families j ≡ family → ⊥
 
--- i is the first entry from `from` on that has the family, or comes after the last one
-pub record NextMember (families : List ℕ) (family from i : ℕ) : Type 0 where
+-- i is the first entry from `from` on that has the family
+pub record MemberAt (families : List ℕ) (family from i : ℕ) : Type 0 where
   pub passed : PassedBy families family from i
-  pub has : i ≤ size families → second_at families i ≡ family
+  pub in_table : i ≤ size families
+  pub has : second_at families i ≡ family
+
+-- the first entry from `from` on that has the family, where there is one
+abbrev pub NextMember : List ℕ → ℕ → ℕ → Option ℕ → Type 0
+NextMember families family from next = MatchOption next (PassedBy families family from (size families + 1)) (MemberAt families family from)

@@ -1,17 +1,16 @@
--- The kin of a word: the words of its family, or the word alone where it is in no family; none where they aren't told.
-use Rattle.std.specs.Prelude.{ℕ, ◌≤◌, ◌<◌, true, false, List, ◌≡◌, eqb, length}
+-- The kin of a word: the words of its family, or the word alone where it is in no family.
+use Rattle.std.specs.Prelude.{ℕ, ◌≤◌, ◌<◌, true, List, ◌≡◌, eqb}
 use Rattle.model.specs.Families.{word_fits}
 use Rattle.model.specs.Lists.{any_of}
 use Rattle.model.specs.Section.{first_at, second_at}
 
--- the most kin that are told; src/lib.rt has the same number for the code
+-- the most kin that are told; src/kin.rt has the same number for the code
 abbrev pub most_kin : ℕ
 most_kin = 32
 
--- where there are any, they are the words that fit
-pub record KinOf (families : List ℕ) (word : ℕ) (kin : List ℕ) : Type 0 where
-  pub among : (token : ℕ) → any_of (eqb token) kin ≡ true → word_fits families token word ≡ true
-  pub not_among : (token : ℕ) → 1 ≤ length kin → any_of (eqb token) kin ≡ false → word_fits families token word ≡ false
+-- they are the words that fit
+abbrev pub KinOf : List ℕ → ℕ → List ℕ → Type 0
+KinOf families word kin = (token : ℕ) → word_fits families token word ≡ any_of (eqb token) kin
 
 -- an entry before i that has a word and a family
 pub record EntryBefore (families : List ℕ) (i word family : ℕ) : Type 0 where

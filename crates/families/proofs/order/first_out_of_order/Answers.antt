@@ -1,23 +1,24 @@
-use Prim.Native.Nat.{ℕ}
-use native.Mathlib.Omega.{arith}
-use mathlib.Core.Path.{sym, ap, ◌∙◌}
-use Rattle.model.specs.Answers.{fault_of}
-use Rattle.model.specs.Checks.{out_of_order, entry_out_of_order}
-use Rattle.model.specs.Lists.{first, from_to}
-use Rattle.slices.specs.Blocks.{block_size}
-use Rattle.families.proofs.OrderLaws.{rises_on}
+-- The blocks passed rise; the first entry from there on that doesn't is the first out of order (OrderLaws).
+use Rattle.std.proofs.Common.{◌≡◌, ◌+◌, ◌<◌, ◌≤◌, rules, get_or, sym, ◌∙◌, arith}
+use borrow.Author.Tests.{tests}
+use Rattle.std.proofs.lemmas.Iterator.{first_from_Range}
+use Rattle.slices.proofs.BlocksLaws.{passed_all}
+use Rattle.families.proofs.OrderLaws.{Whole, whole_at_1, whole_on, none_falls, first_falls}
 use Rattle.families.proofs.order.first_out_of_order.Goals as goal
 
-pub loop-p-init : goal.loop-p-init
-unfolding entry_out_of_order
-loop-p-init c = (omega arith, ap (λ (n : ℕ). first (out_of_order c.args.families.now) (from_to 2 n)) (sym c.requires.m_is))
+pub returns-in_err-before : goal.returns-in_err-before
+returns-in_err-before c =
+    let lent = c.args.families.now in
+    let w = passed_all (Whole lent c.args.m) (whole_at_1 c.requires.m_is) (λ p a b no w. whole_on w ? ?) c.pass_blocks-begin.ensures in
+    let f = first_from_Range _ _ _ c.find.result (λ i. get_or lent (i + 1) 0 ≤ get_or lent i 0) (λ i. get_or lent i 0 < get_or lent (i + 1) 0) c.find.ensures.ran (λ x q k. search (rules, tests)) (λ x q k. search (rules, tests)) in
+    let m = c.max.ensures in
+    ?
 
-pub returns-then-block_falls : goal.returns-then-block_falls
-returns-then-block_falls c = c.scan.ensures ∙ sym (ap fault_of c.loop-p.invariant.1)
+pub overflow_cast-result : goal.overflow_cast-result
+overflow_cast-result c = ?
 
-pub loop-p-preserved : goal.loop-p-preserved
-loop-p-preserved c =
-    (omega arith, c.loop-p.invariant.1 ∙ rises_on c.args.families.now c.loop-p.p block_size c.args.m (c.block_falls.ensures c.if-block_falls.false) c.loop-p-test.true)
+pub overflow_add-result : goal.overflow_add-result
+overflow_add-result c = ?
 
 pub returns : goal.returns
-returns c = c.scan-2.ensures ∙ sym (ap fault_of c.loop-p.invariant.1)
+returns c = ?
