@@ -2,11 +2,10 @@
 -- case by case.
 use Prim.Native.Nat.{ℕ, zero, suc, ◌+◌, ◌-◌, ◌≤◌, ◌<◌}
 use native.Mathlib.Omega.{arith}
-use mathlib.Core.Path.{◌≡◌, refl, sym, ap, ◌∙◌}
+use mathlib.Core.Path.{◌≡◌, sym, ap, ◌∙◌}
 use mathlib.Core.Bool.{Bool, true, false}
 use mathlib.Core.List.{List}
 use Rattle.std.specs.Prelude.{Some, None}
-use Rattle.std.specs.Option.{option_or}
 use borrow.Author.Tests.{le-leb, lt-leb}
 use lib.Dec.{leb}
 use Rattle.model.specs.declared.Reason.TheVariants.{WrongFamilies}
@@ -41,7 +40,6 @@ rises_on families p (suc n) m r h =
 
 -- the first number of a range that passes
 first_is : (p : ℕ → Bool) (a b i : ℕ) → a ≤ i → i ≤ b → p i ≡ true → ((j : ℕ) → a ≤ j → j < i → p j ≡ false) → first p (from_to a b) ≡ Some i
-unfolding option_or
 first_is p zero b zero h l e before = first-range-here p 0 b l e
 first_is p (suc a) b zero h l e before = absurd (omega arith)
 first_is p a b (suc i) h l e before =
@@ -54,15 +52,15 @@ first_is p a b (suc i) h l e before =
 abbrev pub Whole : List ℕ → ℕ → ℕ → Type 0
 Whole families m p = entry_out_of_order families ≡ first (out_of_order families) (from_to (p + 1) m)
 
-module _ {families : List ℕ} {m : ℕ} where
+module _ (families : List ℕ) (m : ℕ) where
   pub whole_at_1 : m ≡ size families → Whole families m 1
   unfolding entry_out_of_order
   whole_at_1 e = rw e
 
-  pub whole_on : {p n : ℕ} → Whole families m p → p + n ≤ m → RisesFrom families p n → Whole families m (p + n)
-  whole_on {p} {n} w h r = w ∙ rises_on families p n m r h
+  pub whole_on : (p n : ℕ) → Whole families m p → p + n ≤ m → RisesFrom families p n → Whole families m (p + n)
+  whole_on p n w h r = w ∙ rises_on families p n m r h
 
-  module _ {begin : ℕ} (w : Whole families m begin) (one : 1 ≤ begin) where
+  module _ (begin : ℕ) (w : Whole families m begin) (one : 1 ≤ begin) where
     pub none_falls : ((k : ℕ) → begin ≤ k → k < m → first_at families k < first_at families (k + 1)) → entry_out_of_order families ≡ None
     none_falls rise =
         w ∙ range-first-none (out_of_order families) (begin + 1) m (λ j h l. let q : j - 1 + 1 ≡ j = omega arith in ap (out_of_order families) (sym q) ∙ rises families (j - 1) (rise (j - 1) (omega arith) (omega arith)))

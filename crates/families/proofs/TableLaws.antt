@@ -45,9 +45,9 @@ module _ {families : List ℕ} (a : AcceptedFamilies families) (word m : ℕ) (e
   family_missing (Err p) s f =
       let t = searched words word (Err p) s rise in
       family_none families word (λ i h k has.
-        let q : i - 1 + 1 ≡ i = omega arith in
-        let at : get_or words (i - 1) 0 ≡ word = at_place (i - 1) (omega arith) ∙ ap (first_at families) q ∙ has in
-        grind (arith, t.1 (i - 1), t.2 (i - 1), at, has_words))
+      let q : i - 1 + 1 ≡ i = omega arith in
+      let at : get_or words (i - 1) 0 ≡ word = at_place (i - 1) (omega arith) ∙ ap (first_at families) q ∙ has in
+      grind (arith, t.1 (i - 1), t.2 (i - 1), at, has_words))
 
   pub family_found : (r : Result ℕ ℕ) → Search r → (i : ℕ) → result_ok r ≡ Some i → family_of families word ≡ Some (get_or families (m + 1 + i) 0)
   unfolding words

@@ -12,9 +12,8 @@ ghost use Rattle.model.specs.Checks.{families_refusal};
 ghost use Rattle.model.specs.Section.{size};
 
 pub use kin::Kin;
-pub use table::Table;
-
 use model::{MAX_ENTRIES, Reason, Refusal};
+pub use table::Table;
 
 // Refusal 13, with its place; else the number of entries.
 pub fn check_families(families: &[u32]) -> Result<u32, Refusal>

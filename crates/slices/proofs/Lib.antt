@@ -1,2 +1,3 @@
 pub mod EverySecondLaws
 pub mod BlocksLaws
+pub mod RefusalsLaws
