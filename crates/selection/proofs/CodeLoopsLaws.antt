@@ -1,20 +1,21 @@
 -- One turn of each loop over the codes of a selection: what is left gives the same.
-use Prim.Native.Nat.{ℕ, suc, ◌+◌, ◌-◌, ◌≤◌, ◌<◌}
+use Prim.Native.Nat.{ℕ, zero, suc, ◌+◌, ◌-◌, ◌<◌}
 use native.Mathlib.Omega.{arith}
 use mathlib.Core.Path.{◌≡◌, refl, sym, ap, ap₂, ◌∙◌}
-use mathlib.Core.Bool.{Bool, true, false, ◌||◌, or-false}
-use mathlib.Core.List.{[], ◌∷◌}
-use Rattle.std.specs.Prelude.{Option, Some, None}
+use mathlib.Core.Bool.{Bool, true, false, ◌||◌}
+use mathlib.Core.List.{List}
+use Rattle.std.specs.Prelude.{Option, Some, None, cond, map}
 use lib.ListN.{drop}
-use borrow.Author.Tests.{eq-eqb, ne_eqb}
-use Rattle.model.specs.Kinds.{Shape}
-use Rattle.model.specs.Lists.{any_of}
-use Rattle.model.specs.Parts.{is_not_code, stops, trees_needed, scan_back}
+use Rattle.model.specs.Checks.{wrong_shape}
+use Rattle.model.specs.Kinds.{Shape, shapes_of}
+use Rattle.std.specs.List.{list_any, range_with_len}
+use Rattle.model.specs.Lists.{any_of, up_from}
+use Rattle.model.specs.Parts.{well_formed, is_not_code, stops, trees_needed, scan_back}
 use Rattle.model.specs.Selection.{up_to}
-use Rattle.model.specs.Waiting.{fits, lists_after, words_after, first_misfit_from}
-use Rattle.model.proofs.ListsLaws.{any_append}
+use Rattle.model.specs.Waiting.{fits, is_complete, lists_after, words_after, first_misfit_from}
 use Rattle.model.proofs.PartsLaws.{scan_back-none, scan_back_stop, scan_back-on}
-use Rattle.model.proofs.WaitingLaws.{misfit_here, misfit_on, misfit_end}
+use Rattle.model.proofs.SelectionLaws.{up_to-map}
+use Rattle.model.proofs.WaitingLaws.{misfit_none, misfit_here, misfit_on, misfit_end}
 
 -- ---- the waiting rule
 
@@ -32,17 +33,13 @@ module _ (at : ℕ → Shape) (m : ℕ) where
         ∙ sym (misfit_on at m c w p h (ap (λ k. fits k w p) (sym e) ∙ f))
 
   module _ (c w p : ℕ) (e : c ≡ m) where
-    ended : misfit_after c w p ≡ misfit_after m w p
-    ended = ap (λ k. misfit_after k w p) e
+    pub misfits_end : (complete : Bool) → complete ≡ is_complete w p → cond complete None (Some m) ≡ misfit_after c w p
+    misfits_end complete is = ap (λ b. cond b None (Some m)) is ∙ sym (ap (λ k. misfit_after k w p) e ∙ misfit_end at m w p)
 
-    pub misfits_lists : (w ≡ 1 → ⊥) → misfit_after c w p ≡ Some m
-    misfits_lists n = ended ∙ misfit_end at m w p ∙ rw (ne_eqb w 1 n)
-
-    pub misfits_words : w ≡ 1 → (p ≡ 0 → ⊥) → misfit_after c w p ≡ Some m
-    misfits_words f n = ended ∙ misfit_end at m w p ∙ rw (eq-eqb w 1 f, ne_eqb p 0 n)
-
-    pub misfits_none : w ≡ 1 → p ≡ 0 → misfit_after c w p ≡ None
-    misfits_none f g = ended ∙ misfit_end at m w p ∙ rw (eq-eqb w 1 f, eq-eqb p 0 g)
+-- where no code breaks the rule, the codes are one tree's
+pub none_misfits : (selection : List ℕ) → wrong_shape selection ≡ None → well_formed (shapes_of selection) ≡ true
+unfolding wrong_shape
+none_misfits selection e = (misfit_none (shapes_of selection)).0 e
 
 -- ---- the start of a part
 
@@ -56,32 +53,14 @@ module _ (at : ℕ → Shape) (c n : ℕ) (h : 0 < c) (code : Shape) (e : code �
 pub scan_back-zero : (at : ℕ → Shape) (c n : ℕ) → c ≡ 0 → 0 ≡ scan_back at c n
 scan_back-zero at c n e = sym (ap (λ k. scan_back at k n) e ∙ scan_back-none at n)
 
--- ---- a not among the codes of a part, from the last to the first
+-- ---- a not among the codes of a part
 
-module _ (at : ℕ → Shape) (lo : ℕ) where
-  abbrev nots : ℕ → Bool
-  nots c = any_of is_not_code (up_to (λ i. at (lo + i)) (c - lo))
+module _ (at : ℕ → Shape) where
+  not_range : (lo c i n : ℕ) → c + 1 ≡ lo + i → list_any (λ k. is_not_code (at (k + 1))) (range_with_len c n) ≡ any_of is_not_code (map (λ j. at (lo + j)) (up_from i n))
+  unfolding up_from any_of
+  not_range lo c i zero e = refl
+  not_range lo c i (suc n) e = ap₂ ◌||◌ (ap (λ k. is_not_code (at k)) e) (not_range lo (c + 1) (i + 1) n (omega arith))
 
-  module _ (c : ℕ) (h : lo < c) (code : Shape) (e : code ≡ at c) where
-    last_is : nots c ≡ (nots (c - 1) || is_not_code code)
-    unfolding up_to any_of
-    last_is =
-        let n : c - lo ≡ suc (c - 1 - lo) = omega arith in
-        let k : lo + suc (c - 1 - lo) ≡ c = omega arith in
-        ap (λ d. any_of is_not_code (up_to (λ i. at (lo + i)) d)) n
-        ∙ any_append is_not_code (up_to (λ i. at (lo + i)) (c - 1 - lo)) (at (lo + suc (c - 1 - lo)) ∷ [])
-        ∙ ap (λ b. nots (c - 1) || b) (or-false (is_not_code (at (lo + suc (c - 1 - lo)))) ∙ ap (λ d. is_not_code (at d)) k ∙ ap is_not_code (sym e))
-
-    pub nots_here : is_not_code code ≡ true → true ≡ nots c
-    nots_here f = sym (last_is ∙ ap (λ b. nots (c - 1) || b) f ∙ absorbs (nots (c - 1)))
-      where
-        absorbs : (b : Bool) → (b || true) ≡ true
-        absorbs true = refl
-        absorbs false = refl
-
-    pub nots_before : is_not_code code ≡ false → nots (c - 1) ≡ nots c
-    nots_before f = sym (last_is ∙ ap (λ b. nots (c - 1) || b) f ∙ or-false (nots (c - 1)))
-
-  pub nots_none : (c : ℕ) → c ≤ lo → false ≡ nots c
-  unfolding up_to any_of
-  nots_none c h = let n : c - lo ≡ 0 = omega arith in sym (ap (λ d. any_of is_not_code (up_to (λ i. at (lo + i)) d)) n)
+  -- so many codes after the first lo have one
+  pub any_not : (lo n : ℕ) → list_any (λ k. is_not_code (at (k + 1))) (range_with_len lo n) ≡ any_of is_not_code (up_to (λ i. at (lo + i)) n)
+  any_not lo n = not_range lo lo 1 n refl ∙ ap (any_of is_not_code) (sym (up_to-map (λ i. at (lo + i)) n))

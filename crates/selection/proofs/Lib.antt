@@ -3,4 +3,3 @@ pub mod PhrasesLaws
 pub mod PartSearchLaws
 pub mod MildOverNotLaws
 pub mod OccursOverOtherLaws
-pub mod CheckLaws

@@ -2,20 +2,18 @@
 use Prim.Native.Nat.{ℕ}
 use mathlib.Core.Path.{◌≡◌, refl, sym, ap, ◌∙◌}
 use mathlib.Core.Bool.{Bool, true, false, ◌&&◌, or-false}
-use mathlib.Core.List.{List, [], ◌∷◌, ◌++◌}
-use Rattle.model.specs.declared.Code.{Code}
+use mathlib.Core.List.{[], ◌∷◌, ◌++◌}
 use Rattle.model.specs.declared.Pair.TheVariants.{Or, And, MildNot}
 use Rattle.model.specs.Checks.{is_not, mild_over_not}
-use Rattle.model.specs.Kinds.{Shape, a_word, a_phrase, a_pair, a_change, is_word, shape_of, shape_at}
+use Rattle.model.specs.Kinds.{Shape, a_word, a_phrase, a_pair, a_change, is_word}
 use Rattle.model.specs.Lists.{any_of}
 use Rattle.model.specs.Parts.{is_not_code, is_mild_not, postfix, PartAt, part_start}
-use Rattle.model.specs.Selection.{code_at}
 use Rattle.model.specs.Trees.{Tree, pair, parts}
 use Rattle.model.proofs.BuildLaws.{part_codes_lem}
 use Rattle.model.proofs.ChecksLaws.{has_not_lem}
 use Rattle.model.proofs.ListsLaws.{any_append}
 use Rattle.model.proofs.PartsLaws.{word_at, pair-at, change-at, phrase-at}
-use Rattle.model.proofs.TestsLaws.{false-true}
+use Rattle.model.proofs.TestsLaws.{both_true, false-true}
 use Rattle.selection.specs.PartCodes.{part_codes}
 
 mild_tree : (c : ℕ) (t u : Tree) → mild_over_not (pair MildNot c t u) ≡ any_of is_not_code (postfix (pair MildNot c t u))
@@ -42,12 +40,11 @@ unfolding part_codes
 mild_told at c w = mild_part at c w (at c) refl ∙ ap (λ cs. is_mild_not (at c) && any_of is_not_code cs) (sym (part_codes_lem at c (part_start at c) w refl))
 
 -- a mild not is no word
-pub mild_ends : (code : Shape) → is_mild_not code ≡ true → is_word code ≡ false
+mild_ends : (code : Shape) → is_mild_not code ≡ true → is_word code ≡ false
 mild_ends (a_word v) e = false-true e
 mild_ends (a_phrase k) e = refl
 mild_ends (a_pair k) e = refl
 mild_ends (a_change k) e = refl
 
--- what is read of the code at a place
-pub read_mild : (sel : List ℕ) (c : ℕ) {code : Code} {b : Bool} → code ≡ code_at sel c → b ≡ is_mild_not (shape_of code) → is_mild_not (shape_at sel c) ≡ b
-read_mild sel c code_is mild_is = ap (λ k. is_mild_not (shape_of k)) (sym code_is) ∙ sym mild_is
+pub mild-told_ends : (at : ℕ → Shape) (c : ℕ) → mild_told_at at c ≡ true → is_word (at c) ≡ false
+mild-told_ends at c e = mild_ends (at c) (both_true (is_mild_not (at c)) (any_of is_not_code (part_codes at c)) e).0

@@ -1,16 +1,13 @@
 -- An occurs that stands over something else than a phrase is told at the place where its part ends: by its code and the one just before it, which ends
 -- the thing below.
 use Prim.Native.Nat.{ℕ, ◌-◌}
-use mathlib.Core.Path.{◌≡◌, refl, sym, ap, ap₂, ◌∙◌}
+use mathlib.Core.Path.{◌≡◌, refl, ap, ◌∙◌}
 use mathlib.Core.Bool.{Bool, true, false, not, ◌&&◌}
-use mathlib.Core.List.{List}
-use Rattle.model.specs.declared.Code.{Code}
 use Rattle.model.specs.Checks.{is_phrase, occurs_over_other}
-use Rattle.model.specs.Kinds.{Shape, a_word, a_phrase, a_pair, a_change, negated, filtered, occurring, is_word, shape_of, shape_at}
+use Rattle.model.specs.Kinds.{Shape, a_word, a_phrase, a_pair, a_change, negated, filtered, occurring, is_word}
 use Rattle.model.specs.Parts.{is_occurs_code, is_phrase_code, PartAt}
-use Rattle.model.specs.Selection.{code_at}
 use Rattle.model.proofs.PartsLaws.{word_at, pair-at, change-at, phrase-at}
-use Rattle.model.proofs.TestsLaws.{false-true}
+use Rattle.model.proofs.TestsLaws.{both_true, false-true}
 
 -- a part is a phrase where its code is one
 phrase-part : (at : ℕ → Shape) (hi : ℕ) (w : PartAt at hi) (code : Shape) → at hi ≡ code → is_phrase w.tree ≡ is_phrase_code code
@@ -37,20 +34,11 @@ pub occurs-told : (at : ℕ → Shape) (c : ℕ) (w : PartAt at c) → occurs_ov
 occurs-told at c w = occurs-part at c w (at c) refl
 
 -- an occurs is no word
-pub occurs-ends : (code : Shape) → is_occurs_code code ≡ true → is_word code ≡ false
+occurs-ends : (code : Shape) → is_occurs_code code ≡ true → is_word code ≡ false
 occurs-ends (a_word v) e = false-true e
 occurs-ends (a_phrase k) e = refl
 occurs-ends (a_pair k) e = refl
 occurs-ends (a_change k) e = refl
 
--- what is told at a place, by what is read of the code there and of the one before it
-module _ (sel : List ℕ) (c : ℕ) {code : Code} {o : Bool} (code_is : code ≡ code_at sel c) (occurs-is : o ≡ is_occurs_code (shape_of code)) where
-  pub read-occurs : is_occurs_code (shape_at sel c) ≡ o
-  read-occurs = ap (λ k. is_occurs_code (shape_of k)) (sym code_is) ∙ sym occurs-is
-
-  pub told-other : o ≡ false → occurs_told_at (shape_at sel) c ≡ false
-  told-other e = ap (◌&& not (is_phrase_code (shape_at sel (c - 1)))) (read-occurs ∙ e)
-
-  pub told-occurs : {below : Code} {p b : Bool} → below ≡ code_at sel (c - 1) → p ≡ is_phrase_code (shape_of below) → o ≡ true → not p ≡ b → occurs_told_at (shape_at sel) c ≡ b
-  told-occurs below-is phrase-is e f =
-      ap₂ ◌&&◌ (read-occurs ∙ e) (ap (λ k. not (is_phrase_code (shape_of k))) (sym below-is) ∙ ap not (sym phrase-is) ∙ f)
+pub occurs-told_ends : (at : ℕ → Shape) (c : ℕ) → occurs_told_at at c ≡ true → is_word (at c) ≡ false
+occurs-told_ends at c e = occurs-ends (at c) (both_true (is_occurs_code (at c)) (not (is_phrase_code (at (c - 1)))) e).0

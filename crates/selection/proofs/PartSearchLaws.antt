@@ -1,6 +1,6 @@
 -- The search for the first part with a fault, code by code. Each code but a word ends one part, and the parts of the selection's tree in postfix order
 -- are those parts in turn; so the first part with the fault is found at the first code that ends one.
-use Prim.Native.Nat.{ℕ, suc, ◌+◌, ◌-◌, ◌≤◌, ◌<◌}
+use Prim.Native.Nat.{ℕ, zero, suc, ◌+◌, ◌-◌, ◌≤◌, ◌<◌}
 use native.Mathlib.Omega.{arith}
 use native.Mathlib.Numerals.{add-one}
 use mathlib.Core.Path.{◌≡◌, refl, sym, ap, ◌∙◌}
@@ -11,12 +11,12 @@ use Rattle.std.specs.Prelude.{Option, Some, None, option_map}
 use Rattle.std.specs.Option.{option_or}
 use Rattle.model.proofs.OptionLaws.{map-eq-none_iff, none-ne-some}
 use Rattle.model.specs.Kinds.{Shape, a_word, a_phrase, a_pair, a_change, is_word, shape_at, shapes_of}
-use Rattle.model.specs.Lists.{first}
+use Rattle.model.specs.Lists.{first, from_to}
 use Rattle.model.specs.Parts.{fits_all, well_formed, part_ended_by, waiting_parts, PartAt}
 use Rattle.model.specs.Section.{size}
 use Rattle.model.specs.Selection.{up_to}
 use Rattle.model.specs.Trees.{Tree, place_of, State, read_all, fresh, top_tree, tree_of, parts}
-use Rattle.model.proofs.ListsLaws.{first-append}
+use Rattle.model.proofs.ListsLaws.{first-append, first-range_empty, first-range-here, first-range-later}
 use Rattle.model.proofs.PartsLaws.{fits-at, part_at, part-place, part-read}
 use Rattle.model.proofs.SelectionLaws.{up_to_split}
 use Rattle.model.proofs.TestsLaws.{false-true}
@@ -45,11 +45,9 @@ module _ (faulty : Tree → Bool) where
   found at c = place_in (waiting_parts (read_all (up_to at c) (fresh 1 1)).trees)
 
   place_in-append : (xs ys : List Tree) → place_in xs ≡ None → place_in (xs ++ ys) ≡ place_in ys
-  unfolding option_or
   place_in-append xs ys e = ap (option_map place_of) (first-append faulty xs ys ∙ ap (λ o. option_or o (first faulty ys)) ((map-eq-none_iff place_of (first faulty xs)).0 e))
 
   place_in-found : (xs ys : List Tree) (c : ℕ) → place_in xs ≡ Some c → place_in (xs ++ ys) ≡ Some c
-  unfolding option_or
   place_in-found xs ys c e = ap (option_map place_of) (first-append faulty xs ys) ∙ at (first faulty xs) e
     where
       at : (o : Option Tree) → option_map place_of o ≡ Some c → option_map place_of (option_or o (first faulty ys)) ≡ Some c
@@ -140,3 +138,30 @@ module _ (faulty : Tree → Bool) where
         let more : waiting_parts (after row (size sel)).trees ≡ waiting_parts (after row c).trees ++ r.newer =
         ap (λ l. waiting_parts (read_all l (fresh 1 1)).trees) all_of ∙ ap (λ (s : State). waiting_parts s.trees) (read_all-append (up_to row c) rest (fresh 1 1)) ∙ r.adds in
         ap place_in (sym whole ∙ more) ∙ place_in-found (waiting_parts (after row c).trees) r.newer place e
+
+    -- ---- the search for the first place at which a fault is told
+
+    module _ (told : ℕ → Bool) (told_is : (c : ℕ) (w : PartAt row c) → faulty w.tree ≡ told c) (ends : (c : ℕ) → told c ≡ true → is_word (row c) ≡ false) where
+      told-from : (left c : ℕ) → c + left ≡ size sel → found row c ≡ None → first told (from_to (c + 1) (size sel)) ≡ place_in (parts (tree_of sel))
+      unfolding shapes_of
+      told-from zero c h e =
+          let all : c ≡ size sel = omega arith in
+          first-range_empty told (c + 1) (size sel) (omega arith) ∙ sym (found_none (ap (found row) (sym all) ∙ e))
+      told-from (suc left) c h e =
+          let more : c < size sel = omega arith in
+          let at : c + 1 ≤ size sel = omega arith in
+          let rest = told-from left (c + 1) (omega arith) in
+          by (told (c + 1)) refl more at rest
+        where
+          by : (b : Bool) → told (c + 1) ≡ b → c < size sel → c + 1 ≤ size sel
+              → (found row (c + 1) ≡ None → first told (from_to (c + 1 + 1) (size sel)) ≡ place_in (parts (tree_of sel)))
+              → first told (from_to (c + 1) (size sel)) ≡ place_in (parts (tree_of sel))
+          by true q more at rest =
+              first-range-here told (c + 1) (size sel) at q
+              ∙ sym (found_some (c + 1) at (c + 1) (some_after row told told_is (size sel) well c more e (ends (c + 1) q) q))
+          by false q more at rest =
+              first-range-later told (c + 1) (size sel) at q ∙ rest (none_after row told told_is (size sel) well c more e q)
+
+      pub first_told : first told (from_to 1 (size sel)) ≡ place_in (parts (tree_of sel))
+      unfolding up_to read_all waiting_parts first
+      first_told = told-from (size sel) 0 (omega arith) refl

@@ -6,84 +6,46 @@ pub mod parts; // where a part starts, and what stands in it
 pub mod waiting; // the waiting rule: refusal 6
 
 ghost use Rattle.std.specs.Prelude.{true, ◌≡◌};
-ghost use Rattle.model.specs.Answers.{checked_of, fault_of};
+ghost use Rattle.model.specs.Answers.{checked_of};
 ghost use Rattle.model.specs.Checks.{not_over_phrase, not_under_mild_not, selection_refusal};
 ghost use Rattle.model.specs.Kinds.{shapes_of};
 ghost use Rattle.model.specs.Parts.{well_formed};
 ghost use Rattle.model.specs.Section.{size};
 
-use model::{Checked, Fault, MAX_CODES, Refusal};
+use codes::places::first_failing;
+use model::{MAX_CODES, Reason, Refusal};
 
 // Refusal 12: the first occurs "where the thing below isn't a phrase". The code just before it ends that thing.
-fn not_over_phrase(selection: &[u32]) -> Fault
+fn not_over_phrase(selection: &[u32]) -> Option<u32>
     requires { well_formed (shapes_of selection.now) ≡ true }
-    ensures { result ≡ fault_of (not_over_phrase selection.now) }
+    ensures { result ≡ not_over_phrase selection.now }
 {
-    let m = slices::number_at(selection, 0);
-    let mut c: u32 = 0;
-    while c < m {
-        c += 1;
-        let code = codes::code_at(selection, c);
-        if codes::is_occurs(code) {
-            let below = codes::code_at(selection, c - 1);
-            if !codes::is_phrase(below) {
-                return Fault::At(c);
-            }
-        }
-    }
-    Fault::Nowhere
+    first_failing(selection, |place| {
+        codes::is_occurs(codes::code_at(selection, place))
+            && !codes::is_phrase(codes::code_at(selection, place - 1))
+    })
 }
 
 // Refusal 7: the first mild not with a not, or an occurs from a to b, in either side.
-fn not_under_mild_not(selection: &[u32]) -> Fault
+fn not_under_mild_not(selection: &[u32]) -> Option<u32>
     requires { well_formed (shapes_of selection.now) ≡ true }
-    ensures { result ≡ fault_of (not_under_mild_not selection.now) }
+    ensures { result ≡ not_under_mild_not selection.now }
 {
-    let m = slices::number_at(selection, 0);
-    let mut c: u32 = 0;
-    while c < m {
-        c += 1;
-        let code = codes::code_at(selection, c);
-        if codes::is_mild_not(code) {
-            if parts::has_not(selection, c) {
-                return Fault::At(c);
-            }
-        }
-    }
-    Fault::Nowhere
+    first_failing(selection, |place| {
+        codes::is_mild_not(codes::code_at(selection, place)) && parts::has_not(selection, place)
+    })
 }
 
 // Refusals 3 to 7, and 12 after 6, each over the whole input before the next.
-pub fn check_selection(selection: &[u32]) -> Checked
+#[tactic(auto, using(crate::proofs::CodeLoopsLaws::none_misfits), unfolding(model::specs::Checks::selection_refusal, model::specs::Checks::tried, model::specs::Checks::wrong_selection))]
+pub fn check_selection(selection: &[u32]) -> Result<u32, Refusal>
     ensures { result ≡ checked_of (size selection.now) (selection_refusal selection.now) }
 {
-    if !slices::well_sized(selection, 1, MAX_CODES) {
-        return Checked::Refused(Refusal {
-            number: 3,
-            place: 0,
-        });
-    }
-    let unknown = codes::table::unknown_kind(selection);
-    if let Fault::At(place) = unknown {
-        return Checked::Refused(Refusal { number: 4, place });
-    }
-    let outside = codes::table::wrong_operand(selection);
-    if let Fault::At(place) = outside {
-        return Checked::Refused(Refusal { number: 5, place });
-    }
-    let shape = waiting::wrong_shape(selection);
-    if let Fault::At(place) = shape {
-        return Checked::Refused(Refusal { number: 6, place });
-    }
-    let over_other = not_over_phrase(selection);
-    if let Fault::At(place) = over_other {
-        return Checked::Refused(Refusal { number: 12, place });
-    }
-    let under = not_under_mild_not(selection);
-    if let Fault::At(place) = under {
-        return Checked::Refused(Refusal { number: 7, place });
-    }
-    Checked::Accepted {
-        size: slices::number_at(selection, 0),
-    }
+    Reason::WrongSelection.refuse_unless(slices::well_sized(selection, 1, MAX_CODES))?;
+    Reason::UnknownKind.refuse_at(codes::table::unknown_kind(selection))?;
+    Reason::WrongOperand.refuse_at(codes::table::wrong_operand(selection))?;
+    Reason::WrongShape.refuse_at(waiting::wrong_shape(selection))?;
+    Reason::NotOverPhrase.refuse_at(not_over_phrase(selection))?;
+    Reason::NotUnderMildNot.refuse_at(not_under_mild_not(selection))?;
+    Ok(slices::number_at(selection, 0))
 }

@@ -13,10 +13,7 @@ use model::Code;
 fn stops_at(code: Code, trees: usize) -> bool
     ensures { result ≡ stops (shape_of code) trees }
 {
-    if codes::is_word(code) {
-        return false;
-    }
-    trees == 0
+    !codes::is_word(code) && trees == 0
 }
 
 // The trees still to find before this code.
@@ -58,27 +55,17 @@ pub fn has_not(selection: &[u32], place: u32) -> bool
     ensures { result ≡ any_of is_not_code (part_codes (shape_at selection.now) place) }
 {
     let before = part_start(selection, place);
-    let mut c = place;
-    while before < c {
-        let code = codes::code_at(selection, c);
-        if codes::is_not(code) {
-            return true;
-        }
-        c -= 1;
-    }
-    false
+    (before..place).any(|c| codes::is_not(codes::code_at(selection, c + 1)))
 }
 
 // How many phrases are among the codes up to a place: the rank of a phrase that stands there.
 pub fn rank_at(selection: &[u32], place: u32) -> u32
     ensures { result ≡ phrases_in (up_to (shape_at selection.now) place) }
 {
-    let mut rank: u32 = 0;
-    let mut c: u32 = 0;
-    while c < place {
+    let mut rank = 0;
+    for c in 0..place {
         let code = codes::code_at(selection, c + 1);
         rank += codes::phrases_ended(code);
-        c += 1;
     }
     rank
 }

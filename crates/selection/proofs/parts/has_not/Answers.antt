@@ -1,29 +1,19 @@
-use Rattle.selection.proofs.CodeLoopsLaws.{nots_here, nots_before, nots_none}
+use Prim.Native.Nat.{◌-◌}
+use Rattle.std.proofs.Common.{◌+◌, ◌∙◌, refl, rules}
+use Rattle.std.proofs.lemmas.Iterator.{YieldsList-from_range}
+use Rattle.std.proofs.lemmas.Iterator.Search.{any_from_yields_List}
+use borrow.Author.Tests.{tests}
+use Rattle.model.specs.Kinds.{shape_at}
+use Rattle.model.specs.Parts.{is_not_code}
 use Rattle.selection.specs.PartCodes.{part_codes}
-use Rattle.model.specs.Kinds.{shape_at, shape_of}
-use mathlib.Core.Path.{sym, ap, ◌∙◌}
-use native.Mathlib.Omega.{arith}
+use Rattle.selection.proofs.CodeLoopsLaws.{any_not}
 use Rattle.selection.proofs.parts.has_not.Goals as goal
 
-pub loop-c-init : goal.loop-c-init
-unfolding part_codes
-loop-c-init c = (omega arith, rw c.part_start-before.ensures)
-
-pub returns-then-is_not : goal.returns-then-is_not
-returns-then-is_not c =
-    let s = c.args.selection.now in
-    nots_here (shape_at s) c.part_start-before.result c.loop-c.c c.loop-c-test.true _ (ap shape_of c.code_at-code.ensures) (sym c.is_not.ensures ∙ c.if-is_not.true)
-    ∙ c.loop-c.invariant.1
-
-pub loop-c-preserved : goal.loop-c-preserved
-loop-c-preserved c =
-    let s = c.args.selection.now in (
-      omega arith,
-      nots_before (shape_at s) c.part_start-before.result c.loop-c.c c.loop-c-test.true _ (ap shape_of c.code_at-code.ensures) (sym c.is_not.ensures ∙ c.if-is_not.false)
-          ∙ c.loop-c.invariant.1,
-    )
-
 pub returns : goal.returns
+unfolding part_codes
 returns c =
-    let s = c.args.selection.now in
-    nots_none (shape_at s) c.part_start-before.result c.loop-c.c c.loop-c-test.false ∙ c.loop-c.invariant.1
+    let at = shape_at c.args.selection.now in
+    let before = c.part_start-before.result in
+    any_from_yields_List (λ p. is_not_code (at (p + 1))) _ _ _ c.any.ensures.ran (YieldsList-from_range before c.args.place (c.args.place - before) refl refl) (λ x b q k. search (rules, tests))
+    ∙ any_not at before (c.args.place - before)
+    ∙ rw c.part_start-before.ensures
