@@ -1,6 +1,6 @@
 -- Invariant: the counts of the first i matches are written, and the others lie from at on. The place of a count is its match's number, so the buffer's
--- index needs no variable. Measure: n - i.
-use Prim.Native.Nat.{◌+◌, ◌≤◌, ◌-◌}
+-- index needs no variable.
+use Prim.Native.Nat.{◌+◌}
 use mathlib.Core.Path.{◌≡◌}
 use lib.ListN.{length}
 use Rattle.store.specs.Stream.{StreamAt}
@@ -9,7 +9,4 @@ use Rattle.listing_buffer.proofs.put_counts.Given as goal
 
 abbrev pub invariant-loop-i : goal.invariant-loop-i
 invariant-loop-i l =
-    (l.i ≤ l.n) × (length l.buffer ≡ length l.initial.buffer) × ((w : StreamAt l.mem l.first l.n) → Writing count_in w.list l.mem l.n l.initial.buffer l.q l.buffer l.at (l.q + l.i) l.i)
-
-abbrev pub decreases-loop-i : goal.decreases-loop-i
-decreases-loop-i l = l.n - l.i
+    (length l.buffer ≡ length l.initial.buffer) × ((w : StreamAt l.mem l.first l.n) → Writing count_in w.list l.mem l.n l.initial.buffer l.q l.buffer l.at (l.q + l.i) l.i)

@@ -6,7 +6,7 @@ use lib.ListN.{length, length-set}
 use Rattle.model.specs.Limits.{buffer_length}
 use Rattle.listing_buffer.proofs.ListingLaws.{CountsAre, counts_given, column_given, listed}
 use Rattle.listing_buffer.proofs.put_listing.Goals as goal
-use Rattle.listing_buffer.proofs.put_listing.Goals.{After-put_column, After-put_counts, After-slot_strings-strings}
+use Rattle.listing_buffer.proofs.put_listing.Goals.{After-put_column, After-put_counts, After-size_at-size}
 
 -- the buffer keeps its length
 long : (c : After-put_counts) → buffer_length ≤ length c.put_counts.new.buffer
@@ -16,20 +16,20 @@ longer : (c : After-put_column) → buffer_length ≤ length c.put_column.new.bu
 longer c = omega (arith, simp length-set at c.put_counts.auto.buffer, c.put_column.auto.buffer)
 
 -- the two counts
-counts : (c : After-slot_strings-strings) → CountsAre c.args.mem.now c.args.src c.slot_matches-matches.result c.slot_strings-strings.result
-counts c = record { matches_are = c.slot_matches-matches.ensures; strings_are = c.slot_strings-strings.ensures }
+counts : (c : After-size_at-size) → CountsAre c.args.mem.now c.args.src c.size_at-size.result.matches c.size_at-size.result.strings
+counts c = record { matches_are = c.size_at-size.ensures.matches; strings_are = c.size_at-size.ensures.strings }
 
 pub bounds-buffer-1 : goal.bounds-buffer-1
 bounds-buffer-1 c = simp length-set (omega arith)
 
 pub put_counts-requires : goal.put_counts-requires
-put_counts-requires c = record { stream_at = counts_given c.requires.slot_at.slot (counts (goal.at.put_counts-requires c).After-slot_strings-strings); n_in_bounds = simp length-set (omega arith) }
+put_counts-requires c = record { stream_at = counts_given c.requires.slot_at.slot (counts (goal.at.put_counts-requires c).After-size_at-size); n_in_bounds = simp length-set (omega arith) }
 
 pub put_column-requires : goal.put_column-requires
-put_column-requires c = record { column_at = column_given c.requires.slot_at.slot (counts (goal.at.put_column-requires c).After-slot_strings-strings) _ (omega arith) (long (goal.at.put_column-requires c).After-put_counts); column_bound = omega arith }
+put_column-requires c = column_given c.requires.slot_at.slot (counts (goal.at.put_column-requires c).After-size_at-size) _ (omega arith) (long (goal.at.put_column-requires c).After-put_counts)
 
 pub put_column-requires-2 : goal.put_column-requires-2
-put_column-requires-2 c = record { column_at = column_given c.requires.slot_at.slot (counts (goal.at.put_column-requires-2 c).After-slot_strings-strings) _ (omega arith) (longer (goal.at.put_column-requires-2 c).After-put_column); column_bound = omega arith }
+put_column-requires-2 c = column_given c.requires.slot_at.slot (counts (goal.at.put_column-requires-2 c).After-size_at-size) _ (omega arith) (longer (goal.at.put_column-requires-2 c).After-put_column)
 
 pub shape_of-buffer : goal.shape_of-buffer
 shape_of-buffer c =
@@ -38,6 +38,6 @@ shape_of-buffer c =
 pub returns : goal.returns
 returns c w =
     let s = w.slot in
-    let k = counts (goal.at.returns c).After-slot_strings-strings in
+    let k = counts (goal.at.returns c).After-size_at-size in
     listed s k _ (c.put_counts.ensures (counts_given s k)) (c.put_column.ensures (column_given s k _ (omega arith) (long (goal.at.returns c).After-put_counts)))
     (c.put_column-2.ensures (column_given s k _ (omega arith) (longer (goal.at.returns c).After-put_column)))
