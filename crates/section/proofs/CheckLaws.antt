@@ -2,6 +2,7 @@
 use Rattle.std.proofs.Common.{◌≡◌, ℕ, ◌+◌, ◌-◌, ◌*◌, ◌<◌, ◌≤◌, true, false, List, [], take, drop, arith, le-leb}
 use Rattle.std.specs.Prelude.{Some, None}
 use borrow.Author.Tests.{lt-leb}
+use Rattle.model.specs.declared.Reason.TheVariants.{WrongSection, FaultyPosition}
 use Rattle.model.specs.declared.Refusal.{Refusal}
 use Rattle.model.specs.Answers.{has_positions, snippet_of, snippet_start, stands_at}
 use Rattle.model.specs.Checks.{refusal, tried, wrong_section, faulty_position, section_refusal}
@@ -11,11 +12,11 @@ use Rattle.model.specs.Section.{size, well_sized}
 -- ---- section_refusal
 
 module _ (section : List ℕ) where
-  pub wrong_size : well_sized 0 max_tokens section ≡ false → section_refusal section ≡ Some (refusal 1 0)
+  pub wrong_size : well_sized 0 max_tokens section ≡ false → section_refusal section ≡ Some (refusal WrongSection 0)
   unfolding section_refusal tried wrong_section
   wrong_size e = rw e
 
-  pub wrong_order : well_sized 0 max_tokens section ≡ true → (place : ℕ) → faulty_position section ≡ Some place → section_refusal section ≡ Some (refusal 2 place)
+  pub wrong_order : well_sized 0 max_tokens section ≡ true → (place : ℕ) → faulty_position section ≡ Some place → section_refusal section ≡ Some (refusal FaultyPosition place)
   unfolding section_refusal tried wrong_section
   wrong_order e place f = rw (e, f)
 

@@ -1,40 +1,41 @@
 -- Looks at positions that follow each other: the first that finds a fault decides, and the last nonzero sentence goes on from each to the next.
-use Rattle.std.proofs.Common.{◌≡◌, ℕ, zero, suc, ◌+◌, ◌-◌, ◌/◌, ◌%◌, ◌<◌, ◌≤◌, Bool, true, false, ◌||◌, ◌⊎◌, List, get_or, sym, refl, ap, ◌∙◌, ⊎_elim, arith}
+use Rattle.std.proofs.Common.{◌≡◌, ℕ, zero, suc, ◌+◌, ◌-◌, ◌/◌, ◌%◌, ◌<◌, ◌≤◌, Bool, true, false, ◌||◌, List, sym, refl, ap, ◌∙◌, arith}
 use Rattle.std.specs.Prelude.{Option, Some, None}
 use Rattle.std.specs.Option.{option_or}
 use Rattle.model.specs.Checks.{breaks_order, last_nonzero, falls_below, faulty_at, faulty_position}
 use Rattle.model.specs.Limits.{radix}
 use Rattle.model.specs.Lists.{first, from_to}
-use Rattle.model.specs.Section.{size, sentence_at}
+use Rattle.model.specs.Section.{size, second_at, sentence_at}
 use Rattle.model.proofs.ChecksLaws.{last-zero, last_some}
 use Rattle.model.proofs.ListsLaws.{first-append, range-append, first-range_empty, first-range-here, first-range-later}
-use Rattle.section.specs.declared.looks.Looked.{Looked}
-use Rattle.section.specs.declared.looks.Looked.TheVariants.{Faulty, Sound, Unclear}
 use Rattle.section.specs.Looks.{faulty_after, look_of, last_after, Faultless}
+use Rattle.std.specs.Prelude.{Ok, Err}
+use Rattle.std.specs.Result.{result_err}
+use Rattle.model.specs.declared.Sentence.{Sentence}
 
--- ---- look_of: what an answer tells, where it may also be unclear
+-- ---- look_of
 
-module _ (o : Option ℕ) (last : ℕ) (closely : Bool) (r : Looked) (told : (r ≡ look_of o last) ⊎ ((r ≡ Unclear) × (closely ≡ false))) where
-  pub look_faulty : (place : ℕ) → r ≡ Faulty place → o ≡ Some place
-  look_faulty place e = ⊎_elim (λ t. at o (sym t ∙ e)) (λ t. let z : ◌≡◌ {A = ℕ} 0 1 = cc in absurd (omega arith)) told
+module _ (o : Option ℕ) (last : ℕ) where
+  pub look_err : (place : ℕ) → look_of o last ≡ Err place → o ≡ Some place
+  look_err place e = at o e
     where
-      at : (o : Option ℕ) → look_of o last ≡ Faulty place → o ≡ Some place
+      at : (o : Option ℕ) → look_of o last ≡ Err place → o ≡ Some place
       at (Some p) f = cc
-      at None f = let z : ◌≡◌ {A = ℕ} 0 1 = cc in absurd (omega arith)
+      at None f = absurd (cc)
 
-  pub look_sound : (after : ℕ) → r ≡ Sound after → (o ≡ None) × (after ≡ last)
-  look_sound after e = ⊎_elim (λ t. at o (sym t ∙ e)) (λ t. let z : ◌≡◌ {A = ℕ} 0 1 = cc in absurd (omega arith)) told
+  pub look_ok : (after : Sentence) → look_of o last ≡ Ok after → (o ≡ None) × (after.0 ≡ last)
+  look_ok after e = at o e
     where
-      at : (o : Option ℕ) → look_of o last ≡ Sound after → (o ≡ None) × (after ≡ last)
-      at (Some p) f = let z : ◌≡◌ {A = ℕ} 0 1 = cc in absurd (omega arith)
-      at None f = (refl, cc)
+      at : (o : Option ℕ) → look_of o last ≡ Ok after → (o ≡ None) × (after.0 ≡ last)
+      at (Some p) f = absurd (cc)
+      at None f = let same : record { 0 = last } ≡ after = cc in (refl, ap (λ (s : Sentence). s.0) (sym same))
 
-  pub look_unclear : r ≡ Unclear → closely ≡ false
-  look_unclear e = ⊎_elim (λ t. at o (sym t ∙ e)) (λ t. t.1) told
+  pub look_first : result_err (look_of o last) ≡ o
+  look_first = at o
     where
-      at : (o : Option ℕ) → look_of o last ≡ Unclear → closely ≡ false
-      at (Some p) f = let z : ◌≡◌ {A = ℕ} 0 1 = cc in absurd (omega arith)
-      at None f = let z : ◌≡◌ {A = ℕ} 0 1 = cc in absurd (omega arith)
+      at : (o : Option ℕ) → result_err (look_of o last) ≡ o
+      at (Some p) = refl
+      at None = refl
 
 module _ (section : List ℕ) where
   -- ---- faulty_after, over all positions, over none, and from one to the next
@@ -65,44 +66,34 @@ module _ (section : List ℕ) where
         ∙ first-append (faulty_at section) (from_to (from + 1) mid) (from_to (mid + 1) to)
 
     pub found_first : (p : ℕ) → faulty_after section from mid ≡ Some p → faulty_after section from to ≡ Some p
-    unfolding option_or
     found_first p e = two_looks ∙ rw e
 
     pub found-later : faulty_after section from mid ≡ None → faulty_after section from to ≡ faulty_after section mid to
-    unfolding option_or
     found-later e = two_looks ∙ rw e
 
-  -- ---- position 1, by the place that the code reads
+  -- ---- position 1
 
-  pub last-first : (n : ℕ) → n ≡ size section → get_or section (n + 1) 0 % radix ≡ last_nonzero (sentence_at section) 1
+  pub last-first : (here : ℕ) → here ≡ sentence_at section 1 → here ≡ last_nonzero (sentence_at section) 1
   unfolding last_nonzero
-  last-first n e = rw e (at (sentence_at section 1) refl)
+  last-first here e = e ∙ at (sentence_at section 1) refl
     where
       at : (x : ℕ) → sentence_at section 1 ≡ x → sentence_at section 1 ≡ last_nonzero (sentence_at section) 1
       at zero z = z ∙ sym (last-zero (sentence_at section) 1 (omega arith) z)
       at (suc x) z = sym (last_some (sentence_at section) 1 (omega arith) (omega (arith, z)))
 
-  -- ---- a position after p, by the places that the code reads
+  -- ---- a position after p, by the two places
 
-  module _ (n p last : ℕ) (e : n ≡ size section) (l : last ≡ last_nonzero (sentence_at section) p) where
-    pub faulty_told : (r : Bool)
-        → r ≡ (falls_below last (get_or section (n + p + 1) 0 % radix) || breaks_order (get_or section (n + p) 0 / radix) (get_or section (n + p + 1) 0 / radix))
-        → faulty_at section (p + 1) ≡ r
+  module _ (p last : ℕ) {before here : ℕ} (b : before ≡ second_at section p) (h : here ≡ second_at section (p + 1)) (l : last ≡ last_nonzero (sentence_at section) p) where
+    pub faulty_told : (r : Bool) → r ≡ (falls_below last (here % radix) || breaks_order (before / radix) (here / radix)) → faulty_at section (p + 1) ≡ r
     unfolding faulty_at
-    faulty_told r told =
-        let before : p + 1 - 1 ≡ p = omega arith in
-        let here : size section + (p + 1) ≡ n + p + 1 = omega arith in
-        rw (before, here, ← e, ← l) (sym told)
+    faulty_told r told = let at : p + 1 - 1 ≡ p = omega arith in rw (at, ← l, ← b, ← h) (sym told)
 
-    pub last-told : (r : ℕ) → r ≡ last_after last (get_or section (n + p + 1) 0 % radix) → r ≡ last_nonzero (sentence_at section) (p + 1)
+    pub last-told : (r : ℕ) → r ≡ last_after last (here % radix) → r ≡ last_nonzero (sentence_at section) (p + 1)
     unfolding last_nonzero
-    last-told r told =
-        let next : p + 1 ≡ suc p = omega arith in
-        let here : size section + suc p ≡ n + p + 1 = omega arith in
-        rw (next, here, ← l) told
+    last-told r told = let next : p + 1 ≡ suc p = omega arith in rw (next, ← l) (rw (h, next) at told)
 
   -- ---- the end of a block without faults
 
-  pub last_of_block : (n from to last r : ℕ) → n ≡ size section → last ≡ last_nonzero (sentence_at section) from → Faultless section from to
-      → r ≡ last_after last (get_or section (n + to) 0 % radix) → r ≡ last_nonzero (sentence_at section) to
-  last_of_block n from to last r e l f told = told ∙ rw (l, e) (sym f.last_is)
+  pub last_of_block : (from to last : ℕ) {here : ℕ} (r : ℕ) → here ≡ second_at section to → last ≡ last_nonzero (sentence_at section) from → Faultless section from to
+      → r ≡ last_after last (here % radix) → r ≡ last_nonzero (sentence_at section) to
+  last_of_block from to last r h l f told = rw (h, l) at told ∙ sym f.last_is

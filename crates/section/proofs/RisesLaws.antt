@@ -1,11 +1,11 @@
 -- Where the summed rises are the rise from first to last, nothing falls. Then no paragraph is faulty unless they rise from zero; and no sentence, unless they
 -- do and one was nonzero before.
-use Rattle.std.proofs.Common.{◌≡◌, ℕ, zero, suc, ◌+◌, ◌-◌, ◌*◌, ◌/◌, ◌%◌, ◌^◌, ◌<◌, ◌≤◌, Bool, true, false, not, ◌&&◌, eqb, ◌⊎◌, List, get_or, sym, refl, ap, ◌∙◌, subst, inl, inr, ⊎_elim, eq-or-lt_of_le, arith, le-ltb, eq-eqb, ne_eqb, eqb-true}
+use Rattle.std.proofs.Common.{◌≡◌, ℕ, zero, suc, ◌+◌, ◌-◌, ◌*◌, ◌/◌, ◌%◌, ◌^◌, ◌<◌, ◌≤◌, Bool, true, false, not, ◌&&◌, eqb, ◌⊎◌, List, sym, refl, ap, ◌∙◌, subst, inl, inr, ⊎_elim, eq-or-lt_of_le, arith, le-ltb, eq-eqb, ne_eqb, eqb-true}
 use mathlib.Core.Bool.{xor}
 use borrow.Author.Tests.{eqb-false, not-false}
 use Rattle.model.specs.Checks.{breaks_order, last_nonzero, falls_below, faulty_at}
 use Rattle.model.specs.Limits.{max_tokens, radix}
-use Rattle.model.specs.Section.{size, second_at, sentence_at, paragraph_at}
+use Rattle.model.specs.Section.{second_at, sentence_at, paragraph_at}
 use Rattle.model.proofs.ChecksLaws.{last-zero, last_some, below_none}
 use Rattle.model.proofs.ListsLaws.{range-first-none}
 use Rattle.model.proofs.TestsLaws.{false-true}
@@ -158,17 +158,18 @@ module _ (section : List ℕ) (from to : ℕ) (one : 1 ≤ from) (h : from ≤ t
           last_is = last-at (sentence_at section) from to in_sentence one to h (omega arith);
         }
 
-  -- by the sum and the places that the code reads
-  pub faultless : (n sum last : ℕ) → n ≡ size section → to ≤ max_tokens → SummedRises section from to sum
-      → sum + get_or section (n + from) 0 / radix ≡ get_or section (n + to) 0 / radix
-      → (eqb (get_or section (n + from) 0 / radix) 0 && not (eqb (get_or section (n + to) 0 / radix) 0)) ≡ false
+  -- by the sum and the places at both ends
+  pub faultless : {sum last first end : ℕ} → to ≤ max_tokens → SummedRises section from to sum → first ≡ second_at section from → end ≡ second_at section to
+      → sum + first / radix ≡ end / radix
+      → (eqb (first / radix) 0 && not (eqb (end / radix) 0)) ≡ false
       → last ≡ last_nonzero (sentence_at section) from
-      → (last ≡ 0) ⊎ ((eqb (get_or section (n + from) 0 % radix) 0 && not (eqb (get_or section (n + to) 0 % radix) 0)) ≡ false)
+      → (last ≡ 0) ⊎ ((eqb (first % radix) 0 && not (eqb (end % radix) 0)) ≡ false)
       → Faultless section from to
-  faultless n sum last e few r total b is may = no_faults (r.no_falls none_fell.0 none_fell.1) (rw e at b) (⊎_elim (λ z. inl (sym is ∙ z)) (λ m. inr (rw e at m)) may)
+  faultless {sum} few r f e total b is may =
+      no_faults (r.no_falls none_fell.0 none_fell.1) (rw (f, e) at b) (⊎_elim (λ z. inl (sym is ∙ z)) (λ m. inr (rw (f, e) at m)) may)
     where
       balanced : sum + paragraph_at section from ≡ paragraph_at section to
-      balanced = rw e at total
+      balanced = rw (f, e) at total
 
       none_fell : (r.sentence_falls ≡ 0) × (r.place_falls ≡ 0)
       none_fell = (omega (arith, r.few, r.balance, balanced, few), omega (arith, r.few, r.balance, balanced, few))

@@ -1,9 +1,8 @@
--- Two cases, after a zero and after any other number (OrderLaws).
-use Rattle.section.proofs.OrderLaws.{after-zero, after-some}
+use Rattle.std.proofs.Common.{◌≤◌, le-ltb, rules}
+use Rattle.section.proofs.OrderLaws.{differ}
 use Rattle.section.proofs.order.breaks_order.Goals as goal
 
-pub returns-then-before-eq0 : goal.returns-then-before-eq0
-returns-then-before-eq0 c = after-zero c.args.here.0 c.args.before.0 c.if-before-eq0.true
-
-pub returns : goal.returns
-returns c = after-some c.args.here.0 c.args.before.0 c.if-before-eq0.false
+pub returns-else-lt : goal.returns-else-lt
+returns-else-lt c =
+    let not_below : c.args.before.0 ≤ c.args.here.0 = search rules in
+    rw (le-ltb c.args.here.0 c.args.before.0 not_below, differ)
