@@ -7,14 +7,15 @@ ghost use Rattle.text.specs.Printed.{after_blank, line_of};
 
 use super::texts::put_string;
 use super::words::{put_byte, put_word};
+use strings::Packed;
 
 // A string after a blank.
-fn put_later_string(span: u32, tag: u32, text: &mut [u8], at: usize) -> usize
-    requires { at + length (after_blank (text_of span tag)) ≤ length text.old }
-    ensures { Put text.old text.new at (after_blank (text_of span tag)) result }
+fn put_later_string(string: Packed, text: &mut [u8], at: usize) -> usize
+    requires { at + length (after_blank (text_of string.span string.tag)) ≤ length text.old }
+    ensures { Put text.old text.new at (after_blank (text_of string.span string.tag)) result }
 {
     let first = put_byte(b' ', text, at);
-    put_string(span, tag, text, first)
+    put_string(string, text, first)
 }
 
 // n strings, each after a blank: their spans from s on, their tags from t on.
@@ -31,10 +32,12 @@ fn put_later_strings(
     ensures { Put text.old text.new at (flat_map after_blank (texts_at buffer.now s t n)) result }
 {
     let mut q = at;
-    let mut i = 0;
-    while i < n {
-        q = put_later_string(buffer[s + i], buffer[t + i], text, q);
-        i += 1;
+    for i in 0..n {
+        let string = Packed {
+            span: buffer[s + i],
+            tag: buffer[t + i],
+        };
+        q = put_later_string(string, text, q);
     }
     q
 }
@@ -48,7 +51,11 @@ fn put_line(buffer: &[u32], s: usize, t: usize, n: usize, text: &mut [u8], at: u
     if n == 0 {
         return put_word(b".\n", text, at);
     }
-    let later = put_string(buffer[s], buffer[t], text, at);
+    let string = Packed {
+        span: buffer[s],
+        tag: buffer[t],
+    };
+    let later = put_string(string, text, at);
     let end = put_later_strings(buffer, s + 1, t + 1, n - 1, text, later);
     put_byte(b'\n', text, end)
 }
@@ -70,13 +77,11 @@ pub fn put_lines(
     let mut span = s;
     let mut tag = t;
     let mut q = at;
-    let mut i = 0;
-    while i < n {
+    for i in 0..n {
         let strings = buffer[c + i] as usize;
         q = put_line(buffer, span, tag, strings, text, q);
         span += strings;
         tag += strings;
-        i += 1;
     }
     q
 }

@@ -28,10 +28,8 @@ pub fn read_numbers(bytes: &[u8], numbers: &mut [u32]) -> usize
     ensures upper_bound { result ≤ length numbers.new }
 {
     let n = bytes.len() / 4;
-    let mut i = 0;
-    while i < n {
+    for i in 0..n {
         numbers[i] = number_at(bytes, 4 * i);
-        i += 1;
     }
     n
 }
@@ -42,8 +40,5 @@ pub fn section_length(numbers: &[u32]) -> usize
     ensures upper_bound { result ≤ length numbers.now }
 {
     let n = slices::number_at(numbers, 0) as usize;
-    if numbers.len() < 1 + 2 * n {
-        return numbers.len();
-    }
-    1 + 2 * n
+    numbers.len().min(1 + 2 * n)
 }

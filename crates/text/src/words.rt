@@ -15,12 +15,9 @@ pub fn put_word(word: &[u8], text: &mut [u8], at: usize) -> usize
     requires { at + length word.now ≤ length text.old }
     ensures { Put text.old text.new at word.now result }
 {
-    let mut i = 0;
-    while i < word.len() {
-        text[at + i] = word[i];
-        i += 1;
-    }
-    at + i
+    let end = at + word.len();
+    text[at..end].copy_from_slice(word);
+    end
 }
 
 // A number in base ten: the digits of its tenth, if it is not below ten, and then its last digit. At most ten calls deep.

@@ -1,5 +1,4 @@
--- Invariant: the first i numbers are put, and the slice has kept its length. Measure: n - i.
-use Prim.Native.Nat.{◌≤◌, ◌-◌}
+-- Invariant: the first i numbers are put, and the slice has kept its length.
 use mathlib.Core.Path.{◌≡◌}
 use lib.ListN.{length, take}
 use lib.Seq.{sets}
@@ -7,7 +6,4 @@ use Rattle.text.specs.Input.{numbers_of}
 use Rattle.text.proofs.reading.read_numbers.Given as goal
 
 abbrev pub invariant-loop-i : goal.invariant-loop-i
-invariant-loop-i l = (l.i ≤ l.n) × (l.numbers ≡ sets l.initial.numbers 0 (take l.i (numbers_of l.bytes))) × (length l.numbers ≡ length l.initial.numbers)
-
-abbrev pub decreases-loop-i : goal.decreases-loop-i
-decreases-loop-i l = l.n - l.i
+invariant-loop-i l = (l.numbers ≡ sets l.initial.numbers 0 (take l.i (numbers_of l.bytes))) × (length l.numbers ≡ length l.initial.numbers)
