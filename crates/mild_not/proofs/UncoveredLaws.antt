@@ -1,5 +1,5 @@
 -- A match of L has an uncovered position, beside one of R, where its includes cover one that the other's don't; mild not keeps it where each of R leaves it one.
-use Rattle.std.proofs.Common.{◌≡◌, ℕ, ◌+◌, ◌<◌, ◌≤◌, Bool, true, false, not, ◌&&◌, ◌||◌, List, [], ◌∷◌, length, drop, sym, refl, ap, ◌∙◌, ap₂, arith, lt-ltb, le-leb}
+use Rattle.std.proofs.Common.{◌≡◌, ℕ, ◌<◌, ◌≤◌, Bool, true, false, not, ◌&&◌, ◌||◌, List, [], ◌∷◌, sym, refl, ap, ◌∙◌, ap₂, arith, lt-ltb, le-leb, subst}
 use mathlib.Core.Bool.{or-true}
 use mathlib.Core.List.{flat_map}
 use Rattle.model.specs.Lists.{all_of, any_of, from_to}
@@ -8,15 +8,18 @@ use Rattle.model.specs.declared.Position.{Position}
 use Rattle.model.specs.Rules.{covered, covers, kept_if, mild_not_list, positions, has_uncovered}
 use Rattle.model.proofs.RulesLaws.{AtMostOne}
 use Rattle.strings.specs.Covering.{RunEnd}
-use Rattle.strings.specs.Strings.{strs_at}
-use Rattle.strings.proofs.StringsLaws.{str_at, strs_at-cons}
-use Rattle.strings.proofs.StringsLaws as Strs
+use Rattle.model.specs.AllStrings.{AllStrs}
+use Rattle.model.specs.Lists.{Every}
+use Rattle.store.specs.ValidStr.{ValidStr}
+use Rattle.std.specs.Prelude.{None, Some}
+use Rattle.strings.specs.Strings.{str_packed}
+use Rattle.strings.specs.declared.packed.Packed.{Packed}
+use Rattle.strings.specs.declared.positions.Run.{Run}
 use Rattle.store.specs.Built.{Small}
 use Rattle.store.specs.Slot.{SlotHolds}
 use Rattle.store.proofs.EachLaws.{flat_map-small}
 use Rattle.store.proofs.RowsLaws.{keep-flat_map}
 use Rattle.store.proofs.SlotsLaws.{slot_small}
-use Rattle.mild_not.specs.declared.uncovered.Found.TheVariants.{At, Nothing}
 use Rattle.candidates.specs.Uncovered.{any_uncovered}
 use Rattle.mild_not.specs.Uncovered.{mild_not, FoundUncovered}
 
@@ -51,38 +54,66 @@ any_not p (x ∷ xs) = at (p x) (any_not p xs)
 
 -- ---- the search for a position
 
--- at index i: the strings left have an uncovered position just where all do, and what they cover is covered by all
-pub record Searching (lefts : List ℕ) (rights : List Str) (i : ℕ) : Type 0 where
-  pub left : Strs.Left (any_uncovered (strs_at lefts) rights) (λ ss. any_uncovered ss rights) lefts i
-  pub among : (p : ℕ) → covered (strs_at (drop i lefts)) p ≡ true → covered (strs_at lefts) p ≡ true
+-- the strings left have an uncovered position just where all do, and what they cover is covered by all
+pub record Searching (lefts rights left : List Str) : Type 0 where
+  pub same : any_uncovered left rights ≡ any_uncovered lefts rights
+  pub among : (p : ℕ) → covered left p ≡ true → covered lefts p ≡ true
 
-pub search_start : (lefts : List ℕ) (rights : List Str) → Searching lefts rights 0
-search_start lefts rights = record { left = Strs.left-start _ lefts; among = λ p e. e }
-
-module _ {lefts : List ℕ} {rights : List Str} {i : ℕ} (g : Searching lefts rights i) where
-  module _ (more : i + 1 < length lefts) {start end : ℕ} {p : Position} (e : start ≡ (str_at lefts i).start) (f : end ≡ (str_at lefts i).end)
-      (r : RunEnd rights start end p.0) where
+module _ {lefts rights left : List Str} (g : Searching lefts rights left) where
+  module _ {more : List Str} (s : Packed) (e : left ≡ str_packed s ∷ more) {run : Run} {p : Position} (lo : run.lo.0 ≡ (str_packed s).start) (hi : run.hi.0 ≡ (str_packed s).end)
+      (r : RunEnd rights run.lo.0 run.hi.0 p.0) {end : Position} (end_is : end.0 ≡ (str_packed s).end) where
     -- the run of the string in hand stops being covered within it
-    pub search_found : p.0 ≤ end → FoundUncovered (strs_at lefts) rights (At p)
+    pub search_found : p.0 ≤ end.0 → FoundUncovered lefts rights (Some p)
     unfolding any_of
     search_found h =
-        let s = str_at lefts i in
-        let here : covered (s ∷ strs_at (drop (i + 2) lefts)) p.0 ≡ true =
-        rw (le-leb s.start p.0 (omega (arith, r.not_before)), le-leb p.0 s.end (omega arith)) in
-        (g.among p.0 (ap (λ ss. covered ss p.0) (strs_at-cons lefts i more) ∙ here), r.uncovered h)
+        let t = str_packed s in
+        let here : covered (t ∷ more) p.0 ≡ true = rw (le-leb t.start p.0 (omega (arith, r.not_before)), le-leb p.0 t.end (omega arith)) in
+        (g.among p.0 (ap (λ ss. covered ss p.0) e ∙ here), r.uncovered (omega arith))
 
     -- it is covered all through
-    pub search_on : end < p.0 → Searching lefts rights (i + 2)
+    pub search_on : end.0 < p.0 → Searching lefts rights more
     unfolding any_of
     search_on h =
-        let s = str_at lefts i in
-        let all : all_of (covered rights) (positions s) ≡ true = ap₂ (λ x y. all_of (covered rights) (from_to x y)) (sym e) (sym f) ∙ r.same ∙ lt-ltb end p.0 h in
-        let none : any_of (λ x. not (covered rights x)) (positions s) ≡ false = any_not (covered rights) (positions s) ∙ ap not all in
+        let t = str_packed s in
+        let all : all_of (covered rights) (positions t) ≡ true =
+        ap₂ (λ x y. all_of (covered rights) (from_to x y)) (sym lo) (sym hi) ∙ r.same ∙ lt-ltb run.hi.0 p.0 (omega arith) in
+        let none : any_of (λ x. not (covered rights x)) (positions t) ≡ false = any_not (covered rights) (positions t) ∙ ap not all in
+        let rest : any_uncovered more rights ≡ any_uncovered (t ∷ more) rights = rw none in
         record {
-          left = Strs.left-next g.left more (λ ss. any_uncovered ss rights) (rw none);
-          among = λ q c. g.among q (ap (λ ss. covered ss q) (strs_at-cons lefts i more) ∙ rw c (or-true (covers s q)));
+          same = rest ∙ ap (λ ss. any_uncovered ss rights) (sym e) ∙ g.same;
+          among = λ q c. g.among q (ap (λ ss. covered ss q) e ∙ rw c (or-true (covers t q)));
         }
 
-  pub search_none : length lefts ≤ i + 1 → FoundUncovered (strs_at lefts) rights Nothing
+  pub search_none : left ≡ [] → FoundUncovered lefts rights None
   unfolding any_of
-  search_none h = sym (Strs.left-none g.left h)
+  search_none e = sym g.same ∙ ap (λ ss. any_uncovered ss rights) e
+
+-- ---- whether a position is covered
+
+-- the strings left cover the position just where all do
+pub record Covering (p : ℕ) (all left : List Str) : Type 0 where
+  pub valid : AllStrs ValidStr left
+  pub same : covered left p ≡ covered all p
+
+module _ {p : ℕ} {all left : List Str} (g : Covering p all left) where
+  module _ {more : List Str} (s : Packed) (e : left ≡ str_packed s ∷ more) where
+    both : ValidStr (str_packed s) × AllStrs ValidStr more
+    unfolding Every
+    both = subst (AllStrs ValidStr) e g.valid
+
+    pub covering_valid : (str_packed s).start ≤ (str_packed s).end
+    covering_valid = both.0.in_order
+
+    pub covering_here : true ≡ covers (str_packed s) p → true ≡ covered all p
+    unfolding any_of
+    covering_here h = let here : covered (str_packed s ∷ more) p ≡ true = rw (sym h) in sym here ∙ ap (λ ss. covered ss p) (sym e) ∙ g.same
+
+    pub covering_on : false ≡ covers (str_packed s) p → Covering p all more
+    unfolding any_of
+    covering_on h =
+        let rest : covered more p ≡ covered (str_packed s ∷ more) p = rw (sym h) in
+        record { valid = both.1; same = rest ∙ ap (λ ss. covered ss p) (sym e) ∙ g.same }
+
+  pub covering_none : left ≡ [] → false ≡ covered all p
+  unfolding any_of
+  covering_none e = ap (λ ss. covered ss p) (sym e) ∙ g.same

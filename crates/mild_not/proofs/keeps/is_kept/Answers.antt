@@ -1,22 +1,23 @@
 -- Without includes it has no uncovered position. Else the part of R decides as all of R does.
+use Rattle.std.proofs.Common.{◌≡◌, sym, ◌∙◌}
+use Rattle.std.specs.Prelude.{Some}
+use Rattle.candidates.specs.Candidates.{CandidatesAt}
+use Rattle.candidates.specs.Edges.{edges_of}
 use Rattle.mild_not.proofs.KeepsLaws.{without_includes, search_at, by_search}
-use Rattle.std.proofs.Common.{◌<◌, get_or, arith}
-use Rattle.store.specs.Layout.{includes_in}
 use Rattle.mild_not.proofs.keeps.is_kept.Goals as goal
+use Rattle.mild_not.proofs.keeps.is_kept.Goals.{In-Some}
 
-pub returns-then-includes_in-eq0 : goal.returns-then-includes_in-eq0
-returns-then-includes_in-eq0 c w = without_includes w c.includes_in.ensures c.if-includes_in-eq0.true c.slot_matches.ensures
+edges_are : (c : In-Some) (w : CandidatesAt c.args.mem.now c.args.left c.args.n c.args.r c.args.known.now) → edges_of w.item.includes ≡ Some c.in-Some.edges
+edges_are c w = sym (c.edges_at.ensures (record { item = w.item; held = w.held })) ∙ c.in-Some.is
 
-pub candidates_for-candidates-requires : goal.candidates_for-candidates-requires
-candidates_for-candidates-requires c =
-    c.requires
+pub returns-in_default : goal.returns-in_default
+returns-in_default c w = without_includes w (c.edges_at.ensures (record { item = w.item; held = w.held })) c.in_default.is c.size_at.ensures.matches
 
-pub search-kept-requires : goal.search-kept-requires
-search-kept-requires c =
-    search_at c.requires (omega (arith, c.includes_in.ensures, c.if-includes_in-eq0.false)) (c.candidates_for-candidates.ensures c.requires).0
+pub search-requires : goal.search-requires
+search-requires c = search_at c.requires (edges_are (goal.at.search-requires c).In-Some c.requires) (c.candidates_for-part.ensures c.requires).0
 
 pub returns : goal.returns
 returns c w =
-    let some : 0 < includes_in (get_or c.args.mem.now c.args.left 0) = omega (arith, c.includes_in.ensures, c.if-includes_in-eq0.false) in
-    let candidates = c.candidates_for-candidates.ensures w in
-    by_search w some candidates.0 candidates.1 (c.search-kept.ensures (search_at w some candidates.0))
+    let part = c.candidates_for-part.ensures w in
+    let edges = edges_are (goal.at.returns c).In-Some w in
+    by_search w edges part.0 part.1 (c.search.ensures (search_at w edges part.0))

@@ -3,12 +3,12 @@ use Rattle.std.proofs.Common.{◌-◌, ◌≤◌}
 use Rattle.store.specs.Stream.{RemainingAt, SearchInvariant}
 use Rattle.candidates.specs.Passing.{from_first}
 use Rattle.mild_not.specs.Uncovered.{cover_both}
-use Rattle.mild_not.proofs.uncovered.skip_same_header.Given as goal
+use Rattle.mild_not.proofs.uncovered.Both.skip_same_header.Given as goal
 
 abbrev pub invariant-loop-at : goal.invariant-loop-at
 invariant-loop-at l =
     (l.from ≤ l.at)
-    × ((w : RemainingAt l.mem l.from l.end) → SearchInvariant (from_first (cover_both l.p.0 l.q.0) w.list) (from_first (cover_both l.p.0 l.q.0)) l.mem l.at l.end)
+    × ((w : RemainingAt l.mem l.from l.end) → SearchInvariant (from_first (cover_both l.self.p.0 l.self.q.0) w.list) (from_first (cover_both l.self.p.0 l.self.q.0)) l.mem l.at l.end)
 
 abbrev pub decreases-loop-at : goal.decreases-loop-at
 decreases-loop-at l = l.end - l.at
