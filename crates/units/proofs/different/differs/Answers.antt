@@ -1,22 +1,15 @@
-use mathlib.Core.Path.{sym, ◌∙◌}
-use Rattle.strings.proofs.StringsLaws.{left-start, decides_all, decided_here, decided_later, decided_end}
+use Rattle.std.proofs.Common.{rules, sym, ◌≡◌, true, ◌∙◌}
+use borrow.Author.Tests.{tests}
+use Rattle.model.specs.Rules.{units_nonzero, units_apart}
+use Rattle.model.specs.Section.{section_of}
+use Rattle.strings.specs.Strings.{str_packed}
+use Rattle.strings.proofs.PackedLaws.{all_of_strs}
 use Rattle.units.proofs.different.differs.Goals as goal
 
-pub returns-then-not-has_units : goal.returns-then-not-has_units
-returns-then-not-has_units c = rw (sym c.has_units.ensures ∙ c.if-not-has_units.true)
-
-pub loop-i-init : goal.loop-i-init
-loop-i-init c = left-start _ _
-
-pub returns-then-not-apart : goal.returns-then-not-apart
-returns-then-not-apart c =
-    rw (sym c.has_units.ensures ∙ c.if-not-has_units.false)
-    (decided_here (decides_all _) c.loop-i.invariant c.loop-i-test.true (sym c.apart.ensures ∙ c.if-not-apart.true))
-
-pub loop-i-preserved : goal.loop-i-preserved
-loop-i-preserved c =
-    decided_later (decides_all _) c.loop-i.invariant c.loop-i-test.true (sym c.apart.ensures ∙ c.if-not-apart.false)
-
-pub returns : goal.returns
-returns c =
-    rw (sym c.has_units.ensures ∙ c.if-not-has_units.false) (decided_end (decides_all _) c.loop-i.invariant c.loop-i-test.false)
+pub returns-then-all_nonzero : goal.returns-then-all_nonzero
+returns-then-all_nonzero g c =
+    let unit = g.U.Unit.unit_in (section_of c.args.section.now) in
+    let first = sym c.units_of-own.ensures.first_value in
+    let last = sym c.units_of-own.ensures.last_value in
+    let nonzero : units_nonzero unit (str_packed c.args.s) ≡ true = rw (first, last) (sym c.all_nonzero.ensures ∙ c.if-all_nonzero.true) in
+    rw nonzero (all_of_strs (units_apart unit (str_packed c.args.s)) _ _ _ c.all.ensures.ran c.strings_in.ensures (λ x b q k. rw (first, last) (search (rules, tests))))
