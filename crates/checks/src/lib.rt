@@ -1,5 +1,4 @@
-// The checks of the inputs, with the lengths of the lent memory: refusals 1 to 8, 12 and 13, or the selection's m. A call takes the answer apart with
-// `let .. else`.
+// The checks of the inputs, with the lengths of the lent memory: refusals 1 to 8, 12 and 13, or the selection's m.
 
 #![tactic(auto)]
 
@@ -7,76 +6,35 @@ ghost use Rattle.std.specs.Prelude.{◌≡◌};
 ghost use Rattle.model.specs.Answers.{checked_of};
 ghost use Rattle.model.specs.Checks.{input_refusal, listing_checks, quick_checks};
 ghost use Rattle.model.specs.Section.{size};
-ghost use Rattle.model.specs.declared.Checked.TheVariants.{Refused};
-ghost use Rattle.model.specs.declared.Refusal.{Refusal};
 
-use model::{BUFFER_LENGTH, Checked, Refusal, WORK_LENGTH};
-
-// The refusal that a check answers, for the `else` of a `let .. else`, which can't bind it. The arm of an accepted answer can't happen there; what it
-// returns is no refusal of document 01's.
-pub fn refusal_of(checked: Checked) -> Refusal
-    ensures { (refusal : Refusal) → checked ≡ Refused refusal → result ≡ refusal }
-{
-    match checked {
-        Checked::Refused(refusal) => refusal,
-        Checked::Accepted { .. } => Refusal {
-            number: 0,
-            place: 0,
-        },
-    }
-}
+use model::{BUFFER_LENGTH, Inputs, Reason, Refusal, WORK_LENGTH};
 
 // Refusals 1 to 7, 12 and 13.
-pub fn check_inputs(section: &[u32], families: &[u32], selection: &[u32]) -> Checked
-    ensures { result ≡ checked_of (size selection.now) (input_refusal section.now families.now selection.now) }
+#[tactic(auto, unfolding(model::specs::Checks::input_refusal))]
+pub fn check_inputs(inputs: &Inputs) -> Result<u32, Refusal>
+    ensures { result ≡ checked_of (size inputs.now.selection.now) (input_refusal inputs.now.section.now inputs.now.families.now inputs.now.selection.now) }
 {
-    let checked = section::check_section(section);
-    let Checked::Accepted { .. } = checked else {
-        return checked;
-    };
-    let checked = families::check_families(families);
-    let Checked::Accepted { .. } = checked else {
-        return checked;
-    };
-    selection::check_selection(selection)
+    section::check_section(inputs.section)?;
+    families::check_families(inputs.families)?;
+    selection::check_selection(inputs.selection)
 }
 
 // What the quick answer refuses before its walk.
-pub fn check_quick(section: &[u32], families: &[u32], selection: &[u32], work: usize) -> Checked
-    ensures { result ≡ checked_of (size selection.now) (quick_checks section.now families.now selection.now work) }
+#[tactic(auto, unfolding(model::specs::Checks::quick_checks))]
+pub fn check_quick(inputs: &Inputs, work: usize) -> Result<u32, Refusal>
+    ensures { result ≡ checked_of (size inputs.now.selection.now) (quick_checks inputs.now.section.now inputs.now.families.now inputs.now.selection.now work) }
 {
-    let checked = check_inputs(section, families, selection);
-    let Checked::Accepted { .. } = checked else {
-        return checked;
-    };
-    if work < WORK_LENGTH {
-        return Checked::Refused(Refusal {
-            number: 8,
-            place: 0,
-        });
-    }
-    checked
+    let m = check_inputs(inputs)?;
+    Reason::ShortMemory.refuse_unless(WORK_LENGTH <= work)?;
+    Ok(m)
 }
 
 // What the full listing refuses before any list is built: the same, and a short listing buffer.
-pub fn check_listing(
-    section: &[u32],
-    families: &[u32],
-    selection: &[u32],
-    work: usize,
-    buffer: usize,
-) -> Checked
-    ensures { result ≡ checked_of (size selection.now) (listing_checks section.now families.now selection.now work buffer) }
+#[tactic(auto, unfolding(model::specs::Checks::listing_checks))]
+pub fn check_listing(inputs: &Inputs, work: usize, buffer: usize) -> Result<u32, Refusal>
+    ensures { result ≡ checked_of (size inputs.now.selection.now) (listing_checks inputs.now.section.now inputs.now.families.now inputs.now.selection.now work buffer) }
 {
-    let checked = check_quick(section, families, selection, work);
-    let Checked::Accepted { .. } = checked else {
-        return checked;
-    };
-    if buffer < BUFFER_LENGTH {
-        return Checked::Refused(Refusal {
-            number: 8,
-            place: 0,
-        });
-    }
-    checked
+    let m = check_inputs(inputs)?;
+    Reason::ShortMemory.refuse_unless(WORK_LENGTH <= work && BUFFER_LENGTH <= buffer)?;
+    Ok(m)
 }

@@ -98,6 +98,14 @@ pub enum Code {
     Occurs(Times),
 }
 
+// What a call is asked of: a section, a family table and a selection, each lent.
+#[derive(Clone, Copy)]
+pub struct Inputs<'a> {
+    pub section: &'a [u32],
+    pub families: &'a [u32],
+    pub selection: &'a [u32],
+}
+
 // Why a call refuses, by the papers' number in that order: `number_of`, in specs/Checks.antt.
 #[derive(Clone, Copy, PartialEq, Eq)]
 pub enum Reason {
