@@ -159,7 +159,7 @@ module _ {mem₀ : List ℕ} {src a fewest excess at : ℕ} (w : SizesAt mem₀ 
       }
 
   module _ {m : ℕ} {mem : List ℕ} {q k total : ℕ} (g : Sizing excess w.finds a mem₀ at m mem q k total) where
-    module _ (h : k ≤ m) where
+    module _ (h : k < m + 1) where
       total_of : total ≡ binomial (length w.finds) k
       total_of = g.total_is ∙ ap (λ j. binomial j k) g.m_is
 
@@ -200,11 +200,11 @@ module _ {mem₀ : List ℕ} {src a fewest excess at : ℕ} (w : SizesAt mem₀ 
             m_is = g.m_is;
             few-finds = g.few-finds;
             from_a = omega (arith, g.from_a);
-            total_is = ap (λ t. t * (m - k) / (k + 1)) g.total_is ∙ size_up m k h;
+            total_is = ap (λ t. t * (m - k) / (k + 1)) g.total_is ∙ size_up m k (omega arith);
             rows = rows_step g.rows next-size (v choices-at);
           }
 
-    pub size_finish : m < k → Put mem₀ mem at (matches_numbers (at_least_with_not a excess w.finds)) q
+    pub size_finish : m + 1 ≤ k → Put mem₀ mem at (matches_numbers (at_least_with_not a excess w.finds)) q
     size_finish h =
         subst (λ xs. Put mem₀ mem at xs q) (sym (all_numbers a excess w.finds))
         (rows_finish g.rows (range_empty k (length w.finds) (omega (arith, g.m_is))))

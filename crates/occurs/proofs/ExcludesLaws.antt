@@ -26,15 +26,15 @@ module _ {mem : List ℕ} {src d at : ℕ} (w : ExcludeAt mem src d at) where
   pub within : src + 2 + 3 * d + 1 + 2 ≤ length mem
   within = found.string.within
 
-  pub exclude-put : {exit : List ℕ} {tag next : ℕ} → tag ≡ get_or mem (src + 2 + 3 * d + 1 + 1) 0 / 2 * 2 + 1
-      → Put mem exit at (get_or mem (src + 2 + 3 * d + 1) 0 ∷ tag ∷ []) next → Put mem exit at (strs_of 1 (take 1 (drop d w.finds))) next
+  pub exclude-put : {exit : List ℕ} {span tag next : ℕ} → span ≡ get_or mem (src + 2 + 3 * d + 1) 0 → tag ≡ get_or mem (src + 2 + 3 * d + 1 + 1) 0 / 2 * 2 + 1
+      → Put mem exit at (span ∷ tag ∷ []) next → Put mem exit at (strs_of 1 (take 1 (drop d w.finds))) next
   unfolding strs_of
-  exclude-put {exit} {next = next} e v =
+  exclude-put {exit} {next = next} f e v =
       let s = found.first in
       let span : get_or mem (src + 2 + 3 * d + 1) 0 ≡ span_of s = get_d_head _ found.string in
       let tag : get_or mem (src + 2 + 3 * d + 1 + 1) 0 ≡ tag_of 0 s = get_d_head _ (holds_tail _ found.string) in
       rw found.is
-      (subst (λ xs. Put mem exit at xs next) (ap₂ (λ x y. x ∷ y ∷ []) span (e ∙ ap (λ t. t / 2 * 2 + 1) tag ∙ tag-turned 0 1 s (omega arith))) v)
+      (subst (λ xs. Put mem exit at xs next) (ap₂ (λ x y. x ∷ y ∷ []) (f ∙ span) (e ∙ ap (λ t. t / 2 * 2 + 1) tag ∙ tag-turned 0 1 s (omega arith))) v)
 
 -- ---- the excludes of a match of the not
 

@@ -5,8 +5,7 @@ use native.Mathlib.Omega.{arith}
 use native.Mathlib.Nat.{mul-le-mul}
 use mathlib.Core.Path.{◌≡◌, refl, sym, ap, ap₂, ◌∙◌, subst}
 use mathlib.Core.List.{List, [], ◌∷◌, map}
-use lib.ListN.{length, take, drop}
-use lib.Seq.{sets}
+use lib.ListN.{length, get_or}
 use Rattle.model.specs.Answers.{span_of, tag_of}
 use Rattle.model.specs.Limits.{max_matches}
 use Rattle.model.specs.Matches.{Str}
@@ -14,7 +13,9 @@ use Rattle.strings.specs.Strings.{strs_of}
 use Rattle.store.specs.Layout.{Holds, matches_at, matches_numbers}
 use Rattle.store.specs.Put.{Put}
 use Rattle.store.proofs.LayoutLaws.{strs_of-flat_map}
-use Rattle.store.proofs.PutLaws.{put_copy, holds-below, length-put}
+use Rattle.store.proofs.MemoryLaws.{get_d_head, holds_tail}
+use Rattle.store.proofs.PutLaws.{holds-below, length-put}
+use Rattle.strings.specs.declared.packed.Packed.{Packed}
 use Rattle.store.proofs.RowsLaws.{Rows, rows_start, rows_step, rows_finish}
 use Rattle.occurs.specs.Binomial.{binomial, chosen}
 use Rattle.occurs.specs.Finds.{find}
@@ -114,12 +115,14 @@ module _ {finds : List Str} {mem₀ : List ℕ} {k c at : ℕ} {mem : List ℕ} 
         }
 
     -- the choice has the next find
-    pub take_next : rest < weight * left / n → {mem' : List ℕ} → mem' ≡ sets mem q (take 2 (drop (from + 1) mem))
-        → Including finds mem₀ k c at mem' (n - 1) (from + 3) (q + 2) l rest (weight * left / n)
-    take_next h {mem'} v =
+    pub take_next : rest < weight * left / n → {mem' : List ℕ} {string : Packed} {q' : ℕ} → string.span ≡ get_or mem (from + 1) 0 → string.tag ≡ get_or mem (from + 1 + 1) 0
+        → Put mem mem' q (string.span ∷ string.tag ∷ []) q' → Including finds mem₀ k c at mem' (n - 1) (from + 3) q' l rest (weight * left / n)
+    take_next h {mem'} {string} {q'} a b v =
         let s = here.first in
         let ss = here.others in
-        let put : Put mem mem' q (include_numbers s) (q + 2) = put_copy 2 q refl here.held.string v in
+        let first : string.span ≡ span_of s = a ∙ get_d_head _ here.held.string in
+        let second : string.tag ≡ tag_of 0 s = b ∙ get_d_head _ (holds_tail _ here.held.string) in
+        let put : Put mem mem' q (include_numbers s) q' = subst (λ xs. Put mem mem' q xs q') (ap₂ (λ x y. x ∷ y ∷ []) first second) v in
         let is : chosen left g.todo rest ≡ s ∷ chosen l ss rest =
         ap₂ (λ j xs. chosen j xs rest) e here.is ∙ chosen_with l s ss rest (omega (arith, here.with_is)) in
         let count : length ss ≡ n - 1 = omega (arith, here.count) in
@@ -133,7 +136,7 @@ module _ {finds : List Str} {mem₀ : List ℕ} {k c at : ℕ} {mem : List ℕ} 
           few = omega (arith, turn.no_more, g.few);
           small = omega (arith, g.small);
           rows = rows_step g.rows is put;
-          room = omega (arith, g.room, length-put put);
+          room = omega (arith, g.room, length-put put, put.next_is);
         }
 
     -- it goes on without it

@@ -11,21 +11,22 @@ use lib.Seq.{sets}
 use Rattle.model.specs.Limits.{max_matches, max_strings}
 use Rattle.model.specs.Matches.{Match, strings, too_long}
 use Rattle.model.specs.Rules.{at_least, from_to_times}
-use Rattle.store.specs.declared.Built.{Built}
-use Rattle.store.specs.declared.Built.TheVariants.{Made, TooLong}
-use Rattle.store.specs.Built.{built_of, sized_as}
+use Rattle.std.specs.Prelude.{Result, IsErr, Ok, Err}
+use Rattle.store.specs.declared.Size.{Size}
+use Rattle.store.specs.declared.TooLong.{TooLong}
+use Rattle.store.specs.Built.{Built, built_of, over, sized_as}
 use Rattle.store.specs.Indices.{SlotBelow}
 use Rattle.store.specs.Layout.{matches_at, matches_numbers}
 use Rattle.store.specs.Outcome.{Outcome}
 use Rattle.store.specs.Put.{Put}
 use Rattle.store.proofs.LayoutLaws.{length_matches}
 use Rattle.store.proofs.SlotsLaws.{built_long, answer_made, refused, filled}
-use Rattle.occurs.specs.declared.counts.Counted.{Counted}
-use Rattle.occurs.specs.declared.counts.Counted.TheVariants.{Choices, TooMany}
+use Rattle.occurs.specs.declared.counts.Counts.{Counts}
+use Rattle.occurs.specs.declared.counts.Excess.{Excess}
 use Rattle.occurs.specs.Binomial.{binomial}
-use Rattle.occurs.specs.Counts.{choices_from, includes_from, counted_of, size_with_not}
+use Rattle.occurs.specs.Counts.{choices_from, includes_from, counted_of, ExcessIs, ExcessIsNot, size_with_not}
 use Rattle.occurs.specs.Finds.{find, FindsAt}
-use Rattle.occurs.specs.WithNot.{not_matches, not_strings, at_least_with_not}
+use Rattle.occurs.specs.WithNot.{not_matches, not_strings, at_least_with_not, excess_of}
 use Rattle.occurs.specs.Writing.{ExcessAt, SizesAt}
 use Rattle.occurs.proofs.CountsLaws.{Known, answer-counted, answer_many}
 use Rattle.occurs.proofs.FindsLaws.{finds-counted, finds-few}
@@ -63,31 +64,33 @@ module _ {mem : List ℕ} {src excess m : ℕ} (w : ExcessAt mem src excess) (m_
         let strs : 1 * S ≤ not_matches excess m * S = mul-le-mul some (omega arith) in
         omega (arith, length-is, strings-is, one-mul C, one-mul S)
 
-    module _ {counted : Counted} (e : counted ≡ counted_of m a) where
+    module _ {counted : Result Counts TooLong} (e : counted ≡ counted_of m a) where
       -- too many choices make a list that is too long
-      pub choices-refused : {exit : List ℕ} {at : ℕ} → counted ≡ TooMany → Outcome (at_least_with_not a excess w.finds) mem exit at TooLong
+      pub choices-refused : {error : TooLong} {result : Built} {exit : List ℕ} {at : ℕ} → counted ≡ Err error → IsErr result
+          → Outcome (at_least_with_not a excess w.finds) mem exit at result
       unfolding list
-      choices-refused t =
+      choices-refused t r =
           let many : (max_matches < length list) ⊎ (max_strings < strings list) =
           ⊎_elim (λ h. inl (omega (arith, no_fewer))) (λ h. inr (omega (arith, no_fewer))) (answer_many m a (sym t ∙ e)) in
-          refused (built_long list many) refl
+          refused (built_long list many) refl r
 
-      module _ {choices includes fewest : ℕ} (t : counted ≡ Choices choices includes fewest) where
-        pub known : Known m a choices includes fewest
+      module _ {counts : Counts} (t : counted ≡ Ok counts) where
+        pub known : Known m a counts
         known = answer-counted m a (sym t ∙ e)
 
-        module _ {size : Built} (f : size ≡ size_with_not m excess choices includes) where
-          size_is : size ≡ built_of list
+        module _ {built : Built} (f : built ≡ size_with_not m excess counts.choices counts.includes) where
+          size_is : built ≡ built_of list
           size_is =
               f ∙ ap₂ (size_with_not m excess) known.choices-are known.includes-are
               ∙ ap₂ (λ x y. sized_as x y) (sym length-is) (sym strings-is)
 
-          pub size-refused : {exit : List ℕ} {at : ℕ} → size ≡ TooLong → Outcome (at_least_with_not a excess w.finds) mem exit at size
+          pub size-refused : {error : TooLong} {result : Built} {exit : List ℕ} {at : ℕ} → built ≡ Err error → IsErr result
+              → Outcome (at_least_with_not a excess w.finds) mem exit at result
           unfolding list
-          size-refused g = refused size_is g
+          size-refused g r = refused size_is g r
 
-          module _ {at matches strs : ℕ} (u : SlotBelow (length mem) src at) (g : size ≡ Made matches strs) where
-            pub sizes-at : SizesAt mem src a fewest excess (at + 2)
+          module _ {at : ℕ} {size : Size} (u : SlotBelow (length mem) src at) (g : built ≡ Ok size) where
+            pub sizes-at : SizesAt mem src a counts.fewest excess (at + 2)
             unfolding list
             sizes-at =
                 let z = answer_made list (sym g ∙ size_is) in
@@ -102,8 +105,8 @@ module _ {mem : List ℕ} {src excess m : ℕ} (w : ExcessAt mem src excess) (m_
                 }
 
             pub whole : {E exit : List ℕ} {next : ℕ}
-                → ((s : SizesAt mem src a fewest excess (at + 2)) → Put mem E (at + 2) (matches_numbers (at_least_with_not a excess s.finds)) next)
-                → exit ≡ sets E at (matches ∷ strs ∷ []) → Outcome (at_least_with_not a excess w.finds) mem exit at (Made matches strs)
+                → ((s : SizesAt mem src a counts.fewest excess (at + 2)) → Put mem E (at + 2) (matches_numbers (at_least_with_not a excess s.finds)) next)
+                → exit ≡ sets E at (size.matches ∷ size.strings ∷ []) → Outcome (at_least_with_not a excess w.finds) mem exit at (Ok size)
             unfolding sizes-at list
             whole v h = filled (sym g ∙ size_is) (v sizes-at) h
 
@@ -125,21 +128,22 @@ module _ {mem : List ℕ} {src : ℕ} (w : FindsAt mem src) where
     m_are : m ≡ length w.finds
     m_are = m_is ∙ finds-counted w.finds w.slot
 
-    pub from_to-refused : (a b : ℕ) {excess : ℕ} {exit : List ℕ} {at : ℕ} → a ≤ b → excess ≡ m - b → 1 < excess → 2 < m
-        → Outcome (from_to_times a b (map find w.finds)) mem exit at TooLong
-    from_to-refused a b h e k l =
+    pub from_to-refused : (a b : ℕ) {result : Built} {exit : List ℕ} {at : ℕ} → a ≤ b → ExcessIsNot m b → IsErr result
+        → Outcome (from_to_times a b (map find w.finds)) mem exit at result
+    from_to-refused a b h k r =
         let long : too_long (from_to_times a b (map find w.finds)) ≡ true =
         from_to-long w.finds a b h (omega (arith, m_are)) (omega (arith, m_are)) in
-        refused (rw long) refl
+        let long_too : over ≡ built_of (from_to_times a b (map find w.finds)) = rw long in
+        refused long_too refl r
 
-    module _ {excess : ℕ} (up_to : excess ≤ m) (two : 2 ≤ excess → m ≡ 2) where
-      pub excess_at : ExcessAt mem src excess
-      excess_at = record { finds = w.finds; slot = w.slot; too_many = record { up_to = omega (arith, m_are); two = λ h. sym m_are ∙ two h } }
+    module _ (b : ℕ) (excess : Excess) (is : ExcessIs m b excess) where
+      pub excess_at : ExcessAt mem src (excess_of excess)
+      excess_at = record { finds = w.finds; slot = w.slot; too_many = record { up_to = omega (arith, m_are); two = λ h. sym m_are ∙ is.2 h } }
 
-      pub from_to_made : (a b : ℕ) {exit : List ℕ} {at : ℕ} {built : Built} → excess ≡ m - b
-          → ((x : ExcessAt mem src excess) → Outcome (at_least_with_not a excess x.finds) mem exit at built)
+      pub from_to_made : (a : ℕ) {exit : List ℕ} {at : ℕ} {built : Built}
+          → ((x : ExcessAt mem src (excess_of excess)) → Outcome (at_least_with_not a (excess_of excess) x.finds) mem exit at built)
           → Outcome (from_to_times a b (map find w.finds)) mem exit at built
       unfolding excess_at
-      from_to_made a b {exit} {at} {built} e o =
-          let is = from_to-is a b excess w.finds (e ∙ ap (λ x. x - b) m_are) (λ h. sym m_are ∙ two h) in
-          subst (λ l. Outcome l mem exit at built) (sym is) (o excess_at)
+      from_to_made a {exit} {at} {built} o =
+          let same = from_to-is a b (excess_of excess) w.finds (is.0 ∙ ap (λ x. x - b) m_are) (λ h. sym m_are ∙ is.2 h) in
+          subst (λ l. Outcome l mem exit at built) (sym same) (o excess_at)

@@ -8,6 +8,14 @@ use Rattle.std.specs.Prelude.{ℕ, zero, suc, ◌+◌, length, take, drop}
 use mathlib.Core.List.{List, [], ◌++◌, map, flat_map}
 use Rattle.model.specs.Lists.{choose, up_from, from_to}
 use Rattle.model.specs.Matches.{Str, Match}
+use Rattle.occurs.specs.declared.counts.Excess.{Excess}
+use Rattle.occurs.specs.declared.counts.Excess.TheVariants.{No, One, Both}
+
+-- an excess as a number
+abbrev pub excess_of : Excess → ℕ
+excess_of No = 0
+excess_of One = 1
+excess_of Both = 2
 
 -- the match of these includes and excludes
 abbrev pub match_of : List Str → List Str → Match

@@ -11,37 +11,25 @@ ghost use Rattle.model.specs.Rules.{at_least, from_to_times};
 ghost use Rattle.store.specs.Indices.{SlotBelow};
 ghost use Rattle.store.specs.Outcome.{Outcome};
 ghost use Rattle.occurs.specs.Finds.{find, FindsAt};
-ghost use Rattle.occurs.specs.WithNot.{at_least_with_not};
+ghost use Rattle.occurs.specs.WithNot.{at_least_with_not, excess_of};
 ghost use Rattle.occurs.specs.Writing.{ExcessAt};
 
-use counts::Counted;
+use counts::Excess;
 use store::Built;
 
-// Every choice of a or more of the finds in the slot at src, joined with every match of the not of 'at least b + 1', in the slot at `at` above them.
-// That not goes by the excess: how many of the finds are too many, where at most b are wanted.
-fn at_least_with_not(mem: &mut [u32], src: usize, a: u32, excess: u32, at: usize) -> Built
-    requires excess_at { ExcessAt mem.old src excess }
+// Every choice of a or more of the finds in the slot at src, joined with every match of the not, in the slot at `at` above them.
+fn at_least_with_not(mem: &mut [u32], src: usize, a: u32, excess: Excess, at: usize) -> Built
+    requires excess_at { ExcessAt mem.old src (excess_of excess) }
     requires slot_below { SlotBelow (length mem.old) src at }
-    ensures { (w : ExcessAt mem.old src excess)
-        → Outcome (at_least_with_not a excess w.finds) mem.old mem.new at result }
+    ensures { (w : ExcessAt mem.old src (excess_of excess))
+        → Outcome (at_least_with_not a (excess_of excess) w.finds) mem.old mem.new at result }
 {
-    let m = store::slot_matches(mem, src);
-    let counted = counts::count_choices(m, a);
-    let Counted::Choices {
-        choices,
-        includes,
-        fewest,
-    } = counted
-    else {
-        return Built::TooLong;
-    };
-    let size = counts::size_with_not(m, excess, choices, includes);
-    let Built::Made { matches, strings } = size else {
-        return size;
-    };
-    choices::put_sizes(mem, src, a, fewest, excess, at + store::FIRST_MATCH);
-    store::put_slot_header(mem, at, matches, strings);
-    size
+    let m = store::size_at(mem, src).matches;
+    let counts = counts::count_choices(m, a)?;
+    let size = counts.size_with_not(m, excess)?;
+    choices::put_sizes(mem, src, excess, a, counts.fewest, at + store::FIRST_MATCH);
+    store::put_slot_header(mem, at, size);
+    Ok(size)
 }
 
 // "At least a: every choice of a or more of the phrase's matches, fewest first, equal sizes in order of first difference by position, each choice
@@ -52,10 +40,10 @@ pub fn at_least_list(mem: &mut [u32], src: usize, a: u32, at: usize) -> Built
     ensures { (w : FindsAt mem.old src)
         → Outcome (at_least a (map find w.finds)) mem.old mem.new at result }
 {
-    at_least_with_not(mem, src, a, 0, at)
+    at_least_with_not(mem, src, a, Excess::No, at)
 }
 
-// "From a to b: at least a, and not at least b + 1." Where two finds or more are too many, the list is too long, unless there are only two.
+// "From a to b: at least a, and not at least b + 1."
 pub fn from_to_list(mem: &mut [u32], src: usize, a: u32, b: u32, at: usize) -> Built
     requires finds_at { FindsAt mem.old src }
     requires slot_below { SlotBelow (length mem.old) src at }
@@ -63,10 +51,7 @@ pub fn from_to_list(mem: &mut [u32], src: usize, a: u32, b: u32, at: usize) -> B
     ensures { (w : FindsAt mem.old src)
         → Outcome (from_to_times a b (map find w.finds)) mem.old mem.new at result }
 {
-    let m = store::slot_matches(mem, src);
-    let excess = counts::excess_of(m, b);
-    if 1 < excess && 2 < m {
-        return Built::TooLong;
-    }
+    let m = store::size_at(mem, src).matches;
+    let excess = Excess::of(m, b)?;
     at_least_with_not(mem, src, a, excess, at)
 }

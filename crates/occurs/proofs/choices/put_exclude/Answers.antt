@@ -1,13 +1,13 @@
 -- Find number d, three numbers a find after the first, is written with the sort of an exclude (ExcludesLaws).
-use native.Mathlib.Omega.{arith}
+use Prim.Native.Nat.{◌+◌, ◌*◌, ◌/◌}
+use mathlib.Core.Path.{ap, ◌∙◌}
 use Rattle.occurs.proofs.ExcludesLaws.{within, exclude-put}
 use Rattle.occurs.proofs.choices.put_exclude.Goals as goal
 
-pub bounds-mem-from : goal.bounds-mem-from
-bounds-mem-from c = omega (arith, within c.requires)
-
-pub bounds-mem-from-2 : goal.bounds-mem-from-2
-bounds-mem-from-2 c = omega (arith, within c.requires)
+pub string_at-string-requires : goal.string_at-string-requires
+string_at-string-requires c = within c.requires
 
 pub returns : goal.returns
-returns c w = exclude-put w c.with_sort.ensures c.put_string.ensures
+returns c w =
+    exclude-put w (c.with_sort.ensures.span_value ∙ c.string_at-string.ensures.span_value)
+    (c.with_sort.ensures.tag_value ∙ ap (λ t. t / 2 * 2 + 1) c.string_at-string.ensures.tag_value) c.put_string.ensures

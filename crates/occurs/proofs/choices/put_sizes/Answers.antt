@@ -5,10 +5,10 @@ use borrow.Author.Rules.{rules}
 use Rattle.occurs.proofs.choices.put_sizes.Goals as goal
 
 pub loop-k-init : goal.loop-k-init
-loop-k-init c = (refl, λ w. size-start w c.slot_matches-m.ensures)
+loop-k-init c = (refl, λ w. size-start w c.size_at-m.ensures.matches)
 
-pub put_choices-q-requires : goal.put_choices-q-requires
-put_choices-q-requires c =
+pub put_all-q-requires : goal.put_all-q-requires
+put_all-q-requires c =
     choices-at c.requires (c.loop-k.invariant.1 c.requires) c.loop-k-test.true
 
 pub overflow_mul-total : goal.overflow_mul-total
@@ -17,7 +17,7 @@ overflow_mul-total c =
 
 pub loop-k-preserved : goal.loop-k-preserved
 loop-k-preserved c =
-    (search rules, λ w. size_step w (c.loop-k.invariant.1 w) c.loop-k-test.true c.put_choices-q.ensures)
+    (search rules, λ w. size_step w (c.loop-k.invariant.1 w) c.loop-k-test.true c.put_all-q.ensures)
 
 pub returns : goal.returns
 returns c w = size_finish w (c.loop-k.invariant.1 w) c.loop-k-test.false

@@ -1,9 +1,7 @@
--- Invariant: the choices of k or more are counted, with their includes, and those of k by themselves (Counting). Measure: k.
+-- Invariant: the choices of d finds less than all, and of more, are counted, with their includes, and those of d finds less by themselves (Counting).
+use Prim.Native.Nat.{◌-◌}
 use Rattle.occurs.proofs.CountsLaws.{Counting}
 use Rattle.occurs.proofs.counts.count_choices.Given as goal
 
-abbrev pub invariant-loop-k : goal.invariant-loop-k
-invariant-loop-k l = Counting l.m l.a l.k l.fewest l.choices l.includes
-
-abbrev pub decreases-loop-k : goal.decreases-loop-k
-decreases-loop-k l = l.k
+abbrev pub invariant-loop-d : goal.invariant-loop-d
+invariant-loop-d l = Counting l.m l.a (l.m - l.d) l.counts.fewest l.counts.choices l.counts.includes

@@ -1,6 +1,6 @@
 -- The includes and the excludes after them are the strings of the match, few enough for a header to hold both counts (JoinedLaws).
 use Rattle.occurs.proofs.JoinedLaws.{includes-at, excludes-at, ends, whole}
-use Rattle.occurs.proofs.choices.put_joined.Goals as goal
+use Rattle.occurs.proofs.choices.OfSize.put_joined.Goals as goal
 
 pub put_includes-excludes-requires : goal.put_includes-excludes-requires
 put_includes-excludes-requires c = includes-at c.requires

@@ -2,8 +2,8 @@ use Prim.Native.Nat.{suc, ◌-◌}
 use native.Mathlib.Omega.{arith}
 use mathlib.Core.Path.{◌≡◌, refl}
 use Rattle.occurs.proofs.IncludesLaws.{Turn, start, turn, take_next, skip_next, finish}
-use Rattle.occurs.proofs.choices.put_includes.Goals as goal
-use Rattle.occurs.proofs.choices.put_includes.Goals.{In-loop-left, then-rest-with_next, else-rest-with_next}
+use Rattle.occurs.proofs.choices.OfSize.put_includes.Goals as goal
+use Rattle.occurs.proofs.choices.OfSize.put_includes.Goals.{In-loop-left, then-rest-with_next, else-rest-with_next}
 
 -- the turn's numbers
 inside : (c : In-loop-left) → Turn c.loop-left.mem c.loop-left.n c.loop-left.from c.loop-left.q c.loop-left.left c.loop-left.weight
@@ -11,7 +11,7 @@ inside c =
     turn (c.loop-left.invariant.1 c.requires) (c.loop-left.left - 1) (omega (arith, c.loop-left-test.true))
 
 pub loop-left-init : goal.loop-left-init
-loop-left-init c = (refl, λ w. start w c.slot_matches-n.ensures)
+loop-left-init c = (refl, λ w. start w c.size_at-n.ensures.matches)
 
 pub overflow_mul-with_next : goal.overflow_mul-with_next
 overflow_mul-with_next c = omega (arith, (inside c).product)
@@ -22,11 +22,11 @@ nonzero_div-with_next c = (inside c).some
 pub overflow_add-from-then-rest-with_next : goal.overflow_add-from-then-rest-with_next
 overflow_add-from-then-rest-with_next c = omega (arith, inside (goal.at.overflow_add-from-then-rest-with_next c).In-loop-left)
 
-pub copy_up-requires : goal.copy_up-requires
-copy_up-requires c = omega (arith, inside (goal.at.copy_up-requires c).In-loop-left)
+pub string_at-string-requires : goal.string_at-string-requires
+string_at-string-requires c = omega (arith, inside (goal.at.string_at-string-requires c).In-loop-left)
 
-pub overflow_add-q : goal.overflow_add-q
-overflow_add-q c = omega (arith, (inside (goal.at.overflow_add-q c).In-loop-left).room)
+pub put_string-q-requires : goal.put_string-q-requires
+put_string-q-requires c = omega (arith, (inside (goal.at.put_string-q-requires c).In-loop-left).room)
 
 pub overflow_sub-weight : goal.overflow_sub-weight
 overflow_sub-weight c = (inside (goal.at.overflow_sub-weight c).In-loop-left).no_more
@@ -45,8 +45,11 @@ loop-left-preserved c =
     let e : c.loop-left.left ≡ suc (c.loop-left.left - 1) = omega (arith, c.loop-left-test.true) in
     elim c.if-rest-with_next.branch [
       | then-rest-with_next w ↦
-          rw (w.mem-is, w.q-is, w.left-is, w.rest-is, w.weight-is)
-          (omega (arith, w.copy_up.auto.mem, c.loop-left.invariant.0), λ v. take_next (c.loop-left.invariant.1 v) (c.loop-left.left - 1) e w.if-rest-with_next.true w.copy_up.ensures)
+          rw (w.mem-is, w.q-is, w.left-is, w.rest-is, w.weight-is) (
+            omega (arith, w.put_string-q.auto.mem, c.loop-left.invariant.0),
+            λ v. take_next (c.loop-left.invariant.1 v) (c.loop-left.left - 1) e w.if-rest-with_next.true w.string_at-string.ensures.span_value
+                w.string_at-string.ensures.tag_value w.put_string-q.ensures,
+          )
       | else-rest-with_next w ↦
           rw (w.mem-is, w.q-is, w.left-is, w.rest-is, w.weight-is)
           (c.loop-left.invariant.0, λ v. skip_next (c.loop-left.invariant.1 v) (c.loop-left.left - 1) e w.if-rest-with_next.false)
