@@ -38,14 +38,12 @@ pub fn part_start(selection: &[u32], place: u32) -> u32
     ensures { result ≡ part_start (shape_at selection.now) place }
 {
     let mut trees: usize = 1;
-    let mut c = place;
-    while 0 < c {
-        let code = codes::code_at(selection, c);
+    for c in (0..place).rev() {
+        let code = codes::code_at(selection, c + 1);
         if stops_at(code, trees) {
-            return c;
+            return c + 1;
         }
         trees = trees_needed(code, trees);
-        c -= 1;
     }
     0
 }
