@@ -1,15 +1,12 @@
 -- The strings inside a window: tested by their two numbers, and copied one after the other, which comes to the numbers of those that are kept.
-use Prim.Native.Nat.{ℕ, ◌+◌, ◌*◌, ◌/◌, ◌%◌, ◌≤◌, ◌<◌}
+use Prim.Native.Nat.{ℕ, ◌+◌, ◌*◌, ◌≤◌, ◌<◌}
 use native.Mathlib.Omega.{arith}
 use mathlib.Core.Path.{◌≡◌, refl, sym, ap, ap₂, ◌∙◌, subst}
 use mathlib.Core.Bool.{Bool, true, false, cond}
 use mathlib.Core.List.{List, [], ◌∷◌, flat_map}
-use borrow.Author.Tests.{le-ltb, lt-ltb}
-use lib.Dec.{leb}
 use lib.ListN.{length, get_or}
 use Rattle.model.specs.AllStrings.{AllStrs}
 use Rattle.model.specs.Answers.{span_of, tag_of}
-use Rattle.model.specs.Limits.{radix}
 use Rattle.model.specs.Lists.{Every, keep}
 use Rattle.model.specs.Matches.{Str}
 use Rattle.model.specs.Rules.{inside_window}
@@ -23,35 +20,8 @@ use Rattle.store.proofs.LayoutLaws.{length-strs_of, strs_of-flat_map}
 use Rattle.store.proofs.MemoryLaws.{get_d_head, holds_tail}
 use Rattle.store.proofs.PutLaws.{put-none, holds-below}
 use Rattle.store.proofs.RowsLaws.{Rows, rows_start, rows_room, rows_step, rows_finish, flat_map-keep}
-use Rattle.window.specs.Inside.{ExcludesAt, inside_numbers, StringAt}
-
--- ---- inside_window
-
-module _ (n last span : ℕ) {start : ℕ} (e : start ≡ span / radix) where
-  pub inside-before : start + n ≤ last → false ≡ inside_window n last (str_of span 0)
-  inside-before h = rw (le-ltb last (span / radix + n) (omega arith))
-
-  pub inside-from : last < start + n → {end : ℕ} → end ≡ span % radix → leb end last ≡ inside_window n last (str_of span 0)
-  inside-from h f = rw (f, lt-ltb last (span / radix + n) (omega arith))
-
--- ---- inside_numbers
-
--- the string at i: where it isn't inside, and where it is
-module _ {n last : ℕ} {mem : List ℕ} {i q : ℕ} (w : StringAt n last mem i q) {test : Bool} (e : test ≡ inside_window n last (str_of (get_or mem i 0) 0)) where
-  abbrev span : ℕ
-  span = get_or mem i 0
-
-  abbrev tag : ℕ
-  tag = get_or mem (i + 1) 0
-
-  pub put_outside : test ≡ false → Put mem mem q (inside_numbers n last span tag) q
-  put_outside f = subst (λ t. Put mem mem q (cond t (span ∷ tag ∷ []) []) q) (sym (sym e ∙ f)) (put-none mem q)
-
-  pub put_one : test ≡ true → {exit : List ℕ} {next : ℕ} → Put mem exit q (span ∷ tag ∷ []) next → Put mem exit q (inside_numbers n last span tag) next
-  put_one f {exit} {next} v = subst (λ t. Put mem exit q (cond t (span ∷ tag ∷ []) []) next) (sym (sym e ∙ f)) v
-
-  pub one-room : test ≡ true → q + 2 ≤ length mem
-  one-room f = subst (λ t. q + length (cond t (span ∷ tag ∷ []) []) ≤ length mem) (sym e ∙ f) w.room
+use Rattle.strings.specs.declared.packed.Packed.{Packed}
+use Rattle.window.specs.Inside.{ExcludesAt}
 
 -- ---- copying
 
@@ -71,63 +41,85 @@ pub record Copying (n last : ℕ) (list : List Str) (mem₀ : List ℕ) (e q : �
   pub rows : Rows (row_of n last) list todo mem₀ mem q next
 
 -- the string in hand
-record Here (n last : ℕ) (mem : List ℕ) (e i : ℕ) (todo : List Str) : Type 0 where
+record Here (mem : List ℕ) (e i : ℕ) (todo : List Str) : Type 0 where
   pub first : Str
   pub rest : List Str
   pub is : todo ≡ first ∷ rest
   pub holds : Holds mem (i + 2) (strs_of 1 rest)
   pub valid : AllStrs ValidStr rest
   pub end_is : e ≡ i + 2 + 2 * length rest
-  pub row : inside_numbers n last (get_or mem i 0) (get_or mem (i + 1) 0) ≡ row_of n last first
+  pub span : get_or mem i 0 ≡ span_of first
+  pub tag : get_or mem (i + 1) 0 ≡ tag_of 1 first
+  pub same : str_of (span_of first) (tag_of 1 first) ≡ first
+
+here_of : (todo : List Str) {mem : List ℕ} {e i : ℕ} → Holds mem i (strs_of 1 todo) → AllStrs ValidStr todo → e ≡ i + 2 * length todo → i < e → Here mem e i todo
+unfolding strs_of Every
+here_of [] r f d h = absurd (omega arith)
+here_of (s ∷ ss) {mem} {i = i} r f d h =
+    let rest = holds_tail _ r in
+    let two : Holds mem (i + 2) (strs_of 1 ss) = subst (λ k. Holds mem k (strs_of 1 ss)) (omega arith) (holds_tail _ rest) in
+    record {
+      first = s;
+      rest = ss;
+      is = refl;
+      holds = two;
+      valid = f.1;
+      end_is = omega arith;
+      span = get_d_head _ r;
+      tag = get_d_head _ rest;
+      same = str_back 1 s (omega arith) f.0;
+    }
 
 module _ {n last : ℕ} {mem : List ℕ} {a e q : ℕ} (w : ExcludesAt n last mem a e q) where
-  pub copy_start : Copying n last w.list mem e q mem q a
-  copy_start = record { todo = w.list; holds = w.holds; valid = w.valid; end_is = w.end_is; rows = rows_start }
-
-module _ {n last : ℕ} {mem₀ : List ℕ} {a e q : ℕ} (w : ExcludesAt n last mem₀ a e q) {mem : List ℕ} {next i : ℕ} (g : Copying n last w.list mem₀ e q mem next i) where
-  here : (todo : List Str) → Holds mem i (strs_of 1 todo) → AllStrs ValidStr todo → e ≡ i + 2 * length todo → i < e → Here n last mem e i todo
-  unfolding strs_of Every
-  here [] r f d h = absurd (omega arith)
-  here (s ∷ ss) r f d h =
-      let rest = holds_tail _ r in
-      let two : Holds mem (i + 2) (strs_of 1 ss) = subst (λ k. Holds mem k (strs_of 1 ss)) (omega arith) (holds_tail _ rest) in
-      let same : str_of (span_of s) (tag_of 1 s) ≡ s = str_back 1 s (omega arith) f.0 in
+  pub copy_start : {i : ℕ} → i ≡ a → Copying n last w.list mem e q mem q i
+  copy_start f =
       record {
-        first = s;
-        rest = ss;
-        is = refl;
-        holds = two;
-        valid = f.1;
-        end_is = omega arith;
-        row =
-            ap₂ (inside_numbers n last) (get_d_head _ r) (get_d_head _ rest)
-            ∙ ap (λ t. cond (inside_window n last t) (span_of s ∷ tag_of 1 s ∷ []) []) same;
+        todo = w.list;
+        holds = subst (λ k. Holds mem k (strs_of 1 w.list)) (sym f) w.holds;
+        valid = w.valid;
+        end_is = omega (arith, w.end_is);
+        rows = rows_start;
       }
 
+module _ {n last : ℕ} {mem₀ : List ℕ} {a e q : ℕ} (w : ExcludesAt n last mem₀ a e q) {mem : List ℕ} {next i : ℕ} (g : Copying n last w.list mem₀ e q mem next i) where
   module _ (h : i < e) where
-    one : Here n last mem e i g.todo
-    one = here g.todo g.holds g.valid g.end_is h
+    here : Here mem e i g.todo
+    here = here_of g.todo g.holds g.valid g.end_is h
 
-    pub string-at : StringAt n last mem i next
-    string-at =
-        let all_of : q + length (flat_map (row_of n last) w.list) ≤ length mem₀ =
-        omega (arith, w.room, ap length (rows_inside n last w.list), length-strs_of 1 (keep (inside_window n last) w.list)) in
-        record {
-          size = w.size;
-          below = omega (arith, one.end_is, w.below, g.rows.put.next_is);
-          room = rw one.row (rows_room g.rows one.is all_of);
-        }
+    module _ {string : Packed} (s : string.span ≡ get_or mem i 0) (t : string.tag ≡ get_or mem (i + 1) 0) {test : Bool} (u : test ≡ inside_window n last (str_of string.span 0)) where
+      decided : inside_window n last here.first ≡ test
+      decided = ap (inside_window n last) (sym here.same) ∙ ap (λ x. inside_window n last (str_of x 0)) (sym (s ∙ here.span)) ∙ sym u
 
-    pub copy_next : {mem' : List ℕ} {next' : ℕ} → Put mem mem' next (inside_numbers n last (get_or mem i 0) (get_or mem (i + 1) 0)) next'
-        → Copying n last w.list mem₀ e q mem' next' (i + 2)
-    copy_next {mem'} {next'} v =
-        record {
-          todo = one.rest;
-          holds = holds-below v (omega (arith, one.end_is, length-strs_of 1 one.rest, w.below, g.rows.put.next_is)) one.holds;
-          valid = one.valid;
-          end_is = one.end_is;
-          rows = rows_step g.rows one.is (subst (λ xs. Put mem mem' next xs next') one.row v);
-        }
+      row_is : row_of n last here.first ≡ cond test (string.span ∷ string.tag ∷ []) []
+      row_is = ap₂ (λ b xs. cond b xs []) decided (ap₂ (λ x y. x ∷ y ∷ []) (sym (s ∙ here.span)) (sym (t ∙ here.tag)))
+
+      -- where it is inside there is room for it
+      pub inside_room : test ≡ true → next + 2 ≤ length mem
+      inside_room f =
+          let all_of : q + length (flat_map (row_of n last) w.list) ≤ length mem₀ =
+          omega (arith, w.room, ap length (rows_inside n last w.list), length-strs_of 1 (keep (inside_window n last) w.list)) in
+          omega (arith, rows_room g.rows here.is all_of, ap length (row_is ∙ ap (λ b. cond b (string.span ∷ string.tag ∷ []) []) f))
+
+      module _ {mem' : List ℕ} {next' i' : ℕ} (i_is : i' ≡ i + 2) where
+        copy_row : Put mem mem' next (cond test (string.span ∷ string.tag ∷ []) []) next' → Copying n last w.list mem₀ e q mem' next' i'
+        copy_row v =
+            let below = holds-below v (omega (arith, here.end_is, length-strs_of 1 here.rest, w.below, g.rows.put.next_is)) here.holds in
+            record {
+              todo = here.rest;
+              holds = subst (λ k. Holds mem' k (strs_of 1 here.rest)) (sym i_is) below;
+              valid = here.valid;
+              end_is = omega (arith, here.end_is);
+              rows = rows_step g.rows here.is (subst (λ xs. Put mem mem' next xs next') (sym row_is) v);
+            }
+
+        pub copy_inside : test ≡ true → Put mem mem' next (string.span ∷ string.tag ∷ []) next' → Copying n last w.list mem₀ e q mem' next' i'
+        copy_inside f v = copy_row (subst (λ b. Put mem mem' next (cond b (string.span ∷ string.tag ∷ []) []) next') (sym f) v)
+
+        pub copy_outside : test ≡ false → mem' ≡ mem → next' ≡ next → Copying n last w.list mem₀ e q mem' next' i'
+        copy_outside f m k =
+            let none = subst (λ b. Put mem mem next (cond b (string.span ∷ string.tag ∷ []) []) next) (sym f) (put-none mem next) in
+            let moved = subst (λ l. Put mem l next (cond test (string.span ∷ string.tag ∷ []) []) next) (sym m) none in
+            copy_row (subst (λ x. Put mem mem' next (cond test (string.span ∷ string.tag ∷ []) []) x) (sym k) moved)
 
   pub copy_end : e ≤ i → Put mem₀ mem q (strs_of 1 (keep (inside_window n last) w.list)) next
   copy_end h = subst (λ xs. Put mem₀ mem q xs next) (rows_inside n last w.list) (rows_finish g.rows (length_none g.todo (omega (arith, g.end_is))))

@@ -1,35 +1,35 @@
 -- The sizes of windows. A window more holds the strings inside it once more, so the strings inside all windows are, string by string, as many as there are
 -- windows around it and the join. The sizes of a list only grow by what comes after, so a list is too long where a first part of it is.
-use Prim.Native.Nat.{ℕ, zero, suc, ◌+◌, ◌-◌, ◌*◌, ◌/◌, ◌%◌, ◌≤◌, ◌<◌, min, max}
+use Prim.Native.Nat.{ℕ, zero, suc, ◌+◌, ◌-◌, ◌*◌, ◌≤◌, ◌<◌, min, max}
 use native.Mathlib.Omega.{arith}
 use mathlib.Core.Path.{◌≡◌, refl, sym, ap, ap₂, ◌∙◌}
 use mathlib.Core.Bool.{Bool, true, false, cond, ◌&&◌, true≢false}
 use mathlib.Core.List.{List, [], ◌∷◌, ◌++◌, append_assoc, append-nil, flat_map, map}
 use borrow.Author.Tests.{leb-true, leb-false, ltb-true, ltb-false}
 use lib.Dec.{leb, ltb}
-use lib.ListN.{length, take, drop, get_or, length-append, length-map}
+use lib.ListN.{length, get_or, length-append, length-map}
 use Rattle.model.specs.Limits.{max_matches, max_strings, max_window, radix}
 use Rattle.model.specs.Lists.{from_to, keep, up_from}
 use Rattle.model.specs.Matches.{Match, Str, strings, too_long}
 use Rattle.model.specs.Rules.{inside_window, join, window, window_ends, window_to}
 use Rattle.model.proofs.ListsLaws.{length-range}
 use Rattle.model.proofs.RulesLaws.{strings-append}
-use Rattle.join.specs.Joined.{joined}
-use Rattle.strings.specs.Strings.{strs_at}
-use Rattle.strings.proofs.StringsLaws.{Left as StringsLeft, left-next, left-none, length-strs_at}
-use Rattle.store.specs.declared.bounds.Bounds.{Bounds}
-use Rattle.store.specs.declared.Built.{Built}
-use Rattle.store.specs.declared.Built.TheVariants.{Made, TooLong}
-use Rattle.store.specs.Built.{sized_as, built_of, Small}
-use Rattle.store.specs.Layout.{BoundsOf, matches_at, match_length}
+use Rattle.join.specs.Joined.{Extent}
+use Rattle.strings.specs.Strings.{str_packed}
+use Rattle.strings.specs.declared.packed.Packed.{Packed}
+use Rattle.strings.specs.declared.positions.Run.{Run}
+use Rattle.std.specs.Prelude.{IsErr, Ok, Err}
+use Rattle.store.specs.declared.Size.{Size}
+use Rattle.store.specs.declared.TooLong.{TooLong}
+use Rattle.store.specs.Built.{Built, made, over, sized_as, built_of, Small}
+use Rattle.store.specs.Layout.{matches_at, match_length}
 use Rattle.store.specs.Slot.{SlotHolds}
 use Rattle.store.specs.Stream.{Remaining}
-use Rattle.store.proofs.DecodeLaws.{excludes-within}
-use Rattle.store.proofs.SlotsLaws.{answer-long, answer_made, built_made, matches_held, not-long, slot-stream}
+use Rattle.store.proofs.SlotsLaws.{answer-long, answer_made, built_made, matches_held, not-long, slot-stream, the-error}
 use Rattle.store.proofs.StreamLaws.{Next, next-counted, none-counted}
 use Rattle.window.specs.Inside.{WindowSize}
 use Rattle.window.specs.Sizes.{SizeAt, times_inside, windows_around}
-use Rattle.window.proofs.JoinedLaws.{ends-are, length-join-one, part, window_dropped}
+use Rattle.window.proofs.JoinedLaws.{ends-are, length-join-one, window_dropped}
 
 -- ---- times_inside
 
@@ -64,26 +64,28 @@ times-next n start last (s ∷ ss) h = at (ltb last (s.start + n)) (leb s.end la
 pub count-more : {n start first more : ℕ} (s last : ℕ) → WindowSize n → start < radix → first ≡ min start s → more ≡ windows_around n first last → more ≤ radix + max_window
 count-more s last size low f e = omega (arith, size.up_to)
 
--- at index i of the loop: the count so far and what the strings left add to it
-pub record Counted (n start end : ℕ) (strs : List ℕ) (count i : ℕ) : Type 0 where
-  pub left : StringsLeft (times_inside n start end (strs_at strs)) (λ ss. count + times_inside n start end ss) strs i
+-- the count so far and what the strings left add to it
+pub record Counted (n start end : ℕ) (all left : List Str) (count : ℕ) : Type 0 where
+  pub same : count + times_inside n start end left ≡ times_inside n start end all
+  pub few : length left ≤ length all
 
-pub count-start : (n start end : ℕ) (strs : List ℕ) → Counted n start end strs 0 0
-count-start n start end strs = record { left = record { bounded = omega arith; same = omega arith } }
+pub count-start : (n start : ℕ) {end : ℕ} {all left : List Str} → left ≡ all → Counted n start end all left 0
+count-start n start {end} e = record { same = omega (arith, ap (times_inside n start end) e); few = omega (arith, ap length e) }
 
-module _ {n start end count i : ℕ} {strs : List ℕ} (g : Counted n start end strs count i) where
-  pub count_most : windows_around n start end ≤ max_matches → length strs ≤ 2 * max_strings → count ≤ max_matches * max_strings
-  count_most h k = omega (arith, g.left.same, times-most n start end (strs_at strs) h, length-strs_at strs)
+module _ {n start end count : ℕ} {all left : List Str} (g : Counted n start end all left count) where
+  pub count_most : windows_around n start end ≤ max_matches → length all ≤ max_strings → count ≤ max_matches * max_strings
+  count_most h k = omega (arith, g.same, times-most n start end all h)
 
-  -- the string in hand, from s to t, is taken in with the join
-  pub count_next : i + 1 < length strs → {s t first last more : ℕ} → s ≡ get_or strs i 0 / radix → t ≡ get_or strs i 0 % radix
-      → first ≡ min start s → last ≡ max end t → more ≡ windows_around n first last → Counted n start end strs (count + more) (i + 2)
+  -- the string in hand is taken in with the run
+  pub count_next : (s : Packed) {more : List Str} → left ≡ str_packed s ∷ more → {added : ℕ} → added ≡ windows_around n (min start (str_packed s).start) (max end (str_packed s).end)
+      → Counted n start end all more (count + added)
   unfolding times_inside
-  count_next h {more = more} a b c d e = record { left = left-next g.left h (λ ss. count + more + times_inside n start end ss) (omega arith) }
+  count_next s {more} e f =
+      record { same = omega (arith, f, g.same, ap (times_inside n start end) e); few = omega (arith, g.few, ap length e) }
 
-  pub count-end : length strs ≤ i + 1 → count ≡ times_inside n start end (strs_at strs)
+  pub count-end : left ≡ [] → count ≡ times_inside n start end all
   unfolding times_inside
-  count-end h = omega (arith, left-none g.left h)
+  count-end e = omega (arith, g.same, ap (times_inside n start end) e)
 
 -- ---- the windows of one match
 
@@ -112,59 +114,58 @@ module _ {n : ℕ} (start end : ℕ) (m : Match) (size : WindowSize n) (ends : w
 
 -- ---- size_with
 
-module _ {n : ℕ} {mem : List ℕ} {p matches strs : ℕ} (w : SizeAt n mem p matches strs) {b : Bounds} (e : BoundsOf (get_or mem p 0) p b) where
+module _ {n : ℕ} {mem : List ℕ} {p : ℕ} {size : Size} (w : SizeAt n mem p size.matches size.strings) where
   abbrev longer : List Match
   longer = w.list ++ window n w.item
 
-  pub size_dropped : b.includes ≡ b.excludes → Made matches strs ≡ built_of (w.list ++ window n w.item)
+  pub size_dropped : w.item.includes ≡ [] → Ok size ≡ built_of (w.list ++ window n w.item)
   size_dropped z =
-      let same : longer ≡ w.list = ap (λ ms. w.list ++ ms) (window_dropped w.held e n z) ∙ append-nil w.list in
+      let same : longer ≡ w.list = ap (λ ms. w.list ++ ms) (window_dropped n w.item z) ∙ append-nil w.list in
       built_made w.list w.matches_are w.strings_are (omega (arith, w.matches_are, w.strings_are, w.few_matches, w.few_strings)) ∙ ap built_of (sym same)
 
-  -- what the join and the excludes tell of the windows is so
-  pub size-counted : (some : b.includes ≡ b.excludes → ⊥) {start end : ℕ} → start ≡ (joined (strs_at (part w.held e some))).start → end ≡ (joined (strs_at (part w.held e some))).end
-      → {built : Built}
-      → built ≡ sized_as (matches + windows_around n start end)
-      (strs + (windows_around n start end + times_inside n start end (strs_at (take (b.end - b.excludes) (drop b.excludes mem)))))
+  -- what the run and the excludes tell of the windows is so
+  pub size-counted : {run : Run} → Extent w.item.includes run → {es : List Str} → es ≡ w.item.excludes → {built : Built}
+      → built ≡ sized_as (size.matches + windows_around n run.lo.0 run.hi.0) (size.strings + (windows_around n run.lo.0 run.hi.0 + times_inside n run.lo.0 run.hi.0 es))
       → built ≡ built_of (w.list ++ window n w.item)
-  size-counted some {start} {end} from to f =
+  size-counted {run} x e f =
       let m = w.item in
-      let held = w.held in
-      let ends = ends-are held e some n from to in
-      let one = length-join-one held e some in
+      let start = run.lo.0 in
+      let end = run.hi.0 in
+      let ends = ends-are x n in
+      let one = length-join-one x in
       let windows : ℕ = windows_around n start end in
       let times : List Str → ℕ = times_inside n start end in
-      let matches_now : matches + windows ≡ length longer =
+      let matches_now : size.matches + windows ≡ length longer =
       omega (arith, length-append w.list (window n m), w.matches_are, length_windows start end m w.size ends one) in
-      let strings_now : strs + (windows + times m.excludes) ≡ strings longer =
+      let strings_now : size.strings + (windows + times m.excludes) ≡ strings longer =
       omega (arith, strings-append w.list (window n m), w.strings_are, strings_windows start end m w.size ends one) in
-      f ∙ ap₂ sized_as matches_now (ap (λ ss. strs + (windows + times ss)) (excludes-within held e) ∙ strings_now)
+      f ∙ ap₂ sized_as matches_now (ap (λ ss. size.strings + (windows + times ss)) e ∙ strings_now)
 
 -- ---- window_size
 
 -- a list is too long where a first part of it is
-long-before : (ms ns : List Match) → TooLong ≡ built_of ms → TooLong ≡ built_of (ms ++ ns)
+long-before : (ms ns : List Match) → over ≡ built_of ms → over ≡ built_of (ms ++ ns)
 long-before ms ns e = at (too_long (ms ++ ns)) refl
   where
-    at : (t : Bool) → too_long (ms ++ ns) ≡ t → TooLong ≡ cond t TooLong (Made (length (ms ++ ns)) (strings (ms ++ ns)))
+    at : (t : Bool) → too_long (ms ++ ns) ≡ t → over ≡ cond t over (made (length (ms ++ ns)) (strings (ms ++ ns)))
     at true q = refl
     at false q =
-        let made : Made (length (ms ++ ns)) (strings (ms ++ ns)) ≡ built_of (ms ++ ns) = rw q in
-        let h = (answer_made (ms ++ ns) made).small in
+        let fits : made (length (ms ++ ns)) (strings (ms ++ ns)) ≡ built_of (ms ++ ns) = rw q in
+        let h = (answer_made (ms ++ ns) fits).small in
         let first : Small ms = omega (arith, h.few, h.strs, length-append ms ns, strings-append ms ns) in
         absurd (true≢false (sym (answer-long ms e) ∙ not-long ms first))
 
 -- before match number i of count, at p: the windows of the matches before it are counted
-pub record Sizing (n : ℕ) (list : List Match) (mem : List ℕ) (count p matches strs i : ℕ) : Type 0 where
+pub record Sizing (n : ℕ) (list : List Match) (mem : List ℕ) (count p : ℕ) (size : Size) (i : ℕ) : Type 0 where
   pub todo : List Match
   pub end : ℕ
   pub left : Remaining todo mem p end
   pub count_is : i + length todo ≡ count
   pub done : List Match
   pub split : flat_map (window n) list ≡ done ++ flat_map (window n) todo
-  pub made : Made matches strs ≡ built_of done
+  pub size_is : Ok size ≡ built_of done
 
-pub size-start : (n : ℕ) {mem : List ℕ} {src : ℕ} {list : List Match} → SlotHolds mem src list → {count : ℕ} → count ≡ matches_at mem src → Sizing n list mem count (src + 2) 0 0 0
+pub size-start : (n : ℕ) {mem : List ℕ} {src : ℕ} {list : List Match} → SlotHolds mem src list → {count : ℕ} → count ≡ matches_at mem src → Sizing n list mem count (src + 2) (record { matches = 0; strings = 0 }) 0
 unfolding strings
 size-start n {mem} {src} {list} s e =
     record {
@@ -174,10 +175,10 @@ size-start n {mem} {src} {list} s e =
       count_is = omega (arith, matches_held s);
       done = [];
       split = refl;
-      made = built_made [] refl refl (omega arith);
+      size_is = built_made [] refl refl (omega arith);
     }
 
-module _ {n : ℕ} {list : List Match} {mem : List ℕ} {count p matches strs i : ℕ} (g : Sizing n list mem count p matches strs i) where
+module _ {n : ℕ} {list : List Match} {mem : List ℕ} {count p : ℕ} {size : Size} {i : ℕ} (g : Sizing n list mem count p size i) where
   module _ (h : i < count) where
     here : Next g.todo mem p g.end
     here = next-counted g.left g.count_is h
@@ -188,17 +189,17 @@ module _ {n : ℕ} {list : List Match} {mem : List ℕ} {count p matches strs i 
         g.split ∙ ap (λ ms. g.done ++ flat_map (window n) ms) here.is
         ∙ sym (append_assoc g.done (window n here.first) (flat_map (window n) here.rest))
 
-    module _ (size : WindowSize n) where
+    module _ (width : WindowSize n) where
       -- the match in hand
-      pub size-item : SizeAt n mem p matches strs
+      pub size-item : SizeAt n mem p size.matches size.strings
       size-item =
-          let z = answer_made g.done g.made in
-          let few : matches ≤ max_matches = omega (arith, z.matches_are, z.small.few) in
-          let few' : strs ≤ max_strings = omega (arith, z.strings_are, z.small.strs) in
+          let z = answer_made g.done g.size_is in
+          let few : size.matches ≤ max_matches = omega (arith, z.matches_are, z.small.few) in
+          let few' : size.strings ≤ max_strings = omega (arith, z.strings_are, z.small.strs) in
           record {
             item = here.first;
             list = g.done;
-            size = size;
+            size = width;
             held = here.held;
             matches_are = z.matches_are;
             strings_are = z.strings_are;
@@ -207,7 +208,7 @@ module _ {n : ℕ} {list : List Match} {mem : List ℕ} {count p matches strs i 
           }
 
       module _ {built : Built} (e : built ≡ built_of (size-item.list ++ window n size-item.item)) where
-        pub size-next : {m s p' : ℕ} → built ≡ Made m s → p' ≡ p + match_length (get_or mem p 0) → Sizing n list mem count p' m s (i + 1)
+        pub size-next : {size' : Size} {p' : ℕ} → built ≡ Ok size' → p' ≡ p + match_length (get_or mem p 0) → Sizing n list mem count p' size' (i + 1)
         unfolding size-item
         size-next f l =
             record {
@@ -217,13 +218,13 @@ module _ {n : ℕ} {list : List Match} {mem : List ℕ} {count p matches strs i 
               count_is = omega (arith, g.count_is, here.one_less);
               done = g.done ++ window n here.first;
               split = split_next;
-              made = sym f ∙ e;
+              size_is = sym f ∙ e;
             }
 
-        pub size-over : built ≡ TooLong → built ≡ built_of (flat_map (window n) list)
+        pub size-over : {error : TooLong} {result : Built} → built ≡ Err error → IsErr result → result ≡ built_of (flat_map (window n) list)
         unfolding size-item
-        size-over f = f ∙ long-before (g.done ++ window n here.first) _ (sym f ∙ e) ∙ ap built_of (sym split_next)
+        size-over f r = the-error _ r ∙ long-before (g.done ++ window n here.first) _ (sym f ∙ e) ∙ ap built_of (sym split_next)
 
-  pub size-end : count ≤ i → Made matches strs ≡ built_of (flat_map (window n) list)
+  pub size-end : count ≤ i → Ok size ≡ built_of (flat_map (window n) list)
   unfolding flat_map
-  size-end h = g.made ∙ ap built_of (sym (g.split ∙ ap (λ ms. g.done ++ flat_map (window n) ms) (none-counted g.left g.count_is h) ∙ append-nil g.done))
+  size-end h = g.size_is ∙ ap built_of (sym (g.split ∙ ap (λ ms. g.done ++ flat_map (window n) ms) (none-counted g.left g.count_is h) ∙ append-nil g.done))

@@ -4,14 +4,13 @@ use native.Mathlib.Omega.{arith}
 use mathlib.Core.Path.{◌≡◌, sym, ap, ap₂, ◌∙◌, subst}
 use mathlib.Core.List.{List, [], ◌∷◌, flat_map, map}
 use lib.ListN.{length, get_or, set}
-use Rattle.model.specs.Answers.{span_of, tag_of}
 use Rattle.model.specs.Limits.{max_strings, radix}
 use Rattle.model.specs.Lists.{keep, from_to}
-use Rattle.model.specs.Matches.{Match, strings_in}
+use Rattle.model.specs.Matches.{Match, Str, strings_in}
 use Rattle.model.specs.Rules.{inside_window, join, window, window_ends, window_to}
 use Rattle.model.proofs.ListsLaws.{length-keep, range_cons, range_empty}
-use Rattle.join.specs.Joined.{joined}
-use Rattle.strings.specs.Strings.{strs_at, strs_of}
+use Rattle.strings.specs.Strings.{strs_of}
+use Rattle.strings.specs.declared.packed.Packed.{Packed}
 use Rattle.store.specs.declared.bounds.Bounds.{Bounds}
 use Rattle.store.specs.Each.{OneAt}
 use Rattle.store.specs.Layout.{BoundsOf, header_between, match_numbers, matches_numbers}
@@ -22,9 +21,7 @@ use Rattle.store.proofs.LayoutLaws.{length_match, length-strs_of, matches_map, m
 use Rattle.store.proofs.PutLaws.{closed_match, closing_match, holds-below, length-put, put-none}
 use Rattle.store.proofs.RowsLaws.{Rows, rows_start, rows_room, rows_step, rows_finish}
 use Rattle.window.specs.Inside.{ExcludesAt, WindowSize}
-use Rattle.window.specs.Sizes.{windows_around}
-use Rattle.window.specs.Windows.{Source, WindowAt, WindowsAt}
-use Rattle.window.proofs.JoinedLaws.{ends_by_span, joins-are, part, window_dropped}
+use Rattle.window.specs.Windows.{JoinIs, Source, WindowAt, WindowsAt}
 
 -- ---- window_to
 
@@ -127,44 +124,35 @@ module _ {n : ℕ} {mem₀ : List ℕ} {x e q span tag : ℕ} (w : WindowsAt n m
     each-end k h =
         subst (λ xs. Put mem₀ mem q xs next) (sym (numbers-window n w.item)) (rows_finish g.rows (range_empty last (end - 1) (omega arith)))
 
--- ---- a match with or without includes
+-- ---- a match with or without windows
 
-module _ (n : ℕ) {mem : List ℕ} {p q : ℕ} (w : OneAt (window n) mem p q) {b : Bounds} (e : BoundsOf (get_or mem p 0) p b) where
-  none-put : window n w.item ≡ [] → Put mem mem q (matches_numbers (window n w.item)) q
-  none-put z = subst (λ xs. Put mem mem q xs q) (sym (ap matches_numbers z ∙ matches_none)) (put-none mem q)
+module _ (n : ℕ) {mem : List ℕ} {p q : ℕ} (w : OneAt (window n) mem p q) {b : Bounds} (e : BoundsOf (get_or mem p 0) p b) {ss : List Str} (same : ss ≡ w.item.includes) where
+  pub dropped : window_ends n ss ≡ [] → Put mem mem q (matches_numbers (window n w.item)) q
+  unfolding window
+  dropped z =
+      let none : window n w.item ≡ [] = ap (map (window_to n w.item)) (ap (window_ends n) (sym same) ∙ z) in
+      subst (λ xs. Put mem mem q xs q) (sym (ap matches_numbers none ∙ matches_none)) (put-none mem q)
 
-  pub dropped : b.includes ≡ b.excludes → Put mem mem q (matches_numbers (window n w.item)) q
-  dropped z = none-put (window_dropped w.one.held e n z)
+  module _ (size : WindowSize n) {s : Packed} (j : JoinIs n ss s) where
+    pub windows_at : WindowsAt n mem b.excludes b.end q s.span s.tag
+    windows_at =
+        let held = w.one.held in
+        record {
+          item = w.item;
+          source = record {
+            size = size;
+            holds = excludes_hold held b.excludes (omega (arith, e));
+            valid = held.valid.excludes;
+            few = omega (arith, held.few);
+            end_is = omega (arith, excludes-held held, e);
+            below = omega (arith, w.one.below, e);
+            joins = ap (λ l. strs_of 0 (join l)) (sym same) ∙ j.joins;
+          };
+          ends = ap (window_ends n) (sym same) ∙ j.ends;
+          room = w.one.room;
+        }
 
-  module _ (size : WindowSize n) (some : b.includes ≡ b.excludes → ⊥) {span : ℕ} (s : span ≡ span_of (joined (strs_at (part w.one.held e some)))) where
-    -- a join that is wider than the windows
-    pub too_wide : {start end windows : ℕ} → start ≡ span / radix → end ≡ span % radix → windows ≡ windows_around n start end → windows ≡ 0
-        → Put mem mem q (matches_numbers (window n w.item)) q
-    unfolding window
-    too_wide a b f z =
-        let none = range_empty (span % radix) (span / radix + n - 1) (omega (arith, size.from_one)) in
-        none-put (ap (map (window_to n w.item)) (ends_by_span w.one.held e some s n ∙ none))
-
-    module _ {tag : ℕ} (t : tag ≡ tag_of 0 (joined (strs_at (part w.one.held e some)))) where
-      pub windows_at : WindowsAt n mem b.excludes b.end q span tag
-      windows_at =
-          let held = w.one.held in
-          record {
-            item = w.item;
-            source = record {
-              size = size;
-              holds = excludes_hold held b.excludes (omega (arith, e));
-              valid = held.valid.excludes;
-              few = omega (arith, held.few);
-              end_is = omega (arith, excludes-held held, e);
-              below = omega (arith, w.one.below, e);
-              joins = joins-are held e some s t;
-            };
-            ends = ends_by_span held e some s n;
-            room = w.one.room;
-          }
-
-      pub windows_put : {exit : List ℕ} {next : ℕ} → Put mem exit q (matches_numbers (window n windows_at.item)) next
-          → Put mem exit q (matches_numbers (window n w.item)) next
-      unfolding windows_at
-      windows_put v = v
+    pub windows_put : {exit : List ℕ} {next : ℕ} → Put mem exit q (matches_numbers (window n windows_at.item)) next
+        → Put mem exit q (matches_numbers (window n w.item)) next
+    unfolding windows_at
+    windows_put v = v

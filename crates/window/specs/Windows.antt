@@ -3,9 +3,10 @@ use Rattle.std.specs.Prelude.{ℕ, ◌+◌, ◌-◌, ◌*◌, ◌/◌, ◌%◌, 
 use Rattle.model.specs.AllStrings.{AllStrs}
 use Rattle.model.specs.Limits.{max_strings, radix}
 use Rattle.model.specs.Lists.{from_to}
-use Rattle.model.specs.Matches.{Match}
+use Rattle.model.specs.Matches.{Match, Str}
 use Rattle.model.specs.Rules.{join, window, window_ends, window_to}
 use Rattle.strings.specs.Strings.{strs_of}
+use Rattle.strings.specs.declared.packed.Packed.{Packed}
 use Rattle.store.specs.ValidStr.{ValidStr}
 use Rattle.store.specs.Layout.{Holds, match_numbers, matches_numbers}
 use Rattle.window.specs.Inside.{WindowSize}
@@ -32,3 +33,8 @@ pub record WindowsAt (n : ℕ) (mem : List ℕ) (x e q span tag : ℕ) : Type 0 
   pub source : Source n item mem x e q span tag
   pub ends : window_ends n item.includes ≡ from_to (span % radix) (span / radix + n - 1)
   pub room : q + length (matches_numbers (window n item)) ≤ length mem
+
+-- the numbers of the join of some strings, and where the windows around it end
+pub record JoinIs (n : ℕ) (ss : List Str) (s : Packed) : Type 0 where
+  pub joins : strs_of 0 (join ss) ≡ s.span ∷ s.tag ∷ []
+  pub ends : window_ends n ss ≡ from_to (s.span % radix) (s.span / radix + n - 1)

@@ -10,118 +10,79 @@ ghost use Rattle.window.specs.Inside.{WindowSize};
 ghost use Rattle.window.specs.Sizes.{SizeAt, times_inside, windows_around};
 
 use join::extent_of;
-use model::{MAX_MATCHES, Position};
-use store::{Bounds, Built};
-use strings::positions::{earlier, later};
-use strings::{end_of, start_of};
+use model::MAX_MATCHES;
+use store::{Built, Size, TooLong};
+use strings::{Run, strings_in};
 
-// How many windows of n positions there are around those from `start` to `end`: "each W from (greatest end − N + 1) up to least start".
-pub fn count_around(n: u32, start: Position, end: Position) -> u32
+// How many windows of n positions there are around a run: "each W from (greatest end − N + 1) up to least start".
+pub fn count_around(n: u32, run: Run) -> u32
     requires window_size { WindowSize n }
-    requires start_lt_radix { start.0 < radix }
-    ensures { result ≡ windows_around n start.0 end.0 }
+    requires start_lt_radix { run.lo.0 < radix }
+    ensures { result ≡ windows_around n run.lo.0 run.hi.0 }
 {
-    let before = start.0 + n;
-    if before <= end.0 {
-        return 0;
-    }
-    before - end.0
+    (run.lo.0 + n).saturating_sub(run.hi.0)
 }
 
-// How often strings of a slice lie inside the windows around a join from `start` to `end`, summed over the windows: each as often as there are windows around
-// it and the join.
-fn count_inside(n: u32, start: Position, end: Position, strs: &[u32]) -> u32
+// How often strings of a slice lie inside the windows around a run, summed over the windows: each as often as there are windows around it and the run.
+fn count_inside(n: u32, run: Run, strs: &[u32]) -> u32
     requires window_size { WindowSize n }
-    requires start_lt_radix { start.0 < radix }
-    requires end_bound { windows_around n start.0 end.0 ≤ max_matches }
+    requires start_lt_radix { run.lo.0 < radix }
+    requires end_bound { windows_around n run.lo.0 run.hi.0 ≤ max_matches }
     requires strs_len_bound { length strs.now ≤ 2 * max_strings }
-    ensures value { result ≡ times_inside n start.0 end.0 (strs_at strs.now) }
+    ensures value { result ≡ times_inside n run.lo.0 run.hi.0 (strs_at strs.now) }
     ensures upper_bound { result ≤ max_matches * max_strings }
 {
     let mut count = 0;
-    let mut i = 0;
-    while i + 1 < strs.len() {
-        let first = earlier(start, start_of(strs[i]));
-        let last = later(end, end_of(strs[i]));
-        count += count_around(n, first, last);
-        i += 2;
+    for s in strings_in(strs) {
+        count += count_around(n, run.joined(s.run()));
     }
     count
 }
 
-// The sizes of a list of so many matches and strings after the windows around a join from `start` to `end`, with these excludes, are added, or that it is too
-// long.
-fn size_around(
-    n: u32,
-    start: Position,
-    end: Position,
-    excludes: &[u32],
-    matches: u32,
-    strings: u32,
-) -> Built
+// The size of a list of this size after the windows around a run, with these excludes, are added.
+fn size_around(n: u32, run: Run, excludes: &[u32], size: Size) -> Built
     requires window_size { WindowSize n }
-    requires start_lt_radix { start.0 < radix }
-    requires matches_le_max_matches { (matches ≤ max_matches) × (strings ≤ max_strings) }
+    requires start_lt_radix { run.lo.0 < radix }
+    requires matches_le_max_matches { (size.matches ≤ max_matches) × (size.strings ≤ max_strings) }
     requires excludes_len_bound { length excludes.now ≤ 2 * max_strings }
-    ensures { result ≡ sized_as (matches + windows_around n start.0 end.0)
-        (strings + (windows_around n start.0 end.0 + times_inside n start.0 end.0 (strs_at excludes.now))) }
+    ensures { result ≡ sized_as (size.matches + windows_around n run.lo.0 run.hi.0)
+        (size.strings + (windows_around n run.lo.0 run.hi.0 + times_inside n run.lo.0 run.hi.0 (strs_at excludes.now))) }
 {
-    let windows = count_around(n, start, end);
-    if MAX_MATCHES < matches + windows {
-        return Built::TooLong;
+    let windows = count_around(n, run);
+    if MAX_MATCHES < size.matches + windows {
+        return Err(TooLong);
     }
-    let more = windows + count_inside(n, start, end, excludes);
-    store::sized(matches + windows, strings + more)
+    let more = windows + count_inside(n, run, excludes);
+    store::sized(size.matches + windows, size.strings + more)
 }
 
-// The sizes after the windows of the match at `at` are added; a match without includes adds none.
-fn size_with(mem: &[u32], n: u32, at: usize, matches: u32, strings: u32) -> Built
-    requires { SizeAt n mem.now at matches strings }
-    ensures { (w : SizeAt n mem.now at matches strings) → result ≡ built_of (w.list ++ window n w.item) }
+// The size after the windows of the match at `at` are added; a match without includes adds none.
+fn size_with(mem: &[u32], n: u32, at: usize, size: Size) -> Built
+    requires { SizeAt n mem.now at size.matches size.strings }
+    ensures { (w : SizeAt n mem.now at size.matches size.strings) → result ≡ built_of (w.list ++ window n w.item) }
 {
-    let Bounds {
-        includes,
-        excludes,
-        end,
-    } = store::bounds_at(mem, at);
-    if includes == excludes {
-        return Built::Made { matches, strings };
+    let bounds = store::bounds_at(mem, at);
+    match extent_of(bounds.includes(mem)) {
+        Some(run) => size_around(n, run, bounds.excludes(mem), size),
+        None => Ok(size),
     }
-    let extent = extent_of(&mem[includes..excludes]);
-    size_around(
-        n,
-        extent.start,
-        extent.end,
-        &mem[excludes..end],
-        matches,
-        strings,
-    )
 }
 
-// The sizes of the windows of the list in the slot at src, or that it is too long.
+// The size of the windows of the list in the slot at src.
 pub fn window_size(mem: &[u32], n: u32, src: usize) -> Built
     requires window_size { WindowSize n }
     requires slot_at { SlotAt mem.now src }
     ensures { (w : SlotAt mem.now src) → result ≡ built_of (flat_map (window n) w.list) }
 {
-    let count = store::slot_matches(mem, src);
+    let count = store::size_at(mem, src).matches;
     let mut at = src + store::FIRST_MATCH;
-    let mut matches = 0;
-    let mut strings = 0;
-    let mut i = 0;
-    while i < count {
-        let size = size_with(mem, n, at, matches, strings);
-        let Built::Made {
-            matches: m,
-            strings: s,
-        } = size
-        else {
-            return size;
-        };
-        matches = m;
-        strings = s;
+    let mut size = Size {
+        matches: 0,
+        strings: 0,
+    };
+    for _ in 0..count {
+        size = size_with(mem, n, at, size)?;
         at = store::match_end(mem, at);
-        i += 1;
     }
-    Built::Made { matches, strings }
+    Ok(size)
 }

@@ -1,11 +1,7 @@
--- Invariant: the count so far and what the strings left add to it are the whole (Counted). Measure: the numbers left.
-use Prim.Native.Nat.{◌-◌}
-use lib.ListN.{length}
+-- Invariant: the count so far and what the strings left add to it are the whole (Counted).
+use Rattle.strings.specs.Strings.{strs_at}
 use Rattle.window.proofs.SizesLaws.{Counted}
 use Rattle.window.proofs.sizes.count_inside.Given as goal
 
-abbrev pub invariant-loop-i : goal.invariant-loop-i
-invariant-loop-i l = Counted l.n l.start.0 l.end.0 l.strs l.count l.i
-
-abbrev pub decreases-loop-i : goal.decreases-loop-i
-decreases-loop-i l = length l.strs - l.i
+abbrev pub invariant-loop-s : goal.invariant-loop-s
+invariant-loop-s l = Counted l.n l.run.lo.0 l.run.hi.0 (strs_at l.strs) l.s-iterator l.count

@@ -1,6 +1,6 @@
 -- The join is put, the excludes inside after it, and the header in front.
 use Rattle.window.proofs.WindowsLaws.{join-room, excludes-at, window_ends_lem, window-put}
-use Rattle.window.proofs.put_window.Goals as goal
+use Rattle.window.proofs.writing.Source.put_window.Goals as goal
 
 pub put_string-excludes-requires : goal.put_string-excludes-requires
 put_string-excludes-requires c = join-room c.requires
