@@ -1,12 +1,11 @@
 -- What is written of a match that is kept: its includes or their join, after them the excludes that stay, and the header in front.
-use Prim.Native.Nat.{ℕ, suc, ◌+◌, ◌-◌, ◌*◌, ◌≤◌, ◌<◌, min}
+use Prim.Native.Nat.{ℕ, suc, ◌+◌, ◌-◌, ◌*◌, ◌/◌, ◌≤◌, ◌<◌, min}
 use native.Mathlib.Omega.{arith}
 use mathlib.Core.Path.{◌≡◌, refl, sym, ap, ap₂, ◌∙◌, subst}
 use mathlib.Core.Bool.{Bool, true, false, cond}
 use mathlib.Core.List.{List, [], ◌∷◌, flat_map}
 use mathlib.Core.Logic.{inl}
-use lib.ListN.{length, take, drop, get_or, set, length-take, length-drop, drop_of_length-le}
-use lib.Seq.{sets}
+use lib.ListN.{length, take, drop, get_or, set, length-take, drop_of_length-le}
 use Rattle.model.specs.AllStrings.{AllStrs}
 use Rattle.model.specs.Answers.{span_of, tag_of}
 use Rattle.model.specs.Limits.{radix}
@@ -16,15 +15,14 @@ use Rattle.model.specs.Rules.{Keeping, join, kept_match, kept}
 use Rattle.model.proofs.ListsLaws.{length-keep}
 use Rattle.model.proofs.RulesLaws.{length-kept, size-kept}
 use Rattle.strings.specs.Strings.{str_of, strs_of, strs_at}
-use Rattle.strings.proofs.StringsLaws.{length-strs_at, strs_at-none}
-use Rattle.join.specs.Joined.{joined}
-use Rattle.join.proofs.JoinLaws.{strs_of-join}
+use Rattle.strings.proofs.StringsLaws.{length-strs_at}
 use Rattle.store.specs.declared.bounds.Bounds.{Bounds}
 use Rattle.store.specs.Built.{Small}
 use Rattle.store.specs.Each.{OneAt}
 use Rattle.store.specs.ValidStr.{ValidStr}
 use Rattle.store.specs.Layout.{Holds, BoundsOf, header_between, matches_numbers}
-use Rattle.store.specs.Indices.{CopyUp, ClosingMatch}
+use Rattle.store.specs.Indices.{ClosingMatch}
+use Rattle.std.specs.List.{copy_within}
 use Rattle.store.specs.Put.{Put}
 use Rattle.store.specs.Slot.{SlotHolds}
 use Rattle.store.proofs.DecodeLaws.{includes-held, excludes-held, includes_hold, excludes_hold, includes-within, includes-length, str_back}
@@ -39,30 +37,22 @@ use Rattle.filters.specs.Writing.{includes_numbers, excludes_numbers, kept_numbe
 
 -- ---- the join
 
--- less than a string gives none, and strings give one
-module _ (mem : List ℕ) {a e q : ℕ} (j : Join (length mem) a e q) where
-  part : List ℕ
-  part = take (e - a) (drop a mem)
-
-  length_part : length part ≡ e - a
-  unfolding part
-  length_part = simp (length-take, length-drop) (omega arith)
-
-  pub put_no_join : e - a < 2 → Put mem mem q (strs_of 0 (join (strs_in mem a e))) q
-  unfolding part join strs_of
-  put_no_join h = let none = strs_at-none part 0 (omega (arith, length_part)) in subst (λ ss. Put mem mem q (strs_of 0 (join ss)) q) (sym none) (put-none mem q)
-
-  pub put-one-join : 2 ≤ e - a → {span tag : ℕ} → span ≡ span_of (joined (strs_in mem a e)) → tag ≡ tag_of 0 (joined (strs_in mem a e))
-      → {mem' : List ℕ} {next : ℕ} → Put mem mem' q (span ∷ tag ∷ []) next → Put mem mem' q (strs_of 0 (join (strs_in mem a e))) next
-  unfolding part
-  put-one-join h {span} {tag} f g {mem'} {next} v =
-      let some : length (strs_at part) ≡ 0 → ⊥ = λ z. omega (arith, length_part, length-strs_at part) in
-      subst (λ xs. Put mem mem' q xs next) (ap₂ (λ x y. x ∷ y ∷ []) f g ∙ sym (strs_of-join (strs_at part) some)) v
-
 join-numbers : (ss : List Str) → length (strs_of 0 (join ss)) ≡ min (2 * length ss) 2
 unfolding join strs_of
 join-numbers [] = refl
 join-numbers (s ∷ ss) = omega arith
+
+pub put_no_join : (mem : List ℕ) (ss : List Str) (q : ℕ) → join ss ≡ [] → Put mem mem q (strs_of 0 (join ss)) q
+unfolding strs_of
+put_no_join mem ss q e = rw e (put-none mem q)
+
+-- of a slice with a string there is room for its two numbers
+module _ (mem : List ℕ) (b : Bounds) (q : ℕ) (j : Join (length mem) b q) where
+  pub join-room : {span tag : ℕ} → strs_of 0 (join (strs_in mem b.includes b.excludes)) ≡ span ∷ tag ∷ [] → q + 2 ≤ length mem
+  join-room e =
+      let part : List ℕ = take (b.excludes - b.includes) (drop b.includes mem) in
+      let few : length part ≤ b.excludes - b.includes = simp length-take (omega arith) in
+      omega (arith, j.room, join-numbers (strs_at part), ap length e, length-strs_at part)
 
 -- ---- the includes
 
@@ -72,7 +62,7 @@ module _ (joins : Bool) {mem : List ℕ} {b : Bounds} {q : ℕ} (w : RoomAt (inc
     join_kept : includes_numbers joins w.item ≡ strs_of 0 (join w.item.includes)
     join_kept = rw j
 
-    pub join-fits : Join (length mem) b.includes b.excludes q
+    pub join-fits : Join (length mem) b q
     join-fits =
         let room : q + length (strs_of 0 (join w.item.includes)) ≤ length mem = subst (λ xs. q + length xs ≤ length mem) join_kept w.room in
         omega (arith, join-numbers w.item.includes, includes-held w.held, w.bounds, w.held.header)
@@ -83,19 +73,20 @@ module _ (joins : Bool) {mem : List ℕ} {b : Bounds} {q : ℕ} (w : RoomAt (inc
         subst (λ xs. Put mem mem' q xs next) (ap (λ ss. strs_of 0 (join ss)) (includes-within w.held w.bounds) ∙ sym join_kept) v
 
   -- .. and one that leaves the includes as they are
-  module _ (j : joins ≡ false) {n : ℕ} (e : n ≡ b.excludes - b.includes) where
+  module _ (j : joins ≡ false) where
     plain : includes_numbers joins w.item ≡ strs_of 0 w.item.includes
     plain = rw j
 
-    pub copy_fits : CopyUp (length mem) b.includes n q
+    pub copy_fits : q + (b.excludes - b.includes) ≤ length mem
     copy_fits =
         let room : q + length (strs_of 0 w.item.includes) ≤ length mem = subst (λ xs. q + length xs ≤ length mem) plain w.room in
-        omega (arith, includes-length w.held w.bounds, w.bounds, w.below)
+        omega (arith, includes-length w.held w.bounds)
 
-    pub put_plain : {mem' : List ℕ} → mem' ≡ sets mem q (take n (drop b.includes mem)) → Put mem mem' q (includes_numbers joins w.item) (q + n)
+    pub put_plain : {mem' : List ℕ} → mem' ≡ copy_within mem b.includes b.excludes q → Put mem mem' q (includes_numbers joins w.item) (q + (b.excludes - b.includes))
     put_plain {mem'} h =
-        subst (λ xs. Put mem mem' q xs (q + n)) (sym plain)
-        (put_copy n q (e ∙ includes-length w.held w.bounds) (includes_hold w.held b.includes w.bounds.includes) h)
+        let n = includes-length w.held w.bounds in
+        subst (λ xs. Put mem mem' q xs (q + (b.excludes - b.includes))) (sym plain)
+        (put_copy (omega (arith, n, w.bounds)) (omega (arith, n)) copy_fits (includes_hold w.held b.includes w.bounds.includes) h)
 
 -- ---- the excludes
 
@@ -116,6 +107,10 @@ next : (todo : List Str) → 0 < length todo → Next todo
 next [] h = absurd (omega arith)
 next (x ∷ xs) h = record { first = x; rest = xs; is = refl }
 
+-- the excludes of a match are pairs of numbers
+pub excludes-count : {N : Match → List ℕ} {mem : List ℕ} {b : Bounds} {q : ℕ} (w : RoomAt N mem b q) → 2 * ((b.end - b.excludes) / 2) ≡ b.end - b.excludes
+excludes-count w = omega (arith, w.bounds)
+
 -- before the exclude at k, of those that end before e: memory was mem₀, and of those before it the ones that stay are written from to on to q
 pub record Staying (f : Keeping) (m : Match) (mem₀ : List ℕ) (e to : ℕ) (mem : List ℕ) (k q : ℕ) : Type 0 where
   pub todo : List Str
@@ -125,14 +120,14 @@ pub record Staying (f : Keeping) (m : Match) (mem₀ : List ℕ) (e to : ℕ) (m
   pub end : k + 2 * length todo ≡ e
 
 module _ (f : Keeping) {mem₀ : List ℕ} {b : Bounds} {to : ℕ} (w : RoomAt (excludes_numbers f) mem₀ b to) where
-  pub stay_start : Staying f w.item mem₀ b.end to mem₀ b.excludes to
-  stay_start =
+  pub stay_start : {k : ℕ} → k ≡ b.excludes → Staying f w.item mem₀ b.end to mem₀ k to
+  stay_start {k} e =
       record {
         todo = w.item.excludes;
         rows = rows_start;
-        holds = excludes_hold w.held b.excludes (omega (arith, w.bounds));
+        holds = excludes_hold w.held k (omega (arith, e, w.bounds));
         valid = w.held.valid.excludes;
-        end = omega (arith, w.bounds, excludes-held w.held);
+        end = omega (arith, e, w.bounds, excludes-held w.held);
       }
 
   module _ {mem : List ℕ} {k q : ℕ} (g : Staying f w.item mem₀ b.end to mem k q) where
@@ -159,7 +154,7 @@ module _ (f : Keeping) {mem₀ : List ℕ} {b : Bounds} {to : ℕ} (w : RoomAt (
       length-left = ap length here.is
 
       -- the exclude in hand, by its two numbers
-      numbers : stay_numbers f mem b.includes b.excludes k ≡ stayed f w.item.includes here.first
+      numbers : stay_numbers f mem b k ≡ stayed f w.item.includes here.first
       numbers =
           let x : Str = here.first in
           let still = holds-below g.rows.put (omega (arith, g.end, length-left, length-strs_of 1 here.rest, w.bounds, w.below)) left in
@@ -170,7 +165,7 @@ module _ (f : Keeping) {mem₀ : List ℕ} {b : Bounds} {to : ℕ} (w : RoomAt (
           ∙ ap (λ y. cond (f.stays w.item.includes y) (span_of x ∷ tag_of 1 x ∷ []) []) (str_back 1 x (omega arith) valid-left.0)
 
       -- it may be tested and put ..
-      pub exclude-fits : Exclude (length mem) b.includes b.excludes k q (length (stay_numbers f mem b.includes b.excludes k))
+      pub exclude-fits : Exclude (length mem) b k q (length (stay_numbers f mem b k))
       exclude-fits =
           let rows_fit : to + length (flat_map (stayed f w.item.includes) w.item.excludes) ≤ length mem₀ =
           subst (λ xs. to + length xs ≤ length mem₀) (excludes_rows f w.item) w.room in
@@ -178,14 +173,14 @@ module _ (f : Keeping) {mem₀ : List ℕ} {b : Bounds} {to : ℕ} (w : RoomAt (
           omega (arith, length-put g.rows.put, g.end, length-left, w.bounds, w.held.header)
 
       -- .. and then the next is in hand
-      pub stay_step : {mem' : List ℕ} {q' : ℕ} → Put mem mem' q (stay_numbers f mem b.includes b.excludes k) q'
-          → Staying f w.item mem₀ b.end to mem' (k + 2) q'
-      stay_step {mem'} {q'} v =
-          let on : k + 2 + 2 * length here.rest ≡ b.end = omega (arith, g.end, length-left) in
+      pub stay_step : {mem' : List ℕ} {k' q' : ℕ} → k' ≡ k + 2 → Put mem mem' q (stay_numbers f mem b k) q'
+          → Staying f w.item mem₀ b.end to mem' k' q'
+      stay_step {mem'} {k'} {q'} e v =
+          let on : k' + 2 * length here.rest ≡ b.end = omega (arith, g.end, length-left) in
           record {
             todo = here.rest;
             rows = rows_step g.rows here.is (subst (λ xs. Put mem mem' q xs q') numbers v);
-            holds = subst (λ i. Holds mem₀ i (strs_of 1 here.rest)) (omega arith) (holds_tail _ (holds_tail _ left));
+            holds = subst (λ i. Holds mem₀ i (strs_of 1 here.rest)) (omega (arith, e)) (holds_tail _ (holds_tail _ left));
             valid = valid-left.1;
             end = on;
           }

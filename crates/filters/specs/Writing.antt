@@ -22,9 +22,9 @@ kept_numbers f m = match_numbers (kept_match f m)
 abbrev pub strs_in : List ℕ → ℕ → ℕ → List Str
 strs_in mem a e = strs_at (take (e - a) (drop a mem))
 
--- the two numbers of the exclude at k, if it stays beside the includes from a to b
-abbrev pub stay_numbers : Keeping → List ℕ → ℕ → ℕ → ℕ → List ℕ
-stay_numbers f mem a b k = let span = get_or mem k 0 in let tag = get_or mem (k + 1) 0 in cond (f.stays (strs_in mem a b) (str_of span tag)) (span ∷ tag ∷ []) []
+-- the two numbers of the exclude at k, if it stays beside the includes within the bounds
+abbrev pub stay_numbers : Keeping → List ℕ → Bounds → ℕ → List ℕ
+stay_numbers f mem b k = let span = get_or mem k 0 in let tag = get_or mem (k + 1) 0 in cond (f.stays (strs_in mem b.includes b.excludes) (str_of span tag)) (span ∷ tag ∷ []) []
 
 -- a match within the bounds, below q, and room there for the numbers that N makes of it
 pub record RoomAt (N : Match → List ℕ) (mem : List ℕ) (b : Bounds) (q : ℕ) : Type 0 where
@@ -43,15 +43,13 @@ PutOf N entry exit b q next = (w : RoomAt N entry b q) → Put entry exit q (N w
 abbrev pub PutOne : (Match → List Match) → List ℕ → List ℕ → ℕ → ℕ → ℕ → Type 0
 PutOne F entry exit from q next = (w : OneAt F entry from q) → Put entry exit q (matches_numbers (F w.item)) next
 
--- a slice, and room at q for the join of its strings
-pub record Join (size a e q : ℕ) : Type 0 where
-  pub in_order : a ≤ e
-  pub within : e ≤ size
-  pub room : q + min (e - a) 2 ≤ size
+-- room at q for the join of the includes within the bounds
+pub record Join (size : ℕ) (b : Bounds) (q : ℕ) : Type 0 where
+  pub within : b.end ≤ size
+  pub room : q + min (b.excludes - b.includes) 2 ≤ size
 
--- the slice of the includes, an exclude at k, and room at q for so many numbers
-pub record Exclude (size a b k q n : ℕ) : Type 0 where
-  pub in_order : a ≤ b
-  pub within : b ≤ size
+-- the bounds of a match, an exclude at k, and room at q for so many numbers
+pub record Exclude (size : ℕ) (b : Bounds) (k q n : ℕ) : Type 0 where
+  pub within : b.end ≤ size
   pub exclude : k + 2 ≤ size
   pub room : q + n ≤ size

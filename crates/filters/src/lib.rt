@@ -1,39 +1,44 @@
-// The nine filters that keep a match or drop it: one loop over a list's matches and one writer, by each filter's rule.
+// The list that a filter gives of a list: window's by its own rule, and those of the filters that keep a match or drop it by another, for all of them.
 
 #![tactic(auto)]
 
+mod kept;
 mod writing;
 
-ghost use Rattle.std.specs.Prelude.{length};
+ghost use Rattle.std.specs.Prelude.{length, ℕ, ◌≡◌};
+ghost use Rattle.model.specs.declared.Filter.TheVariants.{Window};
 ghost use Rattle.model.specs.AllMatches.{filter_list};
 ghost use Rattle.model.specs.Section.{section_of};
-ghost use Rattle.filter_rules.specs.declared.Rule.TheVariants.{Keep};
-ghost use Rattle.filter_rules.specs.Keepers.{filter_of};
 ghost use Rattle.store.specs.Outcome.{Outcome};
 ghost use Rattle.store.specs.Indices.{SlotBelow};
 ghost use Rattle.store.specs.Slot.{SlotAt};
+ghost use Rattle.window.specs.Inside.{WindowSize};
 
-use filter_rules::Keeper;
+use distance::Distances;
+use filter_rules::{AtPosition, Different, EntireContent, Ordered, Same};
+use kept::kept_list;
+use model::{Filter, Paragraph, Sentence};
 use store::Built;
+use window::window_list;
 
 // Builds the list that a filter gives of the list in the slot at src.
-pub fn filter_list(section: &[u32], keeper: Keeper, mem: &mut [u32], src: usize, at: usize) -> Built
+#[tactic(auto, unfolding(model::specs::AllMatches::filter_list))]
+pub fn filter_list(section: &[u32], filter: Filter, mem: &mut [u32], src: usize, at: usize) -> Built
+    requires by_index { (n : ℕ) → filter ≡ Window n → WindowSize n }
     requires slot_at { SlotAt mem.old src }
     requires slot_below { SlotBelow (length mem.old) src at }
-    ensures { (w : SlotAt mem.old src) → Outcome (filter_list (section_of section.now) (filter_of (Keep keeper)) w.list) mem.old mem.new at result }
+    ensures { (w : SlotAt mem.old src) → Outcome (filter_list (section_of section.now) filter w.list) mem.old mem.new at result }
 {
-    let n = store::slot_matches(mem, src) as usize;
-    let mut from = src + store::FIRST_MATCH;
-    let mut q = at + store::FIRST_MATCH;
-    let mut matches = 0;
-    let mut i = 0;
-    while i < n {
-        let end = store::match_end(mem, from);
-        let next = writing::put_filtered(section, keeper, mem, from, q);
-        matches = store::count_one(matches, q, next);
-        q = next;
-        from = end;
-        i += 1;
+    match filter {
+        Filter::Ordered => kept_list(Ordered, mem, src, at),
+        Filter::Window(n) => window_list(mem, n, src, at),
+        Filter::Distance { least, most } => kept_list(Distances { least, most }, mem, src, at),
+        Filter::SameSentence => kept_list(Same::<Sentence>::new(section), mem, src, at),
+        Filter::SameParagraph => kept_list(Same::<Paragraph>::new(section), mem, src, at),
+        Filter::DifferentSentence => kept_list(Different::<Sentence>::new(section), mem, src, at),
+        Filter::DifferentParagraph => kept_list(Different::<Paragraph>::new(section), mem, src, at),
+        Filter::AtStart => kept_list(AtPosition::start(section), mem, src, at),
+        Filter::AtEnd => kept_list(AtPosition::end(section), mem, src, at),
+        Filter::EntireContent => kept_list(EntireContent { section }, mem, src, at),
     }
-    store::close_slot(mem, at, q, matches)
 }

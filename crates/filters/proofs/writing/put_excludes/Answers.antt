@@ -1,23 +1,18 @@
-use mathlib.Core.Path.{refl}
-use borrow.Author.Rules.{rules}
-use Rattle.model.specs.Section.{section_of}
-use Rattle.filter_rules.specs.Keepers.{keeping_of}
-use Rattle.filters.proofs.WritingLaws.{stay_start, exclude-fits, stay_step, stay_finish}
+use Rattle.std.proofs.Common.{arith, refl, rules}
+use Rattle.filters.proofs.WritingLaws.{stay_start, exclude-fits, stay_step, stay_finish, excludes-count}
 use Rattle.filters.proofs.writing.put_excludes.Goals as goal
 
-pub loop-k-init : goal.loop-k-init
-loop-k-init c = (refl, λ w. stay_start (keeping_of (section_of c.args.section.now) c.args.keeper) w)
+pub loop-i-init : goal.loop-i-init
+loop-i-init g c = (refl, λ w. stay_start (g.K.Keeper.keeping c.args.keeper) w (omega arith))
 
 pub put_exclude-q-requires : goal.put_exclude-q-requires
-put_exclude-q-requires c =
-    exclude-fits (keeping_of (section_of c.args.section.now) c.args.keeper) c.requires (c.loop-k.invariant.1 c.requires) c.loop-k-test.true
+put_exclude-q-requires g c = exclude-fits (g.K.Keeper.keeping c.args.keeper) c.requires (c.loop-i.invariant.1 c.requires) (omega arith)
 
-pub loop-k-preserved : goal.loop-k-preserved
-loop-k-preserved c = (
+pub loop-i-preserved : goal.loop-i-preserved
+loop-i-preserved g c = (
   search rules,
-  λ w. stay_step (keeping_of (section_of c.args.section.now) c.args.keeper) w (c.loop-k.invariant.1 w) c.loop-k-test.true c.put_exclude-q.ensures,
+  λ w. stay_step (g.K.Keeper.keeping c.args.keeper) w (c.loop-i.invariant.1 w) (omega arith) (omega arith) c.put_exclude-q.ensures,
 )
 
 pub returns : goal.returns
-returns c w =
-    stay_finish (keeping_of (section_of c.args.section.now) c.args.keeper) w (c.loop-k.invariant.1 w) c.loop-k-test.false
+returns g c w = stay_finish (g.K.Keeper.keeping c.args.keeper) w (c.loop-i.invariant.1 w) (omega (arith, excludes-count w))

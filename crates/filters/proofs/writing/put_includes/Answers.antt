@@ -1,5 +1,4 @@
 -- The witness's includes are the strings within the bounds; where they are not joined, their numbers are copied.
-use mathlib.Core.Path.{refl}
 use Rattle.filters.proofs.WritingLaws.{join-fits, put-joined, copy_fits, put_plain}
 use Rattle.filters.proofs.writing.put_includes.Goals as goal
 
@@ -9,8 +8,8 @@ put_join-requires c = join-fits c.args.joins c.requires c.if-joins.true
 pub returns-then-joins : goal.returns-then-joins
 returns-then-joins c w = put-joined c.args.joins w c.if-joins.true c.put_join.ensures
 
-pub copy_up-requires : goal.copy_up-requires
-copy_up-requires c = copy_fits c.args.joins c.requires c.if-joins.false refl
+pub copy_within-requires-clause-dest_in_bounds : goal.copy_within-requires-clause-dest_in_bounds
+copy_within-requires-clause-dest_in_bounds c = copy_fits c.args.joins c.requires c.if-joins.false
 
 pub returns : goal.returns
-returns c w = put_plain c.args.joins w c.if-joins.false refl c.copy_up.ensures
+returns c w = put_plain c.args.joins w c.if-joins.false c.copy_within.ensures.after

@@ -1,10 +1,9 @@
--- Less than a string gives none, and strings give the two numbers of one.
-use Rattle.filters.proofs.WritingLaws.{put_no_join, put-one-join}
+-- Strings give the two numbers of one, and no string gives none.
+use Rattle.filters.proofs.WritingLaws.{join-room, put_no_join}
 use Rattle.filters.proofs.writing.put_join.Goals as goal
 
-pub returns-then-e-a-lt2 : goal.returns-then-e-a-lt2
-returns-then-e-a-lt2 c = put_no_join c.args.mem.now c.requires c.if-e-a-lt2.true
+pub put_string-requires : goal.put_string-requires
+put_string-requires c = join-room c.args.mem.now c.args.bounds c.args.q c.requires (rw c.includes.ensures at c.in-Some.ensures)
 
-pub returns : goal.returns
-returns c =
-    put-one-join c.args.mem.now c.requires c.if-e-a-lt2.false c.join_span-span.ensures c.join_tag-tag.ensures c.put_string.ensures
+pub returns-in-None : goal.returns-in-None
+returns-in-None c = put_no_join c.args.mem.now _ c.args.q (rw c.includes.ensures at c.in-None.ensures)
