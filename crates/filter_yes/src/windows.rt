@@ -1,88 +1,73 @@
-// The windows around a match: whether there is one, and one that no exclude is inside. A window is named by its last position, W + N − 1, as in the
-// definition. An exclude is inside those from its end up to its start + N − 1, so windows are gone through exclude by exclude, never W by W.
-ghost use Rattle.std.specs.Prelude.{false, not, ◌≡◌, ◌+◌, ◌-◌, ◌<◌};
-ghost use Rattle.model.specs.AllStrings.{AllStrs};
+// The windows around a match: whether there is one that no exclude is inside. A window is named by its last position, W + N − 1, as in the definition. An
+// exclude is inside those from its end up to its start + N − 1, so windows are gone through exclude by exclude, never W by W.
+ghost use Rattle.std.specs.Prelude.{not, ◌≡◌, ◌+◌, ◌-◌, ◌<◌};
 ghost use Rattle.model.specs.Limits.{radix};
-ghost use Rattle.model.specs.Lists.{all_of, from_to, is_empty};
-ghost use Rattle.model.specs.Matches.{is_yes};
-ghost use Rattle.model.specs.Rules.{covered, window, window_ends};
+ghost use Rattle.model.specs.Lists.{all_of, from_to};
+ghost use Rattle.model.specs.Rules.{covered, window};
+ghost use Rattle.strings.specs.declared.covering.Chosen.TheVariants.{All};
 ghost use Rattle.strings.specs.Covering.{advanced, passed};
-ghost use Rattle.strings.specs.Strings.{str_of, strs_at};
-ghost use Rattle.store.specs.ValidStr.{ValidStr};
+ghost use Rattle.strings.specs.Strings.{str_packed, strs_at};
 ghost use Rattle.window.specs.Inside.{WindowSize};
-ghost use Rattle.filter_yes.specs.Gives.{match_at};
 ghost use Rattle.filter_yes.specs.Windows.{lasts_around, taken};
 
+use super::Asked;
 use join::extent_of;
 use model::Position;
-use strings::start_of;
+use strings::{Packed, Run, strings_in};
 use window::is_inside;
 
-// "each W from (greatest end − N + 1) up to least start": is there one? "A match without includes is dropped."
-pub fn has_window(n: u32, includes: &[u32]) -> bool
-    requires window_size { WindowSize n }
-    requires all_strs { AllStrs ValidStr (strs_at includes.now) }
-    ensures { result ≡ not (is_empty (window_ends n (strs_at includes.now))) }
-{
-    if includes.len() < 2 {
-        return false;
-    }
-    let extent = extent_of(includes);
-    extent.end.0 < extent.start.0 + n
+// The windows of n positions.
+#[derive(Clone, Copy)]
+pub struct Windows {
+    pub n: u32,
+    ghost size: { WindowSize n },
 }
 
-// A window's last position, moved to the first after the windows that a string of this span is inside, if it is inside this one.
-fn passed(n: u32, last: Position, span: u32) -> Position
-    requires { WindowSize n }
-    ensures { result.0 ≡ passed false last.0 (lasts_around n (str_of span 0)) }
-{
-    if !is_inside(n, last, span) {
-        return last;
-    }
-    Position(start_of(span).0 + n)
-}
-
-// A window's last position, moved past the windows of each exclude in turn that is inside.
-fn advance(n: u32, last: Position, excludes: &[u32]) -> Position
-    requires { WindowSize n }
-    ensures { result.0 ≡ advanced last.0 (taken n (strs_at excludes.now)) }
-{
-    let mut at = last;
-    let mut i = 0;
-    while i + 1 < excludes.len() {
-        at = passed(n, at, excludes[i]);
-        i += 2;
-    }
-    at
-}
-
-// Is there a window around a join from `start` to `end` that no exclude is inside?
-fn any_free_around(n: u32, start: Position, end: Position, excludes: &[u32]) -> bool
-    requires window_size { WindowSize n }
-    requires start_lt_radix { start.0 < radix }
-    ensures { result ≡ not (all_of (covered (taken n (strs_at excludes.now))) (from_to end.0 (start.0 + n - 1))) }
-{
-    let before = start.0 + n;
-    let mut last = end;
-    while last.0 < before {
-        let next = advance(n, last, excludes);
-        if next.0 == last.0 {
-            return true;
+impl Windows {
+    // A window's last position, moved to the first after the windows that a string is inside, if it is inside this one.
+    fn passed(self, last: Position, s: Packed) -> Position
+        ensures { result.0 ≡ passed All last.0 (lasts_around self.n (str_packed s)) }
+    {
+        if is_inside(self.n, last, s.span) {
+            Position(s.start().0 + self.n)
+        } else {
+            last
         }
-        last = next;
     }
-    false
+
+    // A window's last position, moved past the windows of each exclude in turn that is inside.
+    fn advance(self, last: Position, excludes: &[u32]) -> Position
+        ensures { result.0 ≡ advanced last.0 (taken self.n (strs_at excludes.now)) }
+    {
+        strings_in(excludes).fold(last, |at, s| self.passed(at, s))
+    }
+
+    // Is there a window around a join of these positions that no exclude is inside?
+    fn any_free_around(self, run: Run, excludes: &[u32]) -> bool
+        requires { run.lo.0 < radix }
+        ensures { result ≡ not (all_of (covered (taken self.n (strs_at excludes.now))) (from_to run.hi.0 (run.lo.0 + self.n - 1))) }
+    {
+        let before = Position(run.lo.0 + self.n);
+        let mut last = run.hi;
+        while last < before {
+            let next = self.advance(last, excludes);
+            if next == last {
+                return true;
+            }
+            last = next;
+        }
+        false
+    }
 }
 
-// "one match: the join, and the excludes inside": is there a window without one?
-pub fn has_free_window(n: u32, includes: &[u32], excludes: &[u32]) -> bool
-    requires window_size { WindowSize n }
-    requires all_strs { AllStrs ValidStr (strs_at includes.now) }
-    ensures { result ≡ is_yes (window n (match_at includes.now excludes.now)) }
-{
-    if includes.len() < 2 {
-        return false;
+impl Asked for Windows {
+    ghost gives = { λ w. window w.n };
+
+    // "one match: the join, and the excludes inside": is there a window without one? "A match without includes is dropped."
+    fn gives_yes(self, includes: &[u32], excludes: &[u32]) -> bool {
+        match extent_of(includes) {
+            Some(run) => self.any_free_around(run, excludes),
+            None => false,
+        }
     }
-    let extent = extent_of(includes);
-    any_free_around(n, extent.start, extent.end, excludes)
 }
