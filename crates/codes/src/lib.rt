@@ -2,48 +2,74 @@
 
 #![tactic(auto)]
 
-pub mod kind; // the kinds by name, and their numbers
 pub mod places; // the first place that fails
 pub mod table; // kinds and operands against the table: refusals 4 and 5
 
 ghost use Rattle.std.specs.Prelude.{◌≡◌};
 ghost use Rattle.model.specs.Kinds.{a_pair, arity, is_word, shape_of};
 ghost use Rattle.model.specs.Parts.{is_mild_not, is_not_code, is_occurs_code, is_phrase_code, parts_ended, phrases_ended};
-ghost use Rattle.model.specs.Selection.{code_at, code_of};
-ghost use Rattle.codes.specs.Kinds.{kind_number};
+ghost use Rattle.model.specs.Selection.{code_at, code_of, combination_of, filter_of, times_of};
 
-use kind::Kind;
 use model::{Code, Filter, Pair, RADIX, Times};
 
-// "Kinds 0 and 1 are words, 2 to 5 combine, 6 to 15 filter"; F-3: 16 and 17 are occurs
-fn code_of(kind: Kind, operand: u32) -> Code
-    ensures { result ≡ code_of (kind_number kind) operand }
+// "2 to 5 combine"
+fn combination_of(kind: u32) -> Code
+    ensures { result ≡ combination_of kind }
 {
     match kind {
-        Kind::Word => Code::Word(operand),
-        Kind::Phrase => Code::Phrase(operand),
-        Kind::Or => Code::Combine(Pair::Or),
-        Kind::And => Code::Combine(Pair::And),
-        Kind::Not => Code::Not,
-        Kind::MildNot => Code::Combine(Pair::MildNot),
-        Kind::Ordered => Code::Filter(Filter::Ordered),
-        Kind::Window => Code::Filter(Filter::Window(operand)),
-        Kind::Distance => Code::Filter(Filter::Distance {
+        2 => Code::Combine(Pair::Or),
+        3 => Code::Combine(Pair::And),
+        4 => Code::Not,
+        _ => Code::Combine(Pair::MildNot),
+    }
+}
+
+// "6 to 15 filter"
+fn filter_of(kind: u32, operand: u32) -> Filter
+    ensures { result ≡ filter_of kind operand }
+{
+    match kind {
+        6 => Filter::Ordered,
+        7 => Filter::Window(operand),
+        8 => Filter::Distance {
             least: operand / RADIX,
             most: operand % RADIX,
-        }),
-        Kind::SameSentence => Code::Filter(Filter::SameSentence),
-        Kind::SameParagraph => Code::Filter(Filter::SameParagraph),
-        Kind::DifferentSentence => Code::Filter(Filter::DifferentSentence),
-        Kind::DifferentParagraph => Code::Filter(Filter::DifferentParagraph),
-        Kind::AtStart => Code::Filter(Filter::AtStart),
-        Kind::AtEnd => Code::Filter(Filter::AtEnd),
-        Kind::EntireContent => Code::Filter(Filter::EntireContent),
-        Kind::OccursFromTo => Code::Occurs(Times::FromTo {
+        },
+        9 => Filter::SameSentence,
+        10 => Filter::SameParagraph,
+        11 => Filter::DifferentSentence,
+        12 => Filter::DifferentParagraph,
+        13 => Filter::AtStart,
+        14 => Filter::AtEnd,
+        _ => Filter::EntireContent,
+    }
+}
+
+// F-3: "kind 16, occurs from a to b (operand as kind 8), and kind 17, occurs at least a"
+fn times_of(kind: u32, operand: u32) -> Times
+    ensures { result ≡ times_of kind operand }
+{
+    match kind {
+        16 => Times::FromTo {
             least: operand / RADIX,
             most: operand % RADIX,
-        }),
-        Kind::OccursAtLeast => Code::Occurs(Times::AtLeast(operand)),
+        },
+        _ => Times::AtLeast(operand),
+    }
+}
+
+// "Kinds 0 and 1 are words, 2 to 5 combine, 6 to 15 filter"; F-3: 16 and 17 are occurs, "18 and up are unknown"
+fn code_of(kind: u32, operand: u32) -> Code
+    ensures { result ≡ code_of kind operand }
+{
+    match kind {
+        0 => Code::Word(operand),
+        1 => Code::Phrase(operand),
+        2..=5 => combination_of(kind),
+        6..=15 => Code::Filter(filter_of(kind, operand)),
+        16..=17 => Code::Occurs(times_of(kind, operand)),
+        // refused before its code is asked for: an entire content stands for it
+        _ => Code::Filter(Filter::EntireContent),
     }
 }
 
@@ -51,12 +77,9 @@ fn code_of(kind: Kind, operand: u32) -> Code
 pub fn code_at(selection: &[u32], place: u32) -> Code
     ensures { result ≡ code_at selection.now place }
 {
-    let number = slices::number_at(selection, place as usize);
-    // an unknown kind is refused before its code is asked for: an entire content stands for it
-    let Ok(kind) = Kind::try_from(number) else {
-        return Code::Filter(Filter::EntireContent);
-    };
-    code_of(kind, slices::second_at(selection, place))
+    let kind = slices::number_at(selection, place as usize);
+    let operand = slices::second_at(selection, place);
+    code_of(kind, operand)
 }
 
 pub fn is_word(code: Code) -> bool

@@ -1,12 +1,19 @@
 // Kinds and operands against document 01's table, and F-3's two rows.
 ghost use Rattle.std.specs.Prelude.{◌&&◌, ◌≡◌, leb};
-ghost use Rattle.model.specs.Checks.{operand_fits, range_fits, unknown_kind, wrong_operand};
-ghost use Rattle.model.specs.Selection.{kind_at, operand_at};
-ghost use Rattle.codes.specs.Kinds.{kind_number};
+ghost use Rattle.model.specs.Checks.{filter_operand_fits, operand_fits, range_fits, times_operand_fits, unknown_kind, wrong_operand};
 
-use super::kind::Kind;
 use super::places::first_failing;
 use model::{MAX_DISTANCE, MAX_TIMES, MAX_WAITING, MAX_WINDOW, RADIX};
+
+// F-3: "18 and up are unknown"
+fn is_unknown(kind: u32) -> bool
+    ensures { result ≡ leb 18 kind }
+{
+    match kind {
+        0..=1 | 2..=5 | 6..=15 | 16..=17 => false,
+        _ => true,
+    }
+}
 
 fn is_within(least: u32, number: u32, most: u32) -> bool
     ensures { result ≡ (leb least number && leb number most) }
@@ -21,31 +28,43 @@ fn range_fits(operand: u32) -> bool
     is_within(operand / RADIX, operand % RADIX, MAX_DISTANCE)
 }
 
-// "operand outside the table", told by the kind
-#[tactic(auto, unfolding(model::specs::Checks::operand_fits, model::specs::Checks::filter_operand_fits, model::specs::Checks::times_operand_fits))]
-fn operand_fits(kind: Kind, operand: u32) -> bool
-    ensures { result ≡ operand_fits (kind_number kind) operand }
+// The operands of the filters.
+#[tactic(auto, unfolding(model::specs::Checks::filter_operand_fits))]
+fn filter_operand_fits(kind: u32, operand: u32) -> bool
+    ensures { result ≡ filter_operand_fits kind operand }
 {
     match kind {
-        Kind::Word => true,
-        Kind::Phrase => is_within(1, operand, MAX_WAITING),
-        Kind::Window => is_within(1, operand, MAX_WINDOW),
-        Kind::Distance | Kind::OccursFromTo => range_fits(operand),
-        Kind::OccursAtLeast => operand <= MAX_TIMES,
+        7 => is_within(1, operand, MAX_WINDOW),
+        8 => range_fits(operand),
         _ => operand == 0,
     }
 }
 
-// Does the operand at a place fit its kind? An unknown kind has no row in the table, and is refused before its operand is asked for.
-#[tactic(auto, unfolding(model::specs::Checks::operand_fits))]
-fn fits_at(selection: &[u32], place: u32) -> bool
-    ensures { result ≡ operand_fits (kind_at selection.now place) (operand_at selection.now place) }
+// The operands of the two occurs.
+#[tactic(auto, unfolding(model::specs::Checks::times_operand_fits))]
+fn times_operand_fits(kind: u32, operand: u32) -> bool
+    ensures { result ≡ times_operand_fits kind operand }
 {
-    let number = slices::number_at(selection, place as usize);
-    let Ok(kind) = Kind::try_from(number) else {
-        return true;
-    };
-    operand_fits(kind, slices::second_at(selection, place))
+    match kind {
+        16 => range_fits(operand),
+        _ => operand <= MAX_TIMES,
+    }
+}
+
+// "operand outside the table", told by the kind
+#[tactic(auto, unfolding(model::specs::Checks::operand_fits))]
+fn operand_fits(kind: u32, operand: u32) -> bool
+    ensures { result ≡ operand_fits kind operand }
+{
+    match kind {
+        0 => true,
+        1 => is_within(1, operand, MAX_WAITING),
+        2..=5 => operand == 0,
+        6..=15 => filter_operand_fits(kind, operand),
+        16..=17 => times_operand_fits(kind, operand),
+        // unknown, and refused before its operand is asked for
+        _ => true,
+    }
 }
 
 // Refusal 4: the first code whose kind is unknown.
@@ -53,7 +72,7 @@ pub fn unknown_kind(selection: &[u32]) -> Option<u32>
     ensures { result ≡ unknown_kind selection.now }
 {
     first_failing(selection, |place| {
-        Kind::try_from(slices::number_at(selection, place as usize)).is_err()
+        is_unknown(slices::number_at(selection, place as usize))
     })
 }
 
@@ -61,5 +80,8 @@ pub fn unknown_kind(selection: &[u32]) -> Option<u32>
 pub fn wrong_operand(selection: &[u32]) -> Option<u32>
     ensures { result ≡ wrong_operand selection.now }
 {
-    first_failing(selection, |place| !fits_at(selection, place))
+    first_failing(selection, |place| {
+        let kind = slices::number_at(selection, place as usize);
+        !operand_fits(kind, slices::second_at(selection, place))
+    })
 }

@@ -1,7 +1,7 @@
 -- What the calls' answers come to where the checks pass, and what a given listing tells of the checks.
 use Prim.Native.Nat.{ℕ, ◌+◌, ◌*◌, ◌≤◌}
 use native.Mathlib.Omega.{arith}
-use mathlib.Core.Path.{◌≡◌, refl, ap, ap₂, sym, ◌∙◌}
+use mathlib.Core.Path.{◌≡◌, refl, ap₂, ◌∙◌}
 use mathlib.Core.Bool.{Bool, false, ◌&&◌}
 use mathlib.Core.List.{List, [], ◌∷◌, ◌++◌, map, flat_map}
 use Rattle.std.specs.Prelude.{Option, Some, None, option_map}
@@ -11,10 +11,9 @@ use lib.Dec.{leb, ltb}
 use lib.ListN.{length, drop, length-append, length-map}
 use borrow.Author.Tests.{leb-true, le-leb, ltb-false}
 use Rattle.std.specs.Prelude.{Ok, Err}
-use Rattle.model.specs.Answers.{listed_as}
+use Rattle.model.specs.declared.Listing.TheVariants.{Listed, Refused}
 use Rattle.model.specs.Walk.{answered}
 use Rattle.model.specs.Walk.{Quick}
-use Rattle.model.specs.declared.Listed.{Listed}
 use Rattle.model.specs.declared.Refusal.{Refusal}
 use Rattle.model.specs.Answers.{checked_of, complete_list, listing_refusal, answer_unless, listing_answer, spans_in, tags_in, span_of, tag_of, listing_numbers, listing_buffer, walk_unless, quick_answer}
 use Rattle.model.specs.Checks.{refusal, room_refusal, input_refusal, listing_checks, quick_checks}
@@ -54,14 +53,12 @@ pub record ListingPasses (section families selection : List ℕ) (work buffer : 
   pub room : buffer_length ≤ buffer
   pub fits : first_too_long (searched_of section families) (parts (tree_of selection)) ≡ None
 
-answer_unless-listed : (r : Option Refusal) (ms : List Match) (m k : ℕ) (y : Bool) → answer_unless r ms ≡ listed_as m k y
+answer_unless-listed : (r : Option Refusal) (ms : List Match) (m k : ℕ) (y : Bool) → answer_unless r ms ≡ Listed m k y
     → (r ≡ None) × (m ≡ length ms) × (k ≡ strings ms) × (y ≡ is_yes ms)
-answer_unless-listed None ms m k y e =
-    let same : ◌≡◌ {A = Listed} (record { matches = length ms; strings = strings ms; yes = is_yes ms }) (record { matches = m; strings = k; yes = y }) = cc in
-    (refl, sym (ap (λ (l : Listed). l.matches) same), sym (ap (λ (l : Listed). l.strings) same), sym (ap (λ (l : Listed). l.yes) same))
+answer_unless-listed None ms m k y e = (refl, cc, cc, cc)
 answer_unless-listed (Some r) ms m k y e = let z : ◌≡◌ {A = ℕ} 0 1 = cc in absurd (omega arith)
 
-answer_unless-refused : (o : Option Refusal) (ms : List Match) (r : Refusal) → answer_unless o ms ≡ Err r → o ≡ Some r
+answer_unless-refused : (o : Option Refusal) (ms : List Match) (r : Refusal) → answer_unless o ms ≡ Refused r → o ≡ Some r
 answer_unless-refused None ms r e = let z : ◌≡◌ {A = ℕ} 0 1 = cc in absurd (omega arith)
 answer_unless-refused (Some q) ms r e = cc
 
@@ -92,7 +89,7 @@ module _ (section families selection : List ℕ) (work buffer : ℕ) where
       fits_limits (complete_list section families selection) (first_too_long_whole (searched_of section families) (tree_of selection) passed.fits)
 
   -- A given listing tells that nothing refuses, and its three numbers are the complete list's.
-  pub listing_answer-listed : (m k : ℕ) (y : Bool) → listing_answer section families selection work buffer ≡ listed_as m k y
+  pub listing_answer-listed : (m k : ℕ) (y : Bool) → listing_answer section families selection work buffer ≡ Listed m k y
       → (listing_refusal section families selection work buffer ≡ None)
       × (m ≡ length (complete_list section families selection))
       × (k ≡ strings (complete_list section families selection))
@@ -125,7 +122,7 @@ length-listing_numbers ms = simp (length-append, length-map, length-spans, lengt
 
 module _ (section families selection : List ℕ) (work : ℕ) (buffer : List ℕ) where
   -- A call that refuses leaves the buffer unchanged; one that lists puts the complete list's numbers at its front.
-  pub listing_buffer-refused : (r : Refusal) → listing_answer section families selection work (length buffer) ≡ Err r
+  pub listing_buffer-refused : (r : Refusal) → listing_answer section families selection work (length buffer) ≡ Refused r
       → listing_buffer section families selection work buffer ≡ buffer
   unfolding listing_answer listing_buffer
   listing_buffer-refused r e = rw (answer_unless-refused (listing_refusal section families selection work (length buffer)) (complete_list section families selection) r e)

@@ -2,7 +2,8 @@
 use Rattle.std.specs.Prelude.{ℕ, ◌+◌, ◌*◌, ◌-◌, Bool, true, false, ◌&&◌, cond, leb, length, take, drop}
 use mathlib.Core.List.{List, [], ◌∷◌, ◌++◌, map, flat_map}
 use Rattle.std.specs.Prelude.{Option, Some, None, option_map, Result, Ok, Err}
-use Rattle.model.specs.declared.Listed.{Listed}
+use Rattle.model.specs.declared.Listing.{Listing}
+use Rattle.model.specs.declared.Listing.TheVariants.{Listed, Refused}
 use Rattle.model.specs.declared.Reason.TheVariants.{LongList}
 use Rattle.model.specs.declared.Refusal.{Refusal}
 use Rattle.model.specs.AllMatches.{all_matches}
@@ -30,17 +31,11 @@ listing_refusal section families selection work buffer =
     otherwise (listing_checks section families selection work buffer) nine
 
 -- "It answers M, S and yes or no, or a refusal with its place."
-abbrev pub Listing : Type 0
-Listing = Result Listed Refusal
-
-abbrev pub listed_as : ℕ → ℕ → Bool → Listing
-listed_as matches strs answer = Ok (record { matches = matches; strings = strs; yes = answer })
-
 abbrev pub listed : List Match → Listing
-listed ms = listed_as (length ms) (strings ms) (is_yes ms)
+listed ms = Listed (length ms) (strings ms) (is_yes ms)
 
 abbrev pub answer_unless : Option Refusal → List Match → Listing
-answer_unless (Some r) ms = Err r
+answer_unless (Some r) ms = Refused r
 answer_unless None ms = listed ms
 
 unfoldable pub listing_answer : List ℕ → List ℕ → List ℕ → ℕ → ℕ → Listing
@@ -108,8 +103,8 @@ stands_at start index = (start.0, index * 4 + start.1)
 
 -- What each case of a call's answer says, in document 01's numbers: a refusal's number and place; for what is given 0, and its values.
 abbrev pub listing_values : Listing → List ℕ
-listing_values (Ok l) = 0 ∷ l.matches ∷ l.strings ∷ cond l.yes 1 0 ∷ []
-listing_values (Err r) = refusal_values r
+listing_values (Listed matches strs answer) = 0 ∷ matches ∷ strs ∷ cond answer 1 0 ∷ []
+listing_values (Refused r) = refusal_values r
 
 abbrev pub quick_values : Quick → List ℕ
 quick_values (Ok a) = 0 ∷ cond a.yes 1 0 ∷ a.codes ∷ []

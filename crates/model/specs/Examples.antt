@@ -5,9 +5,11 @@ use Rattle.std.specs.Bool.{beq}
 use Rattle.std.proofs.Math.Bool.{xor}
 use mathlib.Core.List.{List, [], ◌∷◌, ◌++◌, map, flat_map}
 use Rattle.std.specs.Prelude.{Ok, Err}
+use Rattle.model.specs.declared.Listing.{Listing}
+use Rattle.model.specs.declared.Listing.TheVariants.{Listed, Refused}
 use Rattle.model.specs.declared.Refusal.{Refusal}
 use Rattle.model.specs.AllMatches.{filter_list, all_matches}
-use Rattle.model.specs.Answers.{Listing, complete_list, listing_refusal, listing_answer, listing_numbers, listing_buffer, quick_answer}
+use Rattle.model.specs.Answers.{complete_list, listing_refusal, listing_answer, listing_numbers, listing_buffer, quick_answer}
 use Rattle.model.specs.Checks.{number_of, tried, wrong_section, last_nonzero, faulty_at, faulty_position, wrong_families, entry_out_of_order, wrong_selection, unknown_kind, filter_operand_fits, times_operand_fits, operand_fits, wrong_operand, wrong_shape, not_over_phrase, not_under_mild_not, section_refusal, families_refusal, selection_refusal, input_refusal, listing_checks, quick_checks}
 use Rattle.model.specs.Limits.{work_length, buffer_length, radix}
 use Rattle.model.specs.Lists.{all_of, any_of, is_empty, keep, first, all_pairs, neighbours, insert_sorted, sort, choose, up_from, from_to}
@@ -57,16 +59,16 @@ same_match : Match → Match → Bool
 same_match l m = each_same same_str l.includes m.includes && each_same same_str l.excludes m.excludes
 
 counts_matches : Listing → ℕ → Bool
-counts_matches (Ok l) m = eqb l.matches m
-counts_matches (Err r) m = false
+counts_matches (Listed m s y) m' = eqb m m'
+counts_matches (Refused r) m' = false
 
 counts_strings : Listing → ℕ → Bool
-counts_strings (Ok l) s = eqb l.strings s
-counts_strings (Err r) s = false
+counts_strings (Listed m s y) s' = eqb s s'
+counts_strings (Refused r) s' = false
 
 listing_says : Listing → Bool → Bool
-listing_says (Ok l) b = beq l.yes b
-listing_says (Err r) b = false
+listing_says (Listed m s y) b = beq y b
+listing_says (Refused r) b = false
 
 quick_says : Quick → Bool → Bool
 quick_says (Ok a) b = beq a.yes b
@@ -80,8 +82,8 @@ same_refusal : Refusal → ℕ → ℕ → Bool
 same_refusal r number place = eqb (number_of r.reason) number && eqb r.place place
 
 listing_refuses : Listing → ℕ → ℕ → Bool
-listing_refuses (Ok l) number place = false
-listing_refuses (Err r) number place = same_refusal r number place
+listing_refuses (Listed m s y) number place = false
+listing_refuses (Refused r) number place = same_refusal r number place
 
 quick_refuses : Quick → ℕ → ℕ → Bool
 quick_refuses (Ok a) number place = false

@@ -3,9 +3,11 @@
 use Rattle.std.specs.Prelude.{ℕ, cond, List, [], ◌∷◌, ◌++◌, map, leb, length}
 use Rattle.std.specs.Prelude.{Option, Some, None, Result, Ok, Err}
 use Rattle.model.specs.declared.Code.{Code}
+use Rattle.model.specs.declared.Listing.{Listing}
+use Rattle.model.specs.declared.Listing.TheVariants.{Refused}
 use Rattle.model.specs.declared.Reason.TheVariants.{WrongSelection}
 use Rattle.model.specs.declared.Refusal.{Refusal}
-use Rattle.model.specs.Answers.{Listing, buffer_unless, listing_answer, listing_buffer, quick_answer}
+use Rattle.model.specs.Answers.{buffer_unless, listing_answer, listing_buffer, quick_answer}
 use Rattle.model.specs.Checks.{refusal, refusal_values, otherwise, room_refusal}
 use Rattle.model.specs.Limits.{max_codes, selection_length}
 use Rattle.model.specs.Selection.{kind_of, operand_of}
@@ -19,7 +21,7 @@ selection_of cs = length cs ∷ (map kind_of cs ++ map operand_of cs)
 -- The full listing of a typed search.
 abbrev pub typed_listing : List ℕ → List ℕ → TextAnswer → ℕ → ℕ → Listing
 typed_listing section families (codes cs) work buffer = listing_answer section families (selection_of cs) work buffer
-typed_listing section families (error r) work buffer = Err r
+typed_listing section families (error r) work buffer = Refused r
 
 abbrev pub typed_buffer : List ℕ → List ℕ → TextAnswer → ℕ → List ℕ → List ℕ
 typed_buffer section families (codes cs) work buffer = listing_buffer section families (selection_of cs) work buffer

@@ -176,15 +176,16 @@ impl Reason {
     }
 }
 
-// What the full listing answers.
+// What the full listing answers: "M, S and yes or no, or a refusal with its place". An enum of its own, the form that document 01 names.
 #[derive(Clone, Copy, PartialEq, Eq)]
-pub struct Listed {
-    pub matches: u32,
-    pub strings: u32,
-    pub yes: bool,
+pub enum Listing {
+    Listed {
+        matches: u32,
+        strings: u32,
+        yes: bool,
+    },
+    Refused(Refusal),
 }
-
-pub type Listing = Result<Listed, Refusal>;
 
 // What the quick answer is, with how many codes of kind 1 to 17 were walked or built.
 #[derive(Clone, Copy, PartialEq, Eq)]

@@ -8,10 +8,9 @@ use lib.ListN.{length, length-append}
 use lib.Seq.{sets}
 use Rattle.model.specs.Bytes.{bytes}
 use Rattle.model.specs.Matches.{Match}
-use Rattle.model.specs.Answers.{Listing}
-use Rattle.std.specs.Prelude.{Ok, Err}
+use Rattle.model.specs.declared.Listing.{Listing}
+use Rattle.model.specs.declared.Listing.TheVariants.{Listed, Refused}
 use Rattle.model.specs.Checks.{number_of}
-use Rattle.model.specs.declared.Listed.{Listed}
 use Rattle.model.specs.declared.Refusal.{Refusal}
 use Rattle.model.proofs.AnswersLaws.{length-listing_numbers}
 use Rattle.store.specs.Put.{Put}
@@ -59,7 +58,8 @@ put-within v h = omega (arith, v.next_is, length-put v)
 -- ---- an answer
 
 -- the listing that is the answer
-pub listing_in : {answer : Listing} {buffer : List ℕ} {l : Listed} → answer ≡ Ok l → (w : Printable answer buffer) → ListingIn l.matches l.strings w.list buffer
+pub listing_in : {answer : Listing} {buffer : List ℕ} {matches strs : ℕ} {said : Bool} → answer ≡ Listed matches strs said → (w : Printable answer buffer)
+    → ListingIn matches strs w.list buffer
 listing_in {buffer = buffer} e w = subst (λ a. PrintableAs a w.list buffer) e w.held
 
 -- what is put is the answer's text
@@ -70,12 +70,12 @@ pub record PutText (a b : List ℕ) (text : List ℕ) (r : ℕ) : Type 0 where
 put-text : {a b : List ℕ} {r : ℕ} {text : List ℕ} (xs : List ℕ) → text ≡ xs → Put a b 0 xs r → PutText a b text r
 put-text {a} xs e v = record { wrote = v.wrote ∙ ap (sets a 0) (sym e); length-is = omega (arith, v.next_is, ap length e) }
 
-pub text-refused : {answer : Listing} {a b : List ℕ} {n : ℕ} (r : Refusal) → answer ≡ Err r
+pub text-refused : {answer : Listing} {a b : List ℕ} {n : ℕ} (r : Refusal) → answer ≡ Refused r
     → Put a b 0 (head_text (bytes "refused ") (number_of r.reason) r.place) n → (ms : List Match) → PutText a b (listing_text answer ms) n
 unfolding listing_text
 text-refused r e v ms = put-text _ (ap (λ x. listing_text x ms) e) v
 
-pub text-listed : {answer : Listing} {buffer a b : List ℕ} {r : ℕ} {l : Listed} → answer ≡ Ok l
-    → Put a b 0 (listed_text l.yes l.matches l.strings buffer) r → (w : Printable answer buffer) → PutText a b (listing_text answer w.list) r
+pub text-listed : {answer : Listing} {buffer a b : List ℕ} {r matches strs : ℕ} {said : Bool} → answer ≡ Listed matches strs said
+    → Put a b 0 (listed_text said matches strs buffer) r → (w : Printable answer buffer) → PutText a b (listing_text answer w.list) r
 unfolding listing_text
-text-listed {l = l} e v w = put-text _ (ap (λ x. listing_text x w.list) e ∙ sym (listing_decoded (listing_in e w) l.yes)) v
+text-listed {said = said} e v w = put-text _ (ap (λ x. listing_text x w.list) e ∙ sym (listing_decoded (listing_in e w) said)) v

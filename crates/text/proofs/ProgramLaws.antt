@@ -15,8 +15,8 @@ use Rattle.model.specs.Checks.{refusal}
 use Rattle.model.specs.Matches.{Match, strings}
 use Rattle.model.specs.Families.{searched_of}
 use Rattle.model.specs.Trees.{tree_of}
-use Rattle.model.specs.Answers.{Listing}
-use Rattle.std.specs.Prelude.{Err}
+use Rattle.model.specs.declared.Listing.{Listing}
+use Rattle.model.specs.declared.Listing.TheVariants.{Refused}
 use Rattle.model.specs.declared.Refusal.{Refusal}
 use Rattle.model.proofs.AnswersLaws.{listing_refusal-none, complete_fits}
 use Rattle.model.proofs.ChecksLaws.{accepted-section, accepted-selection, input_none}
@@ -28,11 +28,11 @@ use Rattle.text.specs.Printed.{listing_text}
 -- ---- program_text
 
 module _ (input : List ℕ) where
-  pub program_long : max_input < length input → program_text input ≡ listing_text (Err (refusal WrongSection 0)) []
+  pub program_long : max_input < length input → program_text input ≡ listing_text (Refused (refusal WrongSection 0)) []
   unfolding program_text
   program_long h = rw (lt-ltb max_input (length input) h)
 
-  pub program_uneven : (length input % 4 ≡ 0 → ⊥) → program_text input ≡ listing_text (Err (refusal WrongSection 0)) []
+  pub program_uneven : (length input % 4 ≡ 0 → ⊥) → program_text input ≡ listing_text (Refused (refusal WrongSection 0)) []
   unfolding program_text
   program_uneven h = rw (ne_eqb (length input % 4) 0 h, or-true)
 

@@ -19,7 +19,7 @@ use Rattle.model.specs.Selection.{up_to}
 use Rattle.model.specs.Trees.{place_of, combine, change_last, read, read_all, top_tree, tree_of, parts}
 use Rattle.model.specs.Waiting.{first_misfit_from}
 use Rattle.model.specs.Walk.{first_too_long}
-use Rattle.std.specs.Prelude.{Err}
+use Rattle.model.specs.declared.Listing.TheVariants.{Refused}
 use Rattle.text.specs.Printed.{digits, decimal, span_text, query_text, string_text, line_of, match_text, head_text, answer_text, listing_text}
 use Rattle.text.specs.Input.{numbers_of, program_text}
 
@@ -73,7 +73,7 @@ entries =
     ∷ record { printed = program_text (6 ∷ 0 ∷ 0 ∷ 0 ∷ 10 ∷ []); says = "refused 1 0\n" }
     ∷ record { printed = program_text []; says = "refused 1 0\n" }
     -- "any refusal prints `refused`, number, place"
-    ∷ record { printed = listing_text (Err (refusal LongList 64)) []; says = "refused 9 64\n" }
+    ∷ record { printed = listing_text (Refused (refusal LongList 64)) []; says = "refused 9 64\n" }
     -- an empty list
     ∷ record { printed = printed []; says = "no 0 0\n" }
     -- "`.` for a match with none"

@@ -7,7 +7,7 @@ use Rattle.model.specs.Checks.{refusal}
 use Rattle.model.specs.Families.{empty_table}
 use Rattle.model.specs.Limits.{work_length, buffer_length}
 use Rattle.model.specs.Section.{size}
-use Rattle.std.specs.Prelude.{Err}
+use Rattle.model.specs.declared.Listing.TheVariants.{Refused}
 use Rattle.text.specs.Printed.{listing_text}
 
 -- "Over 65,536 bytes"
@@ -53,4 +53,4 @@ listing_of section selection = listing_text (listing_answer section empty_table 
 unfoldable pub program_text : List ℕ → List ℕ
 program_text input =
     let numbers = numbers_of input in
-    cond (unreadable input) (listing_text (Err (refusal WrongSection 0)) []) (listing_of (section_part numbers) (selection_part numbers))
+    cond (unreadable input) (listing_text (Refused (refusal WrongSection 0)) []) (listing_of (section_part numbers) (selection_part numbers))

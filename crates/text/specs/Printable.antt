@@ -4,8 +4,8 @@ use Rattle.model.specs.AllStrings.{AllList}
 use Rattle.model.specs.Answers.{listing_numbers}
 use Rattle.model.specs.Limits.{max_matches, max_strings}
 use Rattle.model.specs.Matches.{Match, strings}
-use Rattle.model.specs.Answers.{Listing}
-use Rattle.std.specs.Prelude.{Ok, Err}
+use Rattle.model.specs.declared.Listing.{Listing}
+use Rattle.model.specs.declared.Listing.TheVariants.{Listed, Refused}
 use Rattle.store.specs.ValidStr.{ValidStr}
 use Rattle.store.specs.Layout.{Holds}
 
@@ -23,8 +23,8 @@ pub record ListingIn (matches strs : ℕ) (ms : List Match) (buffer : List ℕ) 
   pub valid : AllList ValidStr ms
 
 abbrev pub PrintableAs : Listing → List Match → List ℕ → Type 0
-PrintableAs (Ok l) ms buffer = ListingIn l.matches l.strings ms buffer
-PrintableAs (Err r) ms buffer = Unit {0}
+PrintableAs (Listed matches strs yes') ms buffer = ListingIn matches strs ms buffer
+PrintableAs (Refused r) ms buffer = Unit {0}
 
 -- the list too: the text is that of its matches
 pub record Printable (answer : Listing) (buffer : List ℕ) : Type 0 where

@@ -6,8 +6,8 @@ use mathlib.Core.List.{List, [], ◌∷◌, ◌++◌, map, flat_map}
 use Rattle.model.specs.Checks.{number_of}
 use Rattle.model.specs.Bytes.{bytes}
 use Rattle.model.specs.Matches.{Str, Match}
-use Rattle.model.specs.Answers.{Listing}
-use Rattle.std.specs.Prelude.{Ok, Err}
+use Rattle.model.specs.declared.Listing.{Listing}
+use Rattle.model.specs.declared.Listing.TheVariants.{Listed, Refused}
 
 -- "Written numbers are base ten"
 abbrev pub digit : ℕ → ℕ
@@ -64,5 +64,5 @@ unfoldable pub answer_text : Bool → ℕ → ℕ → List ℕ
 answer_text yes' matches strs = head_text (cond yes' (bytes "yes ") (bytes "no ")) matches strs
 
 unfoldable pub listing_text : Listing → List Match → List ℕ
-listing_text (Ok l) ms = answer_text l.yes l.matches l.strings ++ flat_map match_text ms
-listing_text (Err r) ms = head_text (bytes "refused ") (number_of r.reason) r.place
+listing_text (Listed matches strs yes') ms = answer_text yes' matches strs ++ flat_map match_text ms
+listing_text (Refused r) ms = head_text (bytes "refused ") (number_of r.reason) r.place

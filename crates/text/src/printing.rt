@@ -8,30 +8,30 @@ ghost use Rattle.text.specs.Printed.{answer_text, listing_text};
 
 use super::lines::put_lines;
 use super::words::put_head;
-use model::{Listed, Listing};
+use model::Listing;
 
 // The first line of a listing.
-fn put_answer(listed: Listed, text: &mut [u8]) -> usize
+fn put_answer(said: bool, matches: u32, strings: u32, text: &mut [u8]) -> usize
     requires { text_length ≤ length text.old }
-    ensures { Put text.old text.new 0 (answer_text listed.yes listed.matches listed.strings) result }
+    ensures { Put text.old text.new 0 (answer_text said matches strings) result }
 {
-    if listed.yes {
-        return put_head(b"yes ", listed.matches, listed.strings, text, 0);
+    if said {
+        return put_head(b"yes ", matches, strings, text, 0);
     }
-    put_head(b"no ", listed.matches, listed.strings, text, 0)
+    put_head(b"no ", matches, strings, text, 0)
 }
 
 // A listing: its first line, and a line for each match.
-fn put_listed(listed: Listed, buffer: &[u32], text: &mut [u8]) -> usize
+fn put_listed(said: bool, matches: u32, strings: u32, buffer: &[u32], text: &mut [u8]) -> usize
     requires text_length_in_bounds { text_length ≤ length text.old }
-    requires lines_at { LinesAt buffer.now 2 (2 + listed.matches) (2 + listed.matches + listed.strings) listed.matches }
-    requires buffer_in_bounds { length (listed_text listed.yes listed.matches listed.strings buffer.now) ≤ length text.old }
-    ensures { Put text.old text.new 0 (listed_text listed.yes listed.matches listed.strings buffer.now) result }
+    requires lines_at { LinesAt buffer.now 2 (2 + matches) (2 + matches + strings) matches }
+    requires buffer_in_bounds { length (listed_text said matches strings buffer.now) ≤ length text.old }
+    ensures { Put text.old text.new 0 (listed_text said matches strings buffer.now) result }
 {
-    let first = put_answer(listed, text);
-    let n = listed.matches as usize;
+    let first = put_answer(said, matches, strings, text);
+    let n = matches as usize;
     let spans = 2 + n;
-    let tags = spans + listed.strings as usize;
+    let tags = spans + strings as usize;
     put_lines(buffer, 2, spans, tags, n, text, first)
 }
 
@@ -44,10 +44,14 @@ pub fn put_listing_text(answer: Listing, buffer: &[u32], text: &mut [u8]) -> usi
     ensures upper_bound { result ≤ length text.new }
 {
     match answer {
-        Ok(listed) => put_listed(listed, buffer, text),
-        Err(refusal) => {
+        Listing::Refused(refusal) => {
             let number = u32::from(refusal.reason);
             put_head(b"refused ", number, refusal.place, text, 0)
         }
+        Listing::Listed {
+            matches,
+            strings,
+            yes,
+        } => put_listed(yes, matches, strings, buffer, text),
     }
 }

@@ -12,7 +12,7 @@ use Rattle.model.proofs.OptionLaws.{some-ne-none}
 use mathlib.Core.Path.{◌≡◌, refl, sym, ap, ◌∙◌}
 use lib.ListN.{length}
 use Rattle.std.specs.Prelude.{Err}
-use Rattle.model.specs.Answers.{listed_as}
+use Rattle.model.specs.declared.Listing.TheVariants.{Listed}
 use Rattle.model.specs.Walk.{answered}
 use Rattle.model.specs.declared.Refusal.{Refusal}
 use Rattle.model.specs.Accepted.{Passes}
@@ -94,7 +94,7 @@ module _ (section families selection : List ℕ) (work : ℕ) where
       let own = parts_own selection (accepted-selection selection passed.2).spelt in
       rw ((counts y codes e).1, ← own) (length-walk_reaches (searched_of section families) (tree_of selection))
 
-  agrees : Enough work → (lent buffer m s : ℕ) (y : Bool) → listing_answer section families selection lent buffer ≡ listed_as m s y → QuickSays (quick_answer section families selection work) y
+  agrees : Enough work → (lent buffer m s : ℕ) (y : Bool) → listing_answer section families selection lent buffer ≡ Listed m s y → QuickSays (quick_answer section families selection work) y
   agrees enough lent buffer m s y e =
       let given = listing_answer-listed section families selection lent buffer m s y e in
       let passed = listing_refusal-none section families selection lent buffer given.0 in

@@ -10,9 +10,9 @@ use Rattle.std.specs.Prelude.{ℕ, ◌≤◌, ◌<◌, Bool, true, false, ◌&&�
 use Rattle.std.specs.Prelude.{Option, Some, None}
 use Rattle.model.specs.declared.Reason.TheVariants.{WrongSection, FaultyPosition, WrongSelection, UnknownKind, WrongOperand, WrongShape, NotUnderMildNot, ShortMemory, LongList, NotOverPhrase, WrongFamilies}
 use Rattle.model.specs.declared.Reason.{Reason}
-use Rattle.model.specs.Answers.{Listing}
+use Rattle.model.specs.declared.Listing.{Listing}
 use Rattle.std.specs.Prelude.{Err}
-use Rattle.model.specs.Answers.{listed_as}
+use Rattle.model.specs.declared.Listing.TheVariants.{Listed, Refused}
 use Rattle.model.specs.Walk.{answered}
 use Rattle.model.specs.Walk.{Quick}
 use Rattle.model.specs.declared.Refusal.{Refusal}
@@ -51,10 +51,10 @@ pub record FirstWith {A : Type 0} (P : A → Type 0) (xs : List A) (x : A) : Typ
 
 -- An answer is given, or refuses by number and place. Document 01: "The listing or the quick answer is given where its call doesn't refuse."
 abbrev pub ListingGiven : Listing → Type 0
-ListingGiven answer = (m : ℕ) × (s : ℕ) × (y : Bool) × (answer ≡ listed_as m s y)
+ListingGiven answer = (m : ℕ) × (s : ℕ) × (y : Bool) × (answer ≡ Listed m s y)
 
 abbrev pub ListingRefuses : Listing → Refusal → Type 0
-ListingRefuses answer r = answer ≡ Err r
+ListingRefuses answer r = answer ≡ Refused r
 
 abbrev pub QuickSays : Quick → Bool → Type 0
 QuickSays answer y = (codes : ℕ) × (answer ≡ answered y codes)
@@ -177,7 +177,7 @@ pub record Demand2Of (section families selection : List ℕ) (work : ℕ) (buffe
   pub words_exactly : (entry_out_of_order families ≡ None) ↔ RisingStrictly (first_at families) (size families)
   -- "is the AllMatches of that standard, as document 01 sets it down: the same matches, in the same order, with every include and exclude."
   -- M and S are the complete list's; the buffer holds its numbers, which are no other list's, and is otherwise unchanged.
-  pub counts_complete : (m s : ℕ) (y : Bool) → listing_answer section families selection work (length buffer) ≡ listed_as m s y
+  pub counts_complete : (m s : ℕ) (y : Bool) → listing_answer section families selection work (length buffer) ≡ Listed m s y
       → (m ≡ length (complete_list section families selection)) × (s ≡ strings (complete_list section families selection))
   pub holds_complete : ListingGiven (listing_answer section families selection work (length buffer))
       → (length (complete_numbers section families selection) ≤ length buffer)
@@ -188,7 +188,7 @@ pub record Demand2Of (section families selection : List ℕ) (work : ℕ) (buffe
       × ((ms : List Match) (rest : List ℕ) → EndsBelowRadix ms → listing_buffer section families selection work buffer ≡ listing_numbers ms ++ rest
       → ms ≡ complete_list section families selection)
   -- "It says yes exactly when a match has no exclude."
-  pub yes_exactly : (m s : ℕ) (y : Bool) → listing_answer section families selection work (length buffer) ≡ listed_as m s y
+  pub yes_exactly : (m s : ℕ) (y : Bool) → listing_answer section families selection work (length buffer) ≡ Listed m s y
       → (y ≡ true) ↔ Has WithoutExcludes (complete_list section families selection)
 
 abbrev pub Demand2 : Type 0
@@ -221,7 +221,7 @@ pub record Demand3Of (section families selection : List ℕ) (work : ℕ) : Type
       → QuickSays (quick_answer section families selection work) false ↔ (¬ Has WithoutExcludes (complete_list section families selection))
   -- "Where the listing is given for the same section and selection, the quick answer is given too, and both say yes or both say no."
   -- The listing has working memory of its own length, and the same family table.
-  pub agrees_with_listing : Enough work → (lent buffer m s : ℕ) (y : Bool) → listing_answer section families selection lent buffer ≡ listed_as m s y
+  pub agrees_with_listing : Enough work → (lent buffer m s : ℕ) (y : Bool) → listing_answer section families selection lent buffer ≡ Listed m s y
       → QuickSays (quick_answer section families selection work) y
   -- "With each yes or no it reports a count of codes: the walk's, and at most the selection's own."
   pub counts_walk : (y : Bool) (codes : ℕ) → quick_answer section families selection work ≡ answered y codes

@@ -9,7 +9,7 @@ use Rattle.model.specs.declared.Reason.TheVariants.{LongList, OverLimit, ShortMe
 use Rattle.model.specs.declared.Code.{Code}
 use Rattle.model.specs.declared.Filter.{Filter}
 use Rattle.model.specs.declared.Filter.TheVariants.{SameSentence, DifferentSentence}
-use Rattle.model.specs.Answers.{Listing}
+use Rattle.model.specs.declared.Listing.{Listing}
 use Rattle.model.specs.declared.Pair.TheVariants.{Or, And, MildNot}
 use Rattle.model.specs.Walk.{Quick}
 use Rattle.std.specs.Prelude.{Ok, Err}

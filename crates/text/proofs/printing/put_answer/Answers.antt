@@ -7,13 +7,13 @@ use Rattle.text.proofs.printing.put_answer.Goals as goal
 pub put_head-requires : goal.put_head-requires
 put_head-requires c = head_room _ _ _ _ (omega arith) (omega arith) (omega arith) (omega arith)
 
-pub returns-then-listed : goal.returns-then-listed
-returns-then-listed c =
-    put-answer c.args.listed.yes c.args.listed.matches c.args.listed.strings c.if-listed.true c.put_head.ensures
+pub returns-then-said : goal.returns-then-said
+returns-then-said c =
+    put-answer c.args.said c.args.matches c.args.strings c.if-said.true c.put_head.ensures
 
 pub put_head-requires-2 : goal.put_head-requires-2
 put_head-requires-2 c = head_room _ _ _ _ (omega arith) (omega arith) (omega arith) (omega arith)
 
 pub returns : goal.returns
 returns c =
-    put-answer c.args.listed.yes c.args.listed.matches c.args.listed.strings c.if-listed.false c.put_head-2.ensures
+    put-answer c.args.said c.args.matches c.args.strings c.if-said.false c.put_head-2.ensures
