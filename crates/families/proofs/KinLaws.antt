@@ -29,9 +29,13 @@ same_none : (o : Option ℕ) → same_family o None ≡ false
 same_none (Some f) = refl
 same_none None = refl
 
-pub kin_alone : (families : List ℕ) (word : ℕ) → family_of families word ≡ None → KinOf families word (word ∷ [])
+-- it fits the tokens that it equals
+pub fits_alone : (families : List ℕ) (token word : ℕ) → family_of families word ≡ None → word_fits families token word ≡ eqb token word
 unfolding word_fits
-kin_alone families word e token = rw (e, same_none (family_of families token), or-false (eqb token word)) (sym (one_equal token word))
+fits_alone families token word e = rw (e, same_none (family_of families token)) (or-false (eqb token word))
+
+pub kin_alone : (families : List ℕ) (word : ℕ) → family_of families word ≡ None → KinOf families word (word ∷ [])
+kin_alone families word e token = fits_alone families token word e ∙ sym (one_equal token word)
 
 -- ---- gathered
 

@@ -2,18 +2,17 @@
 use Prim.Native.Nat.{ℕ, ◌+◌, ◌-◌, ◌*◌, ◌≤◌, ◌<◌}
 use native.Mathlib.Omega.{arith}
 use mathlib.Core.Path.{◌≡◌, refl, sym, ap, ap₂, ◌∙◌, subst}
-use mathlib.Core.Bool.{true}
 use mathlib.Core.List.{List, [], ◌∷◌, flat_map}
 use mathlib.Core.Logic.{inl}
 use lib.ListN.{length, set, length-map}
 use lib.Seq.{sets}
 use Rattle.model.specs.Limits.{max_matches, radix}
 use Rattle.model.specs.Matches.{strings}
-use Rattle.model.specs.Rules.{stand_from, found, phrase_list}
+use Rattle.model.specs.Rules.{found, phrase_list}
 use Rattle.model.specs.Families.{Searched}
 use Rattle.model.proofs.RulesLaws.{strings-phrase}
 use Rattle.strings.specs.Strings.{strs_of}
-use Rattle.store.specs.declared.Built.TheVariants.{Made, TooLong}
+use Rattle.store.specs.Built.{over, made}
 use Rattle.store.specs.Indices.{ClosingMatch}
 use Rattle.store.specs.Layout.{header_between, match_numbers, matches_numbers}
 use Rattle.store.specs.Outcome.{Outcome}
@@ -22,7 +21,7 @@ use Rattle.store.proofs.LayoutLaws.{length_match, matches_map}
 use Rattle.store.proofs.PutLaws.{put-none, closing_match, closed_match}
 use Rattle.store.proofs.RowsLaws.{Rows, rows_start, rows_step, rows_finish}
 use Rattle.store.proofs.SlotsLaws.{built_made, built_long, refused, filled}
-use Rattle.phrase.specs.Starts.{starts_from, FirstStart}
+use Rattle.phrase.specs.Starts.{starts_from, Skipped, FirstStart}
 use Rattle.phrase.proofs.StartsLaws.{starts_none, starts-here}
 
 -- ---- a find in memory
@@ -59,51 +58,42 @@ module _ (s : Searched) (rank : ℕ) (words : List ℕ) where
   unfolding phrase_list starts_from
   list-numbers = matches_map (found rank (length words)) (starts_from s words 1)
 
--- before the find at p: memory was mem₀, and the finds before it, so many, are written after the header of the slot at `at`, up to q
-pub record Finding (s : Searched) (words : List ℕ) (rank : ℕ) (mem₀ mem : List ℕ) (at q p matches : ℕ) : Type 0 where
-  pub rows : Rows (found_numbers rank (length words)) (starts_from s words 1) (starts_from s words p) mem₀ mem (at + 2) q
-  pub count : matches + length (starts_from s words p) ≡ length (starts_from s words 1)
+-- before the starts from `from` on: memory was mem₀, and the finds before, so many, are written after the header of the slot at `at`, up to q
+pub record Finding (s : Searched) (words : List ℕ) (rank : ℕ) (mem₀ mem : List ℕ) (at q from matches : ℕ) : Type 0 where
+  pub rows : Rows (found_numbers rank (length words)) (starts_from s words 1) (starts_from s words from) mem₀ mem (at + 2) q
+  pub count : matches + length (starts_from s words from) ≡ length (starts_from s words 1)
   pub q_is : q ≡ at + 2 + 3 * matches
-  pub from_one : 1 ≤ p
-  pub up_to : p ≤ s.section.tokens + 1
-  pub stands : p ≤ s.section.tokens → stand_from s words p ≡ true
+  pub from_one : 1 ≤ from
+  pub up_to : from ≤ s.section.tokens + 1
 
-pub find-start : {s : Searched} {words : List ℕ} {p : ℕ} (rank : ℕ) (mem : List ℕ) (at : ℕ) → FirstStart s words 1 (s.section.tokens + 1) p → Finding s words rank mem mem at (at + 2) p 0
-find-start {s} {words} {p} rank mem at n =
-    record {
-      rows = subst (λ xs. Rows (found_numbers rank (length words)) (starts_from s words 1) xs mem mem (at + 2) (at + 2)) n.skipped.same rows_start;
-      count = omega (arith, ap length n.skipped.same);
-      q_is = omega arith;
-      from_one = n.skipped.not_before;
-      up_to = n.skipped.up_to;
-      stands = λ h. n.stands (omega arith);
-    }
+pub find_start : (s : Searched) (words : List ℕ) (rank : ℕ) (mem : List ℕ) (at : ℕ) → Finding s words rank mem mem at (at + 2) 1 0
+find_start s words rank mem at = record { rows = rows_start; count = omega arith; q_is = omega arith; from_one = omega arith; up_to = omega arith }
 
-module _ {s : Searched} {words : List ℕ} {rank : ℕ} {mem₀ mem : List ℕ} {at q p matches : ℕ} (g : Finding s words rank mem₀ mem at q p matches) where
-  module _ (h : p ≤ s.section.tokens) where
-    here : starts_from s words p ≡ p ∷ starts_from s words (p + 1)
-    here = starts-here s words p h (g.stands h)
+module _ {s : Searched} {words : List ℕ} {rank : ℕ} {mem₀ mem : List ℕ} {at q from matches : ℕ} (g : Finding s words rank mem₀ mem at q from matches) where
+  -- the next start
+  module _ {p : ℕ} (n : FirstStart s words from (s.section.tokens + 1) p) (h : p ≤ s.section.tokens) where
+    here : starts_from s words from ≡ p ∷ starts_from s words (p + 1)
+    here = n.skipped.same ∙ starts-here s words p h (n.stands (omega arith))
 
     -- one find more than the limit
-    pub find-over : {exit : List ℕ} → matches ≡ max_matches → Outcome (phrase_list s rank words) mem₀ exit at TooLong
-    find-over e = refused (built_long (phrase_list s rank words) (inl (omega (arith, length-list s rank words, g.count, ap length here)))) refl
+    pub find_over : {exit : List ℕ} → matches ≡ max_matches → Outcome (phrase_list s rank words) mem₀ exit at over
+    find_over e = refused (built_long (phrase_list s rank words) (inl (omega (arith, length-list s rank words, g.count, ap length here)))) refl refl
 
-    pub find_step : {mem' : List ℕ} {q' p' : ℕ} → Put mem mem' q (found_numbers rank (length words) p) q' → FirstStart s words (p + 1) (s.section.tokens + 1) p'
-        → Finding s words rank mem₀ mem' at q' p' (matches + 1)
-    find_step v n =
+    pub find_step : {mem' : List ℕ} {q' : ℕ} → Put mem mem' q (found_numbers rank (length words) p) q' → Finding s words rank mem₀ mem' at q' (p + 1) (matches + 1)
+    find_step v =
         record {
-          rows = rows_step g.rows (here ∙ ap (λ xs. p ∷ xs) n.skipped.same) v;
-          count = omega (arith, g.count, ap length here, ap length n.skipped.same);
+          rows = rows_step g.rows here v;
+          count = omega (arith, g.count, ap length here);
           q_is = omega (arith, g.q_is, v.next_is, length_match (found rank (length words) p));
-          from_one = omega (arith, n.skipped.not_before);
-          up_to = n.skipped.up_to;
-          stands = λ h. n.stands (omega arith);
+          from_one = omega arith;
+          up_to = omega arith;
         }
 
-  pub find_finish : {exit : List ℕ} → s.section.tokens < p → matches ≤ max_matches → exit ≡ sets mem at (matches ∷ matches ∷ [])
-      → Outcome (phrase_list s rank words) mem₀ exit at (Made matches matches)
-  find_finish h m e =
-      let none = starts_none s words p h in
+  -- there is none
+  pub find_finish : {exit : List ℕ} → Skipped s words from (s.section.tokens + 1) (s.section.tokens + 1) → matches ≤ max_matches → exit ≡ sets mem at (matches ∷ matches ∷ [])
+      → Outcome (phrase_list s rank words) mem₀ exit at (made matches matches)
+  find_finish n m e =
+      let none = n.same ∙ starts_none s words (s.section.tokens + 1) (omega arith) in
       let matches_are : length (phrase_list s rank words) ≡ matches = omega (arith, length-list s rank words, g.count, ap length none) in
       let strings_are : strings (phrase_list s rank words) ≡ matches = strings-phrase s rank words ∙ matches_are in
       let v = subst (λ xs. Put mem₀ mem (at + 2) xs q) (sym (list-numbers s rank words)) (rows_finish g.rows none) in

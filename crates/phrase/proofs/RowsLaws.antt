@@ -1,16 +1,22 @@
 -- Words stand in a row where the first does and the rest stand after it.
 use Prim.Native.Nat.{ℕ, zero, suc, ◌+◌, ◌≤◌, ◌<◌}
+use native.Mathlib.Nat.{zero-add}
 use native.Mathlib.Numerals.{add-one}
 use native.Mathlib.Omega.{arith}
 use mathlib.Core.Path.{◌≡◌, refl, sym, ap, ◌∙◌}
-use mathlib.Core.Bool.{Bool, true, false, ◌&&◌, and-false, true≢false}
+use mathlib.Core.Bool.{Bool, true, false, ◌&&◌, and-false}
 use mathlib.Core.List.{List, [], ◌∷◌}
-use borrow.Author.Tests.{leb-true, le-leb}
-use lib.Dec.{leb}
-use lib.ListN.{length, drop, get_or, drop_of_length-le}
+use borrow.Author.Tests.{leb-true, le-leb, eq-eqb, ne_eqb, eqb-true, eqb-false}
+use lib.Dec.{leb, eqb}
+use lib.ListN.{length, take, drop, get_or}
 use lib.Seq.{drop-cons}
 use Rattle.model.specs.Rules.{stand_from}
-use Rattle.model.specs.Families.{Searched}
+use Rattle.model.specs.Families.{Searched, equal_words}
+use Rattle.model.specs.Section.{size}
+use Rattle.std.specs.Bool.{MatchBool}
+use Rattle.std.specs.Cmp.Lexicographic.{pointwise}
+use Rattle.std.specs.List.{AllWithin, HoldsAt, range_with_len}
+use Rattle.std.proofs.lemmas.List.FromFn.{get_or-range_with_len, length-range_with_len}
 
 -- more words than tokens from p on
 pub stands_beyond : (s : Searched) (words : List ℕ) (p : ℕ) → p ≤ s.section.tokens + 1 → s.section.tokens + 1 < p + length words → false ≡ stand_from s words p
@@ -23,11 +29,6 @@ stands_beyond s (w ∷ ws) p h k = at (leb p s.section.tokens) refl (λ l. stand
     at false e later = refl
 
 module _ (s : Searched) (words : List ℕ) (i p : ℕ) where
-  -- no word is left
-  pub stands_all : length words ≤ i → true ≡ stand_from s (drop i words) p
-  unfolding stand_from
-  stands_all h = rw (drop_of_length-le words h)
-
   module _ (h : i < length words) where
     stands-more : stand_from s (drop i words) p ≡ (leb p s.section.tokens && s.fits (s.section.word p) (get_or words i 0) && stand_from s (drop (i + 1) words) (p + 1))
     unfolding stand_from
@@ -37,10 +38,6 @@ module _ (s : Searched) (words : List ℕ) (i p : ℕ) where
       -- the word doesn't fit there
       pub stands-not : s.fits (s.section.word p) (get_or words i 0) ≡ false → false ≡ stand_from s (drop i words) p
       stands-not e = sym (stands-more ∙ rw (le-leb p s.section.tokens k, e))
-
-      -- the word fits there
-      pub stands_on : s.fits (s.section.word p) (get_or words i 0) ≡ true → (q : ℕ) → q ≡ p + 1 → stand_from s (drop (i + 1) words) q ≡ stand_from s (drop i words) p
-      stands_on e q f = ap (stand_from s (drop (i + 1) words)) f ∙ sym (stands-more ∙ rw (le-leb p s.section.tokens k, e))
 
 -- a row whose rest doesn't stand doesn't stand
 pub stands-rest : (s : Searched) (words : List ℕ) (i p : ℕ) → stand_from s (drop i words) (p + i) ≡ false → stand_from s words p ≡ false
@@ -57,8 +54,50 @@ pub stands_without : (s : Searched) (words : List ℕ) (p i : ℕ) → i < lengt
     → s.fits (s.section.word (p + i)) (get_or words i 0) ≡ false → stand_from s words p ≡ false
 stands_without s words p i h k other = stands-rest s words i p (sym (stands-not s words i (p + i) h (omega arith) other))
 
--- only words can fail to stand
-pub stands-some : (s : Searched) (words : List ℕ) (p : ℕ) → stand_from s words p ≡ false → 1 ≤ length words
+-- no word at all
+pub stands-empty : (s : Searched) (words : List ℕ) (p : ℕ) → length words ≡ 0 → stand_from s words p ≡ true
 unfolding stand_from
-stands-some s [] p e = absurd (true≢false e)
-stands-some s (w ∷ ws) p e = omega arith
+stands-empty s [] p e = refl
+stands-empty s (w ∷ ws) p e = absurd (omega arith)
+
+-- each word fits in its place
+pub stands_each : (s : Searched) (words : List ℕ) (p : ℕ) → p + length words ≤ s.section.tokens + 1
+    → ((i : ℕ) → i < length words → s.fits (s.section.word (p + i)) (get_or words i 0) ≡ true) → stand_from s words p ≡ true
+unfolding stand_from
+stands_each s [] p h each = refl
+stands_each s (w ∷ ws) p h each =
+    let here : p + 0 ≡ p = omega arith in
+    let first : s.fits (s.section.word p) w ≡ true = ap (λ (q : ℕ). s.fits (s.section.word q) w) (sym here) ∙ each 0 (omega arith) in
+    let rest = stands_each s ws (p + 1) (omega arith) (λ i l. let q : p + 1 + i ≡ p + suc i = omega arith in ap (λ (q : ℕ). s.fits (s.section.word q) (get_or ws i 0)) q ∙ each (suc i) (omega arith)) in
+    rw (le-leb p s.section.tokens (omega arith), first, rest)
+
+pub eqb-sym : (a b : ℕ) → eqb a b ≡ eqb b a
+eqb-sym a b = at (eqb b a) refl
+  where
+    at : (t : Bool) → eqb b a ≡ t → eqb a b ≡ t
+    at true e = eq-eqb a b (sym (eqb-true b a e))
+    at false e = ne_eqb a b (λ f. eqb-false b a e (sym f))
+
+-- each word equals its token where the section goes on with the words
+pub stands_equal : (section words : List ℕ) (p : ℕ) → size section < length section → p + length words ≤ size section + 1
+    → pointwise eqb words (take (length words) (drop p section)) ≡ stand_from (equal_words section) words p
+unfolding stand_from
+stands_equal section [] p s h = refl
+stands_equal section (w ∷ ws) p s h =
+    let next : suc p ≡ p + 1 = omega arith in
+    rw (drop-cons section p 0 (omega arith), le-leb p (size section) (omega arith), eqb-sym w (get_or section p 0), next, stands_equal section ws (p + 1) s (omega arith))
+
+-- as told of all words by their numbers
+pub stands_all : (s : Searched) (words : List ℕ) (p : ℕ) (r : Bool) → p + length words ≤ s.section.tokens + 1
+    → MatchBool r (AllWithin (λ i. s.fits (s.section.word (p + i)) (get_or words i 0) ≡ true) (range_with_len 0 (length words)) 0 (length (range_with_len 0 (length words))))
+    ((i : ℕ) × (i < length (range_with_len 0 (length words))) × HoldsAt (λ i. s.fits (s.section.word (p + i)) (get_or words i 0) ≡ false) (range_with_len 0 (length words)) i)
+    → r ≡ stand_from s words p
+stands_all s words p true h all =
+    sym (stands_each s words p h (λ i l.
+    let same : get_or (range_with_len 0 (length words)) i 0 ≡ i = get_or-range_with_len 0 (length words) i 0 l ∙ zero-add i in
+    rw same at (all i 0 (omega arith) (omega (arith, length-range_with_len 0 (length words))))))
+stands_all s words p false h one =
+    let i = one.0 in
+    let l : i < length words = omega (arith, one.1, length-range_with_len 0 (length words)) in
+    let same : get_or (range_with_len 0 (length words)) i 0 ≡ i = get_or-range_with_len 0 (length words) i 0 l ∙ zero-add i in
+    sym (stands_without s words p i l h (rw same at (one.2 0)))

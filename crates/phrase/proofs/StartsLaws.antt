@@ -2,16 +2,16 @@
 use Prim.Native.Nat.{ℕ, zero, suc, ◌+◌, ◌-◌, ◌≤◌, ◌<◌}
 use native.Mathlib.Omega.{arith}
 use mathlib.Core.Path.{◌≡◌, refl, sym, subst, ◌∙◌}
-use mathlib.Core.Bool.{Bool, true, false, not}
+use mathlib.Core.Bool.{true, false, not}
 use mathlib.Core.List.{List, [], ◌∷◌}
-use borrow.Author.Tests.{leb-true, leb-false}
-use lib.Dec.{leb}
 use lib.ListN.{length}
 use Rattle.model.specs.Lists.{is_empty, keep}
 use Rattle.model.specs.Rules.{stand_from, phrase_list}
 use Rattle.model.specs.Families.{Searched}
 use Rattle.model.proofs.ListsLaws.{range_empty, range_cons}
-use Rattle.phrase.specs.Starts.{starts_from, Skipped, FirstStart}
+use Rattle.std.specs.Prelude.{Option, Some, None}
+use Rattle.std.specs.Option.{is_some}
+use Rattle.phrase.specs.Starts.{starts_from, Skipped, NextStart}
 use Rattle.phrase.proofs.RowsLaws.{stands_beyond}
 
 -- ---- starts_from
@@ -52,29 +52,26 @@ module _ {s : Searched} {words : List ℕ} where
       let most = skipped_all k a (omega arith) (omega arith) (λ q m. none_in q (omega arith)) in
       subst (λ (q : ℕ). Skipped s words from to q) end (skipped-next most (omega arith) (omega arith) (none_in k (omega arith)))
 
--- ---- FirstStart
-
-module _ {s : Searched} {words : List ℕ} where
-  pub first_on : {from p q to to' end : ℕ} → Skipped s words from to p → FirstStart s words p to' q → q ≤ end → (q < end → q < to') → FirstStart s words from end q
-  first_on a f h inside = record { skipped = skipped-on a f.skipped h; stands = λ l. f.stands (inside l) }
-
-  -- there is none before `to`
-  pub first_missed : {from to p : ℕ} → FirstStart s words from to p → to ≤ p → Skipped s words from to to
-  first_missed {from} {to} {p} f h = let e : p ≡ to = omega (arith, f.skipped.up_to) in subst (λ (q : ℕ). Skipped s words from to q) e f.skipped
+  -- on over the positions before q
+  pub skipped_between : {from p to end q : ℕ} → Skipped s words from to p → p ≤ q → q ≤ s.section.tokens + 1 → q ≤ end → ((k : ℕ) → p ≤ k → k < q → stand_from s words k ≡ false)
+      → Skipped s words from end q
+  skipped_between {from} {p} {to} {end} {q} a h k l none_in =
+      let same : p + (q - p) ≡ q = omega arith in
+      let here : Skipped s words from q p = record { not_before = a.not_before; up_to = h; same = a.same } in
+      let most = skipped_all (q - p) here (omega arith) (omega arith) (λ j m. none_in (p + j) (omega arith) (omega arith)) in
+      let all = subst (λ (x : ℕ). Skipped s words from q x) same most in
+      record { not_before = all.not_before; up_to = l; same = all.same }
 
   -- too few tokens are left for a row
-  pub first-none : {from p to : ℕ} → Skipped s words from to p → p ≤ s.section.tokens + 1 → s.section.tokens + 1 < p + length words → FirstStart s words from (s.section.tokens + 1) (s.section.tokens + 1)
-  first-none {from} {p} a h k =
-      let end : p + (s.section.tokens + 1 - p) ≡ s.section.tokens + 1 = omega arith in
-      let here = skipped-on a (skipped-none {to = s.section.tokens + 1} h) h in
-      let all = skipped_all (s.section.tokens + 1 - p) here (omega arith) (omega arith) (λ q l. sym (stands_beyond s words (p + q) (omega arith) (omega arith))) in
-      record { skipped = subst (λ (q : ℕ). Skipped s words from (s.section.tokens + 1) q) end all; stands = λ l. absurd (omega arith) }
+  pub skipped_beyond : {from p to : ℕ} → Skipped s words from to p → p ≤ s.section.tokens + 1 → s.section.tokens + 1 < p + length words
+      → Skipped s words from (s.section.tokens + 1) (s.section.tokens + 1)
+  skipped_beyond {from} {p} a h k =
+      skipped_between a h (omega arith) (omega arith) (λ q m l. sym (stands_beyond s words q (omega arith) (omega arith)))
 
--- there is a find where the first start is no position after the last
-pub starts-some : {s : Searched} {words : List ℕ} {p : ℕ} (rank : ℕ) → FirstStart s words 1 (s.section.tokens + 1) p → leb p s.section.tokens ≡ not (is_empty (phrase_list s rank words))
+-- ---- NextStart
+
+-- there is a find where there is a next start
+pub starts-some : (s : Searched) (words : List ℕ) (next : Option ℕ) (rank : ℕ) → NextStart s words 1 next → is_some next ≡ not (is_empty (phrase_list s rank words))
 unfolding phrase_list starts_from is_empty
-starts-some {s} {words} {p} rank f = at (leb p s.section.tokens) refl
-  where
-    at : (b : Bool) → leb p s.section.tokens ≡ b → b ≡ not (is_empty (phrase_list s rank words))
-    at true e = let h = leb-true p s.section.tokens e in rw (f.skipped.same ∙ starts-here s words p h (f.stands (omega arith)))
-    at false e = rw (f.skipped.same ∙ starts_none s words p (leb-false p s.section.tokens e))
+starts-some s words (Some p) rank f = rw (f.0.skipped.same ∙ starts-here s words p f.1 (f.0.stands (omega (arith, f.1))))
+starts-some s words None rank f = rw (f.same ∙ starts_none s words (s.section.tokens + 1) (omega arith))

@@ -1,28 +1,16 @@
--- How a phrase may be looked for.
-use Rattle.std.specs.Prelude.{ℕ, ◌≤◌, ◌<◌, List, ◌≡◌, length, get_or, take}
-use Rattle.std.specs.Prelude.{None}
-use Rattle.model.specs.Families.{entry_of}
-use Rattle.families.specs.Entries.{EntryIs}
-use Rattle.families.specs.Kin.{KinOf}
-use Rattle.phrase.specs.declared.Search.{Search}
-use Rattle.phrase.specs.declared.Search.TheVariants.{Equal, Kin}
+-- The words of a phrase in the family table.
+use Rattle.std.specs.Prelude.{ℕ, ◌+◌, ◌≤◌, ◌<◌, Bool, List, Option, None, ◌≡◌, length, get_or}
+use Rattle.model.specs.Families.{family_of, word_fits}
+use Rattle.model.specs.Section.{word_at}
 
 -- none of the words is in the family table
 abbrev pub OutOfTable : List ℕ → List ℕ → Type 0
-OutOfTable families words = (i : ℕ) → i < length words → entry_of families (get_or words i 0) ≡ None
+OutOfTable table words = (i : ℕ) → i < length words → family_of table (get_or words i 0) ≡ None
 
--- some numbers are the entries of the words, 0 for none
-pub record EntriesOf (families words entries : List ℕ) : Type 0 where
-  pub enough : length words ≤ length entries
-  pub each : (i : ℕ) → i < length words → EntryIs families (get_or words i 0) (get_or entries i 0)
+-- the families of the words
+abbrev pub FamiliesOf : List ℕ → List ℕ → List (Option ℕ) → Type 0
+FamiliesOf table words families = (length words ≤ length families) × ((i : ℕ) → i < length words → get_or families i None ≡ family_of table (get_or words i 0))
 
--- the first so many of some numbers are the kin of the word number i
-pub record HasKin (families words kin : List ℕ) (i count : ℕ) : Type 0 where
-  pub in_phrase : i < length words
-  pub within : count ≤ length kin
-  pub are : KinOf families (get_or words i 0) (take count kin)
-
--- by equality where no word is in the table; by the kin of a word where these are known
-abbrev pub SearchedBy : List ℕ → List ℕ → List ℕ → Search → Type 0
-SearchedBy families words kin Equal = OutOfTable families words
-SearchedBy families words kin (Kin i count) = HasKin families words kin i count
+-- does the word number i fit in the row from position p on?
+abbrev pub fits_at : List ℕ → List ℕ → List ℕ → ℕ → ℕ → Bool
+fits_at section table words p i = word_fits table (word_at section (p + i)) (get_or words i 0)

@@ -1,55 +1,65 @@
-// The first start of a phrase by equality: each word stands where it equals its token.
-ghost use Rattle.std.specs.Prelude.{◌≡◌, ◌+◌, ◌≤◌, length};
-ghost use Rattle.model.specs.Accepted.{AcceptedSection};
+// The rows in which each word of a phrase equals its token.
+ghost use Rattle.std.specs.Prelude.{false, ◌≡◌, ◌+◌, ◌*◌, ◌≤◌, length};
 ghost use Rattle.model.specs.Families.{equal_words};
+ghost use Rattle.model.specs.Limits.{max_tokens, max_waiting};
 ghost use Rattle.model.specs.Section.{size};
-ghost use Rattle.phrase.specs.Starts.{FirstStart};
+ghost use Rattle.slices.specs.Blocks.{block_size};
+ghost use Rattle.phrase.specs.Blocks.{LacksPair};
 
-use super::{blocks, rows};
+use super::rows::Rows;
+use slices::blocks::{block_has, has_number, pass_blocks};
 
-// The first start of a phrase of one word from `from` on, or the position after the last one.
-fn next_word(section: &[u32], words: &[u32], from: usize) -> usize
-    requires accepted_section { AcceptedSection section.now }
-    requires from_bound { (from ≤ size section.now + 1) × (length words.now ≡ 1) }
-    ensures { FirstStart (equal_words section.now) words.now from (size section.now + 1) result }
-{
-    let to = section[0] as usize + 1;
-    let begin = blocks::skip_without_word(section, words, from, to, 0);
-    rows::first_start(section, words, begin, to, 0)
+#[derive(Clone, Copy)]
+pub struct Equal<'a> {
+    pub section: &'a [u32],
+    pub words: &'a [u32],
+
+    ghost sized: { length section.now ≡ 1 + 2 * size section.now },
+    ghost few_tokens: { size section.now ≤ max_tokens },
+    ghost few_words: { length words.now ≤ max_waiting },
 }
 
-// The first start from `from` on, or the position after the last one. `from` is tried by itself, since finds may follow each other. Then blocks are skipped by
-// two words of the phrase: at first by the last and the first, and after a block that has both in one row and no start by the next two, so that an absent word
-// is soon one of them.
-pub fn next_start(section: &[u32], words: &[u32], from: usize) -> usize
-    requires accepted_section { AcceptedSection section.now }
-    requires from_bound { from ≤ size section.now + 1 }
-    ensures { FirstStart (equal_words section.now) words.now from (size section.now + 1) result }
+// Do two words stand anywhere at the same offset of two blocks?
+fn has_pair(section: &[u32], left: usize, one: u32, right: usize, other: u32) -> bool
+    requires { (left + block_size ≤ length section.now) × (right + block_size ≤ length section.now) }
+    ensures { result ≡ false → LacksPair section.now left one right other block_size }
 {
-    let k = words.len();
-    if k == 1 {
-        return next_word(section, words, from);
+    block_has(|j| (section[left + j] == one) & (section[right + j] == other))
+}
+
+impl<'a> Rows for Equal<'a> {
+    ghost searched = { λ rows. equal_words rows.section.now };
+
+    ghost words = { λ rows. rows.words.now };
+
+    fn tokens(&self) -> usize {
+        self.section[0] as usize
     }
-    let n = section[0] as usize;
-    if n + 1 < from + k {
-        return n + 1;
+
+    fn length(&self) -> usize {
+        self.words.len()
     }
-    if rows::stands(section, words, from) {
-        return from;
-    }
-    let to = n + 2 - k;
-    let mut p = from;
-    let mut i = k - 1;
-    while p < to {
-        let j = (i + 1) % k;
-        let begin = blocks::skip_without_pair(section, words, p, to, i, j);
-        let end = blocks::block_end(begin, to);
-        let start = rows::first_start(section, words, begin, end, i);
-        if start < end {
-            return start;
+
+    // By two words of the phrase, so that an absent word is soon one of them. Where there is one word alone, it is half as much to compare.
+    fn pass(&self, by: usize, from: usize, to: usize) -> usize {
+        let next = self.after(by);
+        let one = self.words[by];
+        if next == by {
+            return pass_blocks(from, to, |p| has_number(self.section, p + by, one));
         }
-        p = end;
-        i = j;
+        let other = self.words[next];
+        pass_blocks(
+            from,
+            to,
+            |p| has_pair(self.section, p + by, one, p + next, other),
+        )
     }
-    n + 1
+
+    fn stands(&self, by: usize, p: usize) -> bool {
+        self.section[p + by] == self.words[by] && self.section[p..].starts_with(self.words)
+    }
+
+    fn after(&self, by: usize) -> usize {
+        if by + 1 < self.words.len() { by + 1 } else { 0 }
+    }
 }

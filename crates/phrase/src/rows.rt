@@ -1,48 +1,78 @@
-// The words of a phrase in a row, each equal to its token, position by position.
-ghost use Rattle.std.specs.Prelude.{◌≡◌, ◌<◌, length};
+// The rows of a section in which a phrase may stand, and the first of them in which it does.
+ghost use Rattle.std.specs.Prelude.{ℕ, List, ◌≡◌, ◌+◌, ◌≤◌, ◌<◌, IfSome, length};
+ghost use Rattle.model.specs.Families.{Searched};
+ghost use Rattle.model.specs.Limits.{max_tokens, max_waiting};
 ghost use Rattle.model.specs.Rules.{stand_from};
-ghost use Rattle.model.specs.Families.{equal_words};
-ghost use Rattle.phrase.specs.Starts.{FirstStart, RowWithin, SearchRange};
+ghost use Rattle.phrase.specs.Starts.{NextStart, Skipped};
 
-// Do the words stand in a row from position p on?
-pub fn stands(section: &[u32], words: &[u32], p: usize) -> bool
-    requires { RowWithin section.now words.now p }
-    ensures { result ≡ stand_from (equal_words section.now) words.now p }
-{
-    let mut i: usize = 0;
-    while i < words.len() {
-        if section[p + i] != words[i] {
-            return false;
-        }
-        i += 1;
-    }
-    true
+use slices::blocks::BLOCK_SIZE;
+
+// How rows are tried: some at once, and one by one. A row goes by the position that it begins at.
+pub trait Rows {
+    // the section with its test of two words, and the words of the phrase
+    ghost searched: { Self → Searched };
+
+    ghost words: { Self → List ℕ };
+
+    // How many tokens the section has.
+    fn tokens(&self) -> usize
+        ensures is { result ≡ (searched self.now).section.tokens }
+        ensures few { result ≤ max_tokens };
+
+    // How many words the phrase has.
+    fn length(&self) -> usize
+        ensures is { result ≡ length (words self.now) }
+        ensures few { result ≤ max_waiting };
+
+    // Passes rows in none of which the phrase stands, by blocks, and by the word number `by` where that helps.
+    fn pass(&self, by: usize, from: usize, to: usize) -> usize
+        requires in_order { from ≤ to }
+        requires within { to + length (words self.now) ≤ (searched self.now).section.tokens + 2 }
+        requires a_word { by < length (words self.now) }
+        ensures { Skipped (searched self.now) (words self.now) from to result };
+
+    // Does the phrase stand in a row? The word number `by` is tried first.
+    fn stands(&self, by: usize, p: usize) -> bool
+        requires within { p + length (words self.now) ≤ (searched self.now).section.tokens + 1 }
+        requires a_word { by < length (words self.now) }
+        ensures { result ≡ stand_from (searched self.now) (words self.now) p };
+
+    // The word to go on by, where the rows of a block couldn't be passed by another and the phrase stands in none.
+    fn after(&self, by: usize) -> usize
+        requires { by < length (words self.now) }
+        ensures { result < length (words self.now) };
 }
 
-// The same, the word number i tried first.
-fn stands_by(section: &[u32], words: &[u32], p: usize, i: usize) -> bool
-    requires row_within { RowWithin section.now words.now p }
-    requires i_in_bounds { i < length words.now }
-    ensures { result ≡ stand_from (equal_words section.now) words.now p }
+// The first row from `from` on in which the phrase stands. That at `from` is tried by itself, since finds may follow each other; then blocks of rows are
+// passed, at first by the last word.
+pub fn next_start<R: Rows>(rows: &R, from: usize) -> Option<usize>
+    requires { from ≤ (R.searched rows.now).section.tokens + 1 }
+    ensures next { NextStart (R.searched rows.now) (R.words rows.now) from result }
+    ensures few { IfSome result (λ p. p ≤ max_tokens) }
 {
-    if section[p + i] != words[i] {
-        return false;
+    let after = rows.tokens() + 1;
+    let k = rows.length();
+    if after < from + k {
+        return None;
     }
-    stands(section, words, p)
-}
-
-// The first start from `from` on and before `to`, or `to`. The word number i is tried first at each position.
-pub fn first_start(section: &[u32], words: &[u32], from: usize, to: usize, i: usize) -> usize
-    requires search_range { SearchRange section.now words.now from to }
-    requires i_in_bounds { i < length words.now }
-    ensures { FirstStart (equal_words section.now) words.now from to result }
-{
+    let Some(last) = k.checked_sub(1) else {
+        // a phrase of no words stands in every row
+        return if from < after { Some(from) } else { None };
+    };
+    let mut by = last;
+    if rows.stands(by, from) {
+        return Some(from);
+    }
+    let to = after + 1 - k;
     let mut p = from;
     while p < to {
-        if stands_by(section, words, p, i) {
-            return p;
+        let begin = rows.pass(by, p, to);
+        let end = begin + BLOCK_SIZE.min(to - begin);
+        if let Some(start) = (begin..end).find(|q| rows.stands(by, *q)) {
+            return Some(start);
         }
-        p += 1;
+        p = end;
+        by = rows.after(by);
     }
-    p
+    None
 }

@@ -1,30 +1,19 @@
--- There is a find exactly where the first start is no position after the last (starts-some), looked for either way (KinLaws).
-use native.Mathlib.Omega.{arith}
-use mathlib.Core.Path.{sym}
-use lib.Seq.{length-take-le}
-use Rattle.phrase.proofs.KinLaws.{equal_first, searched_equal, searched_kin}
+-- Looked for by families where a word is in the table; by equality where none is (KinLaws).
+use Rattle.std.proofs.Common.{not, ap, ◌∙◌}
+use Rattle.model.specs.Families.{searched_of, equal_words}
+use Rattle.model.specs.Lists.{is_empty}
+use Rattle.phrase.proofs.KinLaws.{equal_list}
 use Rattle.phrase.proofs.StartsLaws.{starts-some}
 use Rattle.phrase.proofs.is_found.Goals as goal
 
-pub slice_bounds-kin-end : goal.slice_bounds-kin-end
-slice_bounds-kin-end c =
-    (searched_kin _ _ c.search_for-search.new.kin c.search_for-search.ensures.searched_by c.in-Kin.is).within
+pub returns-in-Some : goal.returns-in-Some
+returns-in-Some c rank =
+    let rows = c.in-Some.ensures.some in
+    let next = rw (rows.0, rows.1, rows.2) at c.next_start.ensures.next in
+    c.is_some.ensures ∙ starts-some (searched_of c.args.section.now c.args.families.now) c.args.words.now c.next_start.result rank next
 
-pub slice_bounds-next_start-end-in-Kin : goal.slice_bounds-next_start-end-in-Kin
-slice_bounds-next_start-end-in-Kin c =
-    let kin = searched_kin _ _ c.search_for-search.new.kin c.search_for-search.ensures.searched_by c.in-Kin.is in
-    sym (length-take-le _ _ kin.within)
-
-pub next_start-requires-in-Kin : goal.next_start-requires-in-Kin
-next_start-requires-in-Kin c =
-    let kin = searched_kin _ _ c.search_for-search.new.kin c.search_for-search.ensures.searched_by c.in-Kin.is in
-    record { accepted_section = c.requires.accepted_section; accepted_families = c.requires.accepted_families; entries_of = c.search_for-search.ensures.entries_of; from_bound = (omega arith, kin.in_phrase); kin_of = kin.are }
-
-pub returns-in-Equal : goal.returns-in-Equal
-returns-in-Equal c rank =
-    starts-some rank
-    (equal_first c.args.section.now c.args.families.now c.args.words.now (searched_equal _ _ c.search_for-search.new.kin c.search_for-search.ensures.searched_by c.in-Equal.is)
-    c.next_start.ensures)
-
-pub returns-in-Kin : goal.returns-in-Kin
-returns-in-Kin c rank = starts-some rank c.next_start-in-Kin.ensures
+pub returns-in-None : goal.returns-in-None
+returns-in-None c rank =
+    c.is_some-in-None.ensures
+    ∙ starts-some (equal_words c.args.section.now) c.args.words.now c.next_start-in-None.result rank c.next_start-in-None.ensures.next
+    ∙ ap (λ ms. not (is_empty ms)) (equal_list c.args.section.now c.args.families.now c.args.words.now c.in-None.ensures.none rank)
