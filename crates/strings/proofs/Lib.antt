@@ -1,4 +1,4 @@
--- Loops over the strings of a slice ..
+-- The strings of a slice ..
 pub mod StringsLaws
 -- .. chains over them ..
 pub mod PackedLaws

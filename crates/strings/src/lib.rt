@@ -7,9 +7,9 @@ pub mod covering;
 pub mod halves;
 pub mod ordering;
 mod packed;
-pub mod positions;
-pub mod spans;
+mod positions;
+mod spans;
 
 pub use packed::{Packed, Sort, Strings, strings_in};
 pub use positions::Run;
-pub use spans::{end_of, is_contiguous, query_of, sort_of, span_of, start_of, tag_of, with_sort};
+pub use spans::{end_of, start_of};

@@ -6,7 +6,7 @@ ghost use Rattle.model.specs.Matches.{Str};
 ghost use Rattle.strings.specs.Strings.{number_of_sort, str_packed, strs_at};
 
 use super::positions::Run;
-use super::spans::{end_of, is_contiguous, query_of, span_of, start_of, tag_of};
+use super::spans::{end_of, span_of, start_of};
 use model::Position;
 use std::marker::Model;
 
@@ -17,7 +17,7 @@ pub enum Sort {
     Exclude = 1,
 }
 
-// A string: its span and its tag.
+// A string: its span, start × 65,536 + end, and its tag, query position × 4, plus 2 if contiguous, plus 1 if an exclude.
 #[derive(Clone, Copy, PartialEq, Eq)]
 pub struct Packed {
     pub span: u32,
@@ -34,7 +34,7 @@ impl Packed {
     {
         Packed {
             span: span_of(run.lo, run.hi),
-            tag: tag_of(query, contiguous, sort as u32),
+            tag: query * 4 + if contiguous { 2 } else { 0 } + sort as u32,
         }
     }
 
@@ -67,14 +67,14 @@ impl Packed {
     pub fn query(self) -> u32
         ensures { result ≡ (str_packed self).query }
     {
-        query_of(self.tag)
+        self.tag / 4
     }
 
     // Its contiguous mark.
     pub fn is_contiguous(self) -> bool
         ensures { result ≡ (str_packed self).contiguous }
     {
-        is_contiguous(self.tag)
+        self.tag / 2 % 2 == 1
     }
 
     // Its sort.

@@ -1,4 +1,4 @@
-// Positions, held against each other, and runs of them.
+// Runs of positions.
 ghost use Rattle.std.specs.Prelude.{◌≡◌, ◌&&◌, min, max, leb};
 
 use model::Position;
@@ -28,25 +28,4 @@ impl Run {
             hi: self.hi.max(other.hi),
         }
     }
-}
-
-// The earlier of two positions.
-pub fn earlier(a: Position, b: Position) -> Position
-    ensures { result.0 ≡ min a.0 b.0 }
-{
-    a.min(b)
-}
-
-// The later of two positions.
-pub fn later(a: Position, b: Position) -> Position
-    ensures { result.0 ≡ max a.0 b.0 }
-{
-    a.max(b)
-}
-
-// Does a position lie from one to another?
-pub fn is_between(p: Position, from: Position, to: Position) -> bool
-    ensures { result ≡ (leb from.0 p.0 && leb p.0 to.0) }
-{
-    Run { lo: from, hi: to }.has(p)
 }
