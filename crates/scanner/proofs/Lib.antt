@@ -1,3 +1,3 @@
 -- What the scanner's proofs rest on.
+pub mod SymbolsLaws
 pub mod ScannerLaws
-pub mod WordsLaws

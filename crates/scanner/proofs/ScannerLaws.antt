@@ -1,164 +1,113 @@
--- What the scanner's loops and the first token rest on. A text is `take size bytes`.
-use Prim.Native.Nat.{ℕ, zero, suc, ◌+◌, ◌*◌, ◌-◌, ◌≤◌, ◌<◌}
-use native.Mathlib.Omega.{arith}
-use native.Mathlib.Numerals.{add-one}
-use mathlib.Core.Path.{◌≡◌, refl, sym, ap, ◌∙◌}
-use mathlib.Core.Bool.{true}
-use mathlib.Core.List.{List, [], ◌∷◌}
-use borrow.Author.Tests.{ne_eqb}
-use lib.ListN.{length, take, drop, get_or, length-drop}
-use lib.Seq.{drop-cons, get_or-drop, get_or-take, length-take-le, take-take}
+-- Runs as fronts of a list, the number that digits write, and the first token.
+use Rattle.std.proofs.Common.{◌≡◌, ℕ, ◌+◌, ◌*◌, ◌-◌, ◌<◌, ◌≤◌, suc, Bool, true, false, cond, List, [], ◌∷◌, eqb, refl, sym, ap, ◌∙◌, arith, length, take, drop, get_or, ◌⊎◌, inl, inr}
+use mathlib.Core.Path.{ap₂}
+use lib.ListN.{length-drop}
+use lib.Seq.{drop-cons, get_or-drop, take_all}
+use Rattle.std.specs.List.{prefix_len, fold, slice_range}
 use Rattle.model.specs.Tokens.{blank, digit, letter, number_from}
 use Rattle.grammar.specs.Stream.{ends, token, sort_of, makes_runs, run_length, stream_at, place_in, bytes_in, rest_of}
-use Rattle.grammar.specs.Symbols.{keywords, no_more, s_number, number_among, symbol_in, symbol_of}
-use Rattle.grammar.proofs.StreamLaws.{run_more, run_none, run_stops, length_run, no_runs, runs_letter, runs_digit, number-capped}
-use Rattle.grammar.proofs.StreamLaws.{at_blanks, at_end, at_sign, at_run}
-use Rattle.scanner.specs.Scanned.{Scanned, bytes_from, symbol_at, start_of, end_of, ceiling, capped}
+use Rattle.grammar.specs.Symbols.{symbol_in, symbol_of}
+use Rattle.grammar.proofs.StreamLaws.{number-capped, run_more, run_stops, length_run, no_runs, runs_digit, runs_letter, at_blanks, at_end, at_sign, at_run}
+use Rattle.scanner.specs.declared.symbols.Symbol.{Symbol}
+use Rattle.scanner.specs.declared.symbols.Symbol.TheVariants.{NoMore}
+use Rattle.scanner.specs.Symbols.{named}
+use Rattle.scanner.specs.Scanned.{Scanned, capped, ceiling}
 
--- ---- parts
+-- a run is the longest front of its sort
+pub run-front : (sort : ℕ) (bs : List ℕ) → prefix_len (λ b. eqb (sort_of b) sort) bs ≡ run_length sort bs
+unfolding run_length
+run-front sort [] = refl
+run-front sort (b ∷ bs) = at (eqb (sort_of b) sort) (run-front sort bs) where
+  at : (t : Bool) → prefix_len (λ b. eqb (sort_of b) sort) bs ≡ run_length sort bs → cond t (1 + prefix_len (λ b. eqb (sort_of b) sort) bs) 0 ≡ cond t (suc (run_length sort bs)) 0
+  at true e = omega (arith, e)
+  at false e = refl
 
-pub part-inside : (n start size : ℕ) (bytes : List ℕ) → start + n ≤ size → take n (drop start (take size bytes)) ≡ take n (drop start bytes)
-part-inside n zero size bytes h = take-take n size bytes (omega arith)
-part-inside n (suc start) zero bytes h = absurd (omega arith)
-part-inside n (suc start) (suc size) [] h = refl
-part-inside n (suc start) (suc size) (x ∷ xs) h = part-inside n start size xs (omega arith)
-
-pub part-more : (bytes : List ℕ) (i end : ℕ) → i < end → end ≤ length bytes → bytes_from bytes i end ≡ get_or bytes i 0 ∷ bytes_from bytes (i + 1) end
-part-more bytes i end h k =
-    let one : end - i ≡ suc (end - (i + 1)) = omega arith in
-    rw (one, add-one i, drop-cons bytes i 0 (omega arith))
-
-pub part_none : (bytes : List ℕ) (i end : ℕ) → end ≤ i → bytes_from bytes i end ≡ []
-part_none bytes i end h = let none : end - i ≡ 0 = omega arith in rw none
-
--- ---- runs
-
-module _ (bytes : List ℕ) (size sort i whole : ℕ) (held : size ≤ length bytes) where
-  pub run_stop : (s : ℕ) → i < size → s ≡ sort_of (get_or bytes i 0) → ¬ (s ≡ sort) → i + run_length sort (drop i (take size bytes)) ≡ whole → i ≡ whole
-  run_stop s h e f k =
-      let text = take size bytes in
-      let long : length text ≡ size = length-take-le size bytes held in
-      omega (arith, run_none sort text i (omega (arith, long)) (λ q. f (e ∙ sym (ap sort_of (get_or-take size bytes i 0 h)) ∙ q)), k)
-
-  pub run_step : (s : ℕ) → i < size → s ≡ sort_of (get_or bytes i 0) → s ≡ sort → i + run_length sort (drop i (take size bytes)) ≡ whole
-      → i + 1 + run_length sort (drop (i + 1) (take size bytes)) ≡ whole
-  run_step s h e f k =
-      let text = take size bytes in
-      let long : length text ≡ size = length-take-le size bytes held in
-      rw (add-one i) (omega (arith, run_more sort text i (omega (arith, long)) (ap sort_of (get_or-take size bytes i 0 h) ∙ sym e ∙ f), k))
-
-  pub run_full : size ≤ i → i + run_length sort (drop i (take size bytes)) ≡ whole → i ≡ whole
-  run_full h k =
-      let text = take size bytes in
-      omega (arith, length_run sort (drop i text), length-drop i text, length-take-le size bytes held, k)
-
--- ---- numbers
-
-module _ (bytes : List ℕ) (v i end : ℕ) where
-  pub value_step : (d w whole : ℕ) → i < end → end ≤ length bytes → d ≡ get_or bytes i 0 - digit → w ≡ capped (v * 10 + d)
-      → capped (number_from v (bytes_from bytes i end)) ≡ whole → capped (number_from w (bytes_from bytes (i + 1) end)) ≡ whole
-  unfolding number_from
-  value_step d w whole h long e f k =
-      let ds = bytes_from bytes (i + 1) end in
-      let all : capped (number_from (v * 10 + (get_or bytes i 0 - digit)) ds) ≡ whole = rw (part-more bytes i end h long) at k in
-      ap (λ n. capped (number_from n ds)) (f ∙ ap (λ n. capped (v * 10 + n)) e) ∙ number-capped ceiling (v * 10 + (get_or bytes i 0 - digit)) ds ∙ all
-
-  pub value_done : (whole : ℕ) → end ≤ i → v ≤ ceiling → capped (number_from v (bytes_from bytes i end)) ≡ whole → v ≡ whole
-  unfolding number_from
-  value_done whole h small k =
-      let all : capped v ≡ whole = rw (part_none bytes i end h) at k in
-      omega (arith, all)
+-- digit by digit, with the ceiling after each
+pub value-folds : (v : ℕ) (bs : List ℕ) → v ≤ ceiling → fold (λ w b. capped (w * 10 + (b - digit))) v bs ≡ capped (number_from v bs)
+unfolding number_from
+value-folds v [] h = omega arith
+value-folds v (b ∷ bs) h = value-folds (capped (v * 10 + (b - digit))) bs (omega arith) ∙ number-capped ceiling (v * 10 + (b - digit)) bs
 
 -- ---- the first token
 
--- a token made of its parts is the first from a position on, if the parts are
-module _ (bytes : List ℕ) (size at t symbol start end : ℕ) (is : (symbol_at t ≡ symbol) × (start_of t ≡ start) × (end_of t ≡ end)) where
-  pub scanned : at ≤ start → start ≤ end → end ≤ size → (¬ (symbol ≡ no_more) → start < end) → symbol_in (stream_at (take size bytes) at) ≡ symbol
-      → place_in (stream_at (take size bytes) at) ≡ start + 1 → bytes_in (stream_at (take size bytes) at) ≡ bytes_from bytes start end
-      → rest_of (stream_at (take size bytes) at) ≡ stream_at (take size bytes) end → Scanned bytes size at t
-  scanned from upto within some symbol_is place_is bytes_are rest_is = record {
-    from = rw is.1 from;
-    upto = rw (is.1, is.2) upto;
-    end_within = rw is.2 within;
-    some = rw (is.0, is.1, is.2) some;
-    symbol_is = symbol_is ∙ sym is.0;
-    place_is = rw is.1 place_is;
-    bytes_are = rw (is.1, is.2) bytes_are;
-    rest_is = rw is.2 rest_is;
-  }
+pub runs-either : (s : ℕ) → (s ≡ digit) ⊎ (s ≡ letter) → makes_runs s ≡ true
+runs-either s (inl e) = ap makes_runs e ∙ runs_digit
+runs-either s (inr e) = ap makes_runs e ∙ runs_letter
 
-module _ (bytes : List ℕ) (size at start : ℕ) (held : size ≤ length bytes)
-    (blanks : start ≡ at + run_length blank (drop at (take size bytes))) (from : at ≤ start) where
-  abbrev text : List ℕ
-  text = take size bytes
+-- the bytes from a position on, as a part up to the end
+pub part-rest : (text : List ℕ) (at : ℕ) → slice_range text at (length text) ≡ drop at text
+part-rest text at = take_all (length text - at) (drop at text) (omega (arith, length-drop at text))
 
-  long : length text ≡ size
-  long = length-take-le size bytes held
-
+module _ (text : List ℕ) (at start : ℕ) (blanks : start ≡ at + run_length blank (drop at text)) (from : at ≤ start) where
   skipped : stream_at text at ≡ stream_at text start
   skipped = at_blanks text at ∙ ap (stream_at text) (sym blanks)
 
-  pub scanned_end : start ≡ size → (t : ℕ) → (symbol_at t ≡ no_more) × (start_of t ≡ start) × (end_of t ≡ start) → Scanned bytes size at t
-  scanned_end e t is =
-      let ended : stream_at text start ≡ ends (suc (length text)) = ap (stream_at text) (e ∙ sym long) ∙ at_end text in
+  pub scanned_end : start ≡ length text → Scanned text at (record { symbol = NoMore; start = start; end = start })
+  unfolding named
+  scanned_end e =
+      let ended : stream_at text start ≡ ends (suc (length text)) = ap (stream_at text) e ∙ at_end text in
       let all : stream_at text at ≡ ends (suc (length text)) = skipped ∙ ended in
-      scanned bytes size at t no_more start start is from (omega arith) (omega arith) (λ f. absurd (f refl)) (ap symbol_in all)
-      (ap place_in all ∙ omega (arith, long)) (ap bytes_in all ∙ sym (part_none bytes start start (omega arith))) (ap rest_of all ∙ sym ended)
+      let none : start - start ≡ 0 = omega arith in
+      record {
+        from = from;
+        skipped = skipped;
+        upto = omega arith;
+        end_within = omega arith;
+        some = λ f. absurd (f (ap symbol_in all));
+        symbol_is = sym (ap (λ ts. named (symbol_in ts)) all);
+        place_is = ap place_in all ∙ omega arith;
+        bytes_are = ap bytes_in all ∙ rw none refl;
+        rest_is = ap rest_of all ∙ sym ended;
+      }
 
-  module _ (s : ℕ) (within : start < size) (of-sort : s ≡ sort_of (get_or bytes start 0)) where
-    same_byte : get_or text start 0 ≡ get_or bytes start 0
-    same_byte = get_or-take size bytes start 0 within
-
+  module _ (s : ℕ) (within : start < length text) (of-sort : s ≡ sort_of (get_or text start 0)) where
     no_blank : ¬ (s ≡ blank)
     no_blank q =
         let k = run_length blank (drop at text) in
-        let e : get_or (drop at text) k 0 ≡ get_or bytes start 0 = get_or-drop at text k 0 ∙ ap (λ n. get_or text n 0) (sym blanks) ∙ same_byte in
-        run_stops blank (drop at text) (omega (arith, length-drop at text, long)) (ap sort_of e ∙ sym of-sort ∙ q)
+        let e : get_or (drop at text) k 0 ≡ get_or text start 0 = get_or-drop at text k 0 ∙ ap (λ n. get_or text n 0) (sym blanks) in
+        run_stops blank (drop at text) (omega (arith, length-drop at text)) (ap sort_of e ∙ sym of-sort ∙ q)
 
-    pub scanned_sign : ¬ (s ≡ letter) → ¬ (s ≡ digit) → (t : ℕ) → (symbol_at t ≡ 100 + s) × (start_of t ≡ start) × (end_of t ≡ start + 1)
-        → Scanned bytes size at t
-    unfolding symbol_of
-    scanned_sign f g t is =
-        let all : stream_at text at ≡ token (record { sort = s; place = suc start; bytes = get_or text start 0 ∷ [] }) (stream_at text (suc start))
-        = skipped ∙ at_sign text start s (omega (arith, long)) (ap sort_of same_byte ∙ sym of-sort) no_blank (no_runs s f g) in
-        let one : bytes_from bytes start (start + 1) ≡ get_or bytes start 0 ∷ []
-        = part-more bytes start (start + 1) (omega arith) (omega arith) ∙ ap (λ l. get_or bytes start 0 ∷ l) (part_none bytes (start + 1) (start + 1) (omega arith)) in
-        scanned bytes size at t (100 + s) start (start + 1) is from (omega arith) (omega arith) (λ _. omega arith) (ap symbol_in all ∙ rw (ne_eqb s letter f))
-        (ap place_in all ∙ sym (add-one start)) (ap bytes_in all ∙ rw same_byte (sym one)) (ap rest_of all ∙ ap (stream_at text) (sym (add-one start)))
+    -- a token of so many bytes, by the stream
+    module _ (size : ℕ) (first : stream_at text start ≡ token (record { sort = s; place = suc start; bytes = slice_range text start (start + size) }) (stream_at text (start + size))) where
+      scanned : (symbol : Symbol) → 0 < size → start + size ≤ length text
+          → symbol ≡ named (symbol_of (record { sort = s; place = 0; bytes = slice_range text start (start + size) }))
+          → Scanned text at (record { symbol = symbol; start = start; end = start + size })
+      unfolding symbol_of
+      scanned symbol some end_within e =
+          let all = skipped ∙ first in
+          record {
+            from = from;
+            skipped = skipped;
+            upto = omega arith;
+            end_within = end_within;
+            some = λ _. omega arith;
+            symbol_is = e ∙ sym (ap (λ ts. named (symbol_in ts)) all);
+            place_is = ap place_in all ∙ omega arith;
+            bytes_are = ap bytes_in all;
+            rest_is = ap rest_of all;
+          }
 
-    module _ (runs : makes_runs s ≡ true) (end : ℕ) (ended : end ≡ start + 1 + run_length s (drop (start + 1) text)) (end_within : end ≤ size) where
-      abbrev k : ℕ
-      k = run_length s (drop (suc start) text)
+    bytes_of : (n : ℕ) → get_or text start 0 ∷ take n (drop (suc start) text) ≡ slice_range text start (start + suc n)
+    bytes_of n =
+        let one : start + suc n - start ≡ suc n = omega arith in
+        rw (one, drop-cons text start 0 within) refl
 
-      end_is : end ≡ suc start + k
-      end_is = rw add-one at ended
+    pub scanned_sign : (symbol : Symbol) (size : ℕ) → ¬ (s ≡ letter) → ¬ (s ≡ digit) → size ≡ 1
+        → symbol ≡ named (symbol_of (record { sort = s; place = 0; bytes = slice_range text start (start + size) }))
+        → Scanned text at (record { symbol = symbol; start = start; end = start + size })
+    scanned_sign symbol size f g one e =
+        scanned size
+        (at_sign text start s within (sym of-sort) no_blank (no_runs s f g)
+        ∙ ap₂ (λ bs n. token (record { sort = s; place = suc start; bytes = bs }) (stream_at text n)) (bytes_of 0 ∙ ap (λ n. slice_range text start (start + n)) (sym one)) (omega arith))
+        symbol (omega arith) (omega arith) e
 
-      run_bytes : get_or text start 0 ∷ take k (drop (suc start) text) ≡ bytes_from bytes start end
-      run_bytes =
-          let one : end - start ≡ suc k = omega (arith, end_is) in
-          let part : take (end - start) (drop start text) ≡ get_or text start 0 ∷ take k (drop (suc start) text)
-          = rw (one, drop-cons text start 0 (omega (arith, long))) in
-          sym part ∙ part-inside (end - start) start size bytes (omega (arith, end_is))
-
-      first_run : stream_at text at ≡ token (record { sort = s; place = suc start; bytes = bytes_from bytes start end }) (stream_at text end)
-      first_run = skipped ∙ at_run text start s (omega (arith, long)) (ap sort_of same_byte ∙ sym of-sort) no_blank runs k refl
-          ∙ rw (run_bytes, sym end_is)
-
-      scanned_run : (symbol t : ℕ) → symbol_of (record { sort = s; place = suc start; bytes = bytes_from bytes start end }) ≡ symbol
-          → (symbol_at t ≡ symbol) × (start_of t ≡ start) × (end_of t ≡ end) → Scanned bytes size at t
-      scanned_run symbol t e is =
-          scanned bytes size at t symbol start end is from (omega (arith, end_is)) end_within (λ _. omega (arith, end_is)) (ap symbol_in first_run ∙ e)
-          (ap place_in first_run ∙ sym (add-one start)) (ap bytes_in first_run) (ap rest_of first_run)
-
-  -- a word, and a number
-  module _ (within : start < size) (end : ℕ) (end_within : end ≤ size) where
-    pub scanned_word : (symbol t : ℕ) → letter ≡ sort_of (get_or bytes start 0) → end ≡ start + 1 + run_length letter (drop (start + 1) text)
-        → symbol ≡ number_among 1 keywords (bytes_from bytes start end)
-        → (symbol_at t ≡ symbol) × (start_of t ≡ start) × (end_of t ≡ end) → Scanned bytes size at t
-    unfolding symbol_of
-    scanned_word symbol t s e is-symbol is = scanned_run letter within s runs_letter end e end_within symbol t (sym is-symbol) is
-
-    pub scanned_number : (t : ℕ) → digit ≡ sort_of (get_or bytes start 0) → end ≡ start + 1 + run_length digit (drop (start + 1) text)
-        → (symbol_at t ≡ s_number) × (start_of t ≡ start) × (end_of t ≡ end) → Scanned bytes size at t
-    unfolding symbol_of
-    scanned_number t s e is = scanned_run digit within s runs_digit end e end_within s_number t refl is
+    pub scanned_run : (symbol : Symbol) (size : ℕ) → makes_runs s ≡ true → size ≡ run_length s (drop start text)
+        → symbol ≡ named (symbol_of (record { sort = s; place = 0; bytes = slice_range text start (start + size) }))
+        → Scanned text at (record { symbol = symbol; start = start; end = start + size })
+    scanned_run symbol size runs is e =
+        let k = run_length s (drop (suc start) text) in
+        let more : size ≡ suc k = is ∙ run_more s text start within (sym of-sort) in
+        scanned size
+        (at_run text start s within (sym of-sort) no_blank runs k refl
+        ∙ ap₂ (λ bs n. token (record { sort = s; place = suc start; bytes = bs }) (stream_at text n)) (bytes_of k ∙ ap (λ n. slice_range text start (start + n)) (sym more)) (omega arith))
+        symbol (omega arith) (omega (arith, is, length_run s (drop start text), length-drop start text)) e

@@ -1,3 +1,3 @@
 -- What the scanner's contracts say.
-pub mod Words
+pub mod Symbols
 pub mod Scanned

@@ -1,143 +1,97 @@
-// The tokens of a text, one at a time, from a position in it. The text is the first `size` bytes of an array, and a token is one number: a reference to
-// an array and a number are passed in registers, a slice or a struct by a copy in the caller's frame, of which a parenthesis would take several.
+// The tokens of a text, one at a time, from a position in it.
 
 #![tactic(auto)]
 
 pub mod symbols;
 
-ghost use Rattle.std.specs.Prelude.{◌≡◌, ◌+◌, ◌-◌, ◌≤◌, ◌<◌, drop, take};
+ghost use Rattle.std.specs.Prelude.{◌≡◌, ◌+◌, ◌*◌, ◌-◌, ◌≤◌, length};
 ghost use Rattle.model.specs.Tokens.{number_from};
 ghost use Rattle.grammar.specs.Stream.{run_length, sort_of};
-ghost use Rattle.scanner.specs.Scanned.{Inside, Scanned, bytes_from, capped as capped_of, end_of, start_of, symbol_at};
+ghost use Rattle.grammar.specs.Symbols.{symbol_of};
+ghost use Rattle.scanner.specs.Symbols.{named};
+ghost use Rattle.scanner.specs.Scanned.{Scanned, capped};
 
-use symbols::{NO_MORE, NUMBER, SORTS};
+use symbols::Symbol;
 
-// A token is end + start × 2^12 + symbol × 2^32.
-const START_AT: u64 = 4096;
+// All numbers above 4,294,967,295 are the same to the reader.
+const CEILING: u64 = 4294967296;
 
-const SYMBOL_AT: u64 = 4294967296;
-
-const BLANK: u32 = 32;
-
-const DIGIT: u32 = 48;
-
-const LETTER: u32 = 97;
+// A token: what it is to the rules, and where its bytes begin and end.
+#[derive(Clone, Copy)]
+pub struct Token {
+    pub symbol: Symbol,
+    pub start: usize,
+    pub end: usize,
+}
 
 // Each small letter counts as `a`, each digit as `0`, any other byte as itself.
-fn sort_of(b: u8) -> u32
-    ensures value { result ≡ sort_of b }
-    ensures upper_bound { result < 256 }
+#[tactic(auto, using(std::proofs::lemmas::Bool::Decides::nat_tests), unfolding(grammar::specs::Stream::sort_of))]
+fn sort_of(b: u8) -> u8
+    ensures { result ≡ sort_of b }
 {
-    if b < 48 {
-        return b as u32;
+    match b {
+        b'0'..=b'9' => b'0',
+        b'a'..=b'z' => b'a',
+        _ => b,
     }
-    if b <= 57 {
-        return DIGIT;
-    }
-    if b < 97 {
-        return b as u32;
-    }
-    if b <= 122 {
-        return LETTER;
-    }
-    b as u32
 }
 
-// Where bytes of a sort end, from a position on.
-fn run_end(text: &[u8; 2048], size: usize, from: usize, sort: u32) -> usize
-    requires { Inside text.now size from }
-    ensures value { result ≡ from + run_length sort (drop from (take size text.now)) }
-    ensures lower_bound { (from ≤ result) × (result ≤ size) }
+// How many bytes of a sort come first.
+fn run_length(bytes: &[u8], sort: u8) -> usize
+    ensures value { result ≡ run_length sort bytes.now }
+    ensures within { result ≤ length bytes.now }
 {
-    let mut i = from;
-    while i < size {
-        let s = sort_of(text[i]);
-        if s != sort {
-            return i;
-        }
-        i += 1;
-    }
-    i
+    bytes.iter().take_while(|b| sort_of(**b) == sort).count()
 }
 
-// A token in one number.
-fn token(symbol: u32, start: usize, end: usize) -> u64
-    requires { (symbol < 1024) × (start ≤ 2048) × (end ≤ 2048) }
-    ensures { (symbol_at result ≡ symbol) × (start_of result ≡ start) × (end_of result ≡ end) }
+// The symbol of a token of this sort and these bytes.
+fn symbol_of(sort: u8, bytes: &[u8]) -> Symbol
+    ensures { result ≡ named (symbol_of (record { sort = sort; place = 0; bytes = bytes.now })) }
 {
-    end as u64 + start as u64 * START_AT + symbol as u64 * SYMBOL_AT
+    match sort {
+        b'a' => symbols::word_symbol(bytes),
+        b'0' => Symbol::Number,
+        b'"' => Symbol::Quote,
+        b'(' => Symbol::Opening,
+        b')' => Symbol::Closing,
+        _ => Symbol::OtherSign,
+    }
 }
 
 // The first token from a position on.
-pub fn token_at(text: &[u8; 2048], size: usize, at: u32) -> u64
-    requires { Inside text.now size at }
-    ensures { Scanned text.now size at result }
+pub fn token_at(text: &[u8], at: usize) -> Token
+    requires { at ≤ length text.now }
+    ensures { Scanned text.now at result }
 {
-    let start = run_end(text, size, at as usize, BLANK);
-    if start == size {
-        return token(NO_MORE, start, start);
+    let start = at + run_length(&text[at..], b' ');
+    if start == text.len() {
+        return Token {
+            symbol: Symbol::NoMore,
+            start,
+            end: start,
+        };
     }
     let sort = sort_of(text[start]);
-    if sort == LETTER {
-        let end = run_end(text, size, start + 1, LETTER);
-        return token(symbols::word_symbol(text, start, end), start, end);
-    }
-    if sort == DIGIT {
-        let end = run_end(text, size, start + 1, DIGIT);
-        return token(NUMBER, start, end);
-    }
-    token(SORTS + sort, start, start + 1)
+    let size = match sort {
+        b'a' | b'0' => run_length(&text[start..], sort),
+        _ => 1,
+    };
+    let end = start + size;
+    let symbol = symbol_of(sort, &text[start..end]);
+    Token { symbol, start, end }
 }
 
-pub fn symbol_of(token: u64) -> u32
-    ensures { result ≡ symbol_at token }
+// Ten times a number and a digit, with the same ceiling.
+fn next_value(v: u64, digit: u8) -> u64
+    ensures { result ≡ capped (v * 10 + (digit - 48)) }
 {
-    (token / SYMBOL_AT) as u32
+    let digit = u64::from(digit.saturating_sub(b'0'));
+    v.saturating_mul(10).saturating_add(digit).min(CEILING)
 }
 
-pub fn start_of(token: u64) -> u32
-    ensures { result ≡ start_of token }
+// The number that digits write, with the ceiling.
+pub fn value_of(digits: &[u8]) -> u64
+    ensures { result ≡ capped (number_from 0 digits.now) }
 {
-    (token / START_AT % START_AT) as u32
-}
-
-pub fn end_of(token: u64) -> u32
-    ensures { result ≡ end_of token }
-{
-    (token % START_AT) as u32
-}
-
-fn digit_of(b: u8) -> u64
-    ensures { (result ≡ b - 48) × (result < 256) }
-{
-    if b < 48 {
-        return 0;
-    }
-    (b - 48) as u64
-}
-
-// The number, and 4,294,967,296 for all above.
-fn capped(n: u64) -> u64
-    ensures { result ≡ capped_of n }
-{
-    if n < 4294967296 {
-        return n;
-    }
-    4294967296
-}
-
-// The number that a token's digits write, with that ceiling.
-pub fn value_of(text: &[u8; 2048], token: u64) -> u64
-    requires { Inside text.now (end_of token) (start_of token) }
-    ensures { result ≡ capped_of (number_from 0 (bytes_from text.now (start_of token) (end_of token))) }
-{
-    let end = end_of(token) as usize;
-    let mut i = start_of(token) as usize;
-    let mut v: u64 = 0;
-    while i < end {
-        let d = digit_of(text[i]);
-        v = capped(v * 10 + d);
-        i += 1;
-    }
-    v
+    digits.iter().fold(0u64, |v, b| next_value(v, *b))
 }

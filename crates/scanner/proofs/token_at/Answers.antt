@@ -1,27 +1,25 @@
 -- Blanks are passed; then the end, a run or one byte is the first token.
-use mathlib.Core.Path.{sym, ◌∙◌}
-use native.Mathlib.Omega.{arith}
-use Rattle.scanner.proofs.ScannerLaws.{scanned_end, scanned_word, scanned_number, scanned_sign}
-use Rattle.scanner.proofs.WordsLaws.{keyword_most}
-use borrow.Author.Rules.{rules}
+use Rattle.std.proofs.Common.{◌+◌, ◌<◌, ap, ◌∙◌, arith, length}
+use Rattle.model.specs.Tokens.{blank}
+use Rattle.grammar.specs.Stream.{run_length}
+use Rattle.scanner.proofs.ScannerLaws.{part-rest, runs-either, scanned_end, scanned_run, scanned_sign}
 use Rattle.scanner.proofs.token_at.Goals as goal
+use Rattle.scanner.proofs.token_at.Goals.{in-97, in_default}
 
-pub returns-then-start-size : goal.returns-then-start-size
-returns-then-start-size c = scanned_end _ _ _ _ c.requires.held c.run_end-start.ensures.value c.run_end-start.ensures.lower_bound.0 c.if-start-size.true _ c.token.ensures
-
-pub token-requires-then-sort-eq-LETTER : goal.token-requires-then-sort-eq-LETTER
-token-requires-then-sort-eq-LETTER c = (omega (arith, keyword_most _ _ c.word_symbol.ensures), search rules, search rules)
-
-pub returns-then-sort-eq-LETTER : goal.returns-then-sort-eq-LETTER
-returns-then-sort-eq-LETTER c =
-    scanned_word _ _ _ _ c.requires.held c.run_end-start.ensures.value c.run_end-start.ensures.lower_bound.0 (omega (arith, c.run_end-start.ensures.lower_bound.1, c.if-start-size.false)) _ c.run_end-end.ensures.lower_bound.1 _ _
-    (sym c.if-sort-eq-LETTER.true ∙ c.sort_of-sort.ensures.value) c.run_end-end.ensures.value c.word_symbol.ensures c.token-then-sort-eq-LETTER.ensures
-
-pub returns-then-sort-eq-DIGIT : goal.returns-then-sort-eq-DIGIT
-returns-then-sort-eq-DIGIT c =
-    scanned_number _ _ _ _ c.requires.held c.run_end-start.ensures.value c.run_end-start.ensures.lower_bound.0 (omega (arith, c.run_end-start.ensures.lower_bound.1, c.if-start-size.false)) _ c.run_end-end-then-sort-eq-DIGIT.ensures.lower_bound.1 _
-    (sym c.if-sort-eq-DIGIT.true ∙ c.sort_of-sort.ensures.value) c.run_end-end-then-sort-eq-DIGIT.ensures.value c.token-then-sort-eq-DIGIT.ensures
+pub returns-then-start-text : goal.returns-then-start-text
+returns-then-start-text c =
+    let blanks = ap (λ k. c.args.at + k) (c.run_length.ensures.value ∙ ap (run_length blank) (part-rest c.args.text.now c.args.at)) in
+    scanned_end _ _ _ blanks (omega arith) c.if-start-text.true
 
 pub returns : goal.returns
 returns c =
-    scanned_sign _ _ _ _ c.requires.held c.run_end-start.ensures.value c.run_end-start.ensures.lower_bound.0 _ (omega (arith, c.run_end-start.ensures.lower_bound.1, c.if-start-size.false)) c.sort_of-sort.ensures.value c.if-sort-eq-LETTER.false c.if-sort-eq-DIGIT.false _ c.token-2.ensures
+    let start = c.args.at + c.run_length.result in
+    let blanks = ap (λ k. c.args.at + k) (c.run_length.ensures.value ∙ ap (run_length blank) (part-rest c.args.text.now c.args.at)) in
+    let within : start < length c.args.text.now = omega (arith, c.run_length.ensures.within) in
+    elim c.match-sort.branch [
+      | in-97 w ↦
+          scanned_run _ _ start blanks (omega arith) c.sort_of-sort.result within c.sort_of-sort.ensures _ _ (runs-either _ w.in-97.is)
+          (w.size-is ∙ w.run_length-size.ensures.value ∙ ap (run_length c.sort_of-sort.result) (part-rest c.args.text.now start)) c.symbol_of-symbol.ensures
+      | in_default w ↦
+          scanned_sign _ _ start blanks (omega arith) c.sort_of-sort.result within c.sort_of-sort.ensures _ _ (λ e. grind arith) (λ e. grind arith) w.size-is c.symbol_of-symbol.ensures
+    ]
