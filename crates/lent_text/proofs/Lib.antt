@@ -1,1 +1,4 @@
-pub mod CopyLaws
+-- What the reader's proofs rest on.
+pub mod TokensLaws
+pub mod NumbersLaws
+pub mod WrittenLaws

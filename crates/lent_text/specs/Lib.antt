@@ -1,2 +1,3 @@
--- What the copy of a text is.
-pub mod Copied
+-- What the reader's contracts say.
+pub mod Written
+pub mod State

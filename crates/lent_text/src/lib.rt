@@ -1,55 +1,148 @@
-// "The reader goes over the lent text with a position in it": a struct that holds the text and a position. What a reader has left is copied into an
-// array, over which the rules go: a reference to an array costs a frame less than a slice. The functions over the struct are few and take it apart;
-// `text_of`, with plain parameters, is what callers use.
+// "The reader goes over the lent text with a position in it": a struct that holds the text, the token at the position, and the codes read before it. The
+// grammar's rules go over the text by its methods.
 
 #![tactic(auto)]
 
-ghost use Rattle.std.specs.Prelude.{◌≡◌, drop};
-ghost use Rattle.lent_text.specs.Copied.{copied};
+pub mod codes; // the codes, in numbers
 
-use model::MAX_TEXT;
+ghost use Rattle.std.specs.Prelude.{◌≡◌, ◌+◌, ◌^◌, ◌≤◌, ◌<◌, length, true, MatchResult};
+ghost use Rattle.std.specs.Bool.{MatchBool};
+ghost use Rattle.model.specs.declared.Reason.TheVariants.{UnexpectedToken};
+ghost use Rattle.model.specs.Limits.{max_text};
+ghost use Rattle.model.specs.Selection.{operand_of};
+ghost use Rattle.grammar.specs.Stream.{place_in, value_in};
+ghost use Rattle.grammar.specs.Symbols.{symbol_in};
+ghost use Rattle.scanner.specs.Scanned.{capped};
+ghost use Rattle.scanner.specs.Symbols.{is_token, named};
+ghost use Rattle.lent_text.specs.State.{Begins, Kept, Missed, Numbered, Passed, Pushed, Took, Unnumbered, left, stream_of};
 
-#[derive(Clone, Copy)]
+use codes::Codes;
+use model::{Code, Reason, Refusal};
+use scanner::Token;
+use scanner::symbols::Symbol;
+use std::marker::Model;
+
+#[derive(Drop)]
 pub struct Reader<'a> {
-    pub text: &'a [u8],
-    pub at: usize,
+    text: &'a [u8],
+    token: Token,
+    codes: Codes,
 }
 
-// The bytes of a text from a position on, in an array.
-pub fn copy_from(text: &[u8], at: usize) -> [u8; 2048]
-    ensures { result ≡ copied (drop at text.now) }
-{
-    let mut bytes = [0; 2048];
-    let mut i = 0;
-    let mut p = at;
-    while p < text.len() {
-        if i == MAX_TEXT {
-            return bytes;
+impl<'a> Model for Reader<'a> {
+    ghost use Rattle.lent_text.specs.State.{State, Held};
+
+    ghost Value = { State };
+
+    ghost view = { λ r. record { text = r.text.now; at = r.token.start; codes = r.codes } };
+
+    ghost invariant = { λ r. Held r.text.now r.token r.codes.count };
+}
+
+impl<'a> Reader<'a> {
+    // A reader at the start of a text.
+    pub fn over(text: &'a [u8]) -> Reader<'a>
+        requires { length text.now ≤ max_text }
+        ensures { Begins text.entry.now result }
+    {
+        Reader {
+            text,
+            token: scanner::token_at(text, 0),
+            codes: Codes::none(),
         }
-        bytes[i] = text[p];
-        i += 1;
-        p += 1;
     }
-    bytes
-}
 
-// A reader at the start of a text.
-pub fn reader_of<'a>(text: &'a [u8]) -> Reader<'a>
-    ensures { (result.text ≡ text.entry) × (result.at ≡ 0) }
-{
-    Reader { text, at: 0 }
-}
+    // The codes read.
+    pub fn codes(&self) -> &Codes
+        ensures { result.now ≡ self.now.codes }
+    {
+        &self.codes
+    }
 
-// What a reader has left.
-pub fn rest_of<'a>(reader: Reader<'a>) -> [u8; 2048]
-    ensures { result ≡ copied (drop reader.entry.at reader.entry.text.now) }
-{
-    copy_from(reader.text, reader.at)
-}
+    // The symbol of the token at the position.
+    pub fn symbol(&self) -> Symbol
+        ensures symbol { result ≡ named (symbol_in (stream_of self.now)) }
+        ensures few { self.now.codes.count + left self.now ≤ max_text }
+    {
+        self.token.symbol
+    }
 
-// The whole of a text, as its reader has it.
-pub fn text_of(text: &[u8]) -> [u8; 2048]
-    ensures { result ≡ copied text.now }
-{
-    rest_of(reader_of(text))
+    // The grammar doesn't allow that token.
+    pub fn unexpected(&self) -> Refusal
+        ensures { result ≡ record { reason = UnexpectedToken; place = place_in (stream_of self.now) } }
+    {
+        Refusal {
+            reason: Reason::UnexpectedToken,
+            place: self.token.start as u32 + 1,
+        }
+    }
+
+    // Goes to the next token. A call of its own, so that a parenthesis doesn't pay for what it keeps.
+    #[inline(never)]
+    pub fn pass(&mut self)
+        ensures passed { Passed self.old self.new }
+        ensures few { self.old.codes.count + left self.old ≤ max_text }
+    {
+        self.token = scanner::token_at(self.text, self.token.end);
+    }
+
+    // Passes a token of this symbol, if one is next.
+    pub fn takes(&mut self, symbol: Symbol) -> bool
+        requires { is_token symbol ≡ true }
+        ensures { MatchBool result (Took symbol self.old self.new) (Kept symbol self.old self.new) }
+    {
+        let is = self.symbol() == symbol;
+        if is {
+            self.pass();
+        }
+        is
+    }
+
+    // Passes a token of this symbol.
+    pub fn expect(&mut self, symbol: Symbol) -> Result<(), Refusal>
+        requires { is_token symbol ≡ true }
+        ensures { MatchResult result (λ _. Took symbol self.old self.new) (Missed symbol self.old) }
+    {
+        if self.takes(symbol) {
+            Ok(())
+        } else {
+            Err(self.unexpected())
+        }
+    }
+
+    // Writes a code.
+    pub fn push(&mut self, code: Code)
+        requires fits { operand_of code < 2 ^ 32 }
+        requires few { self.old.codes.count + left self.old < max_text }
+        ensures { Pushed code self.old self.new }
+    {
+        self.codes.push(code);
+    }
+
+    // The number that the token's bytes write, up to the ceiling.
+    #[tactic(auto, unfolding(grammar::specs::Stream::value_in))]
+    fn value(&self) -> u64
+        ensures { result ≡ capped (value_in (stream_of self.now)) }
+    {
+        scanner::value_of(&self.text[self.token.start..self.token.end])
+    }
+
+    // Reads a number of at most so much.
+    pub fn number(&mut self, most: u64) -> Result<u32, Refusal>
+        requires { most < 2 ^ 32 }
+        ensures { MatchResult result (λ v. Numbered most v self.old self.new) (λ r. Unnumbered most self.old r) }
+    {
+        if self.symbol() != Symbol::Number {
+            return Err(self.unexpected());
+        }
+        let value = self.value();
+        if value > most {
+            return Err(Refusal {
+                reason: Reason::OverLimit,
+                ..self.unexpected()
+            });
+        }
+        self.pass();
+        Ok(value as u32)
+    }
 }
