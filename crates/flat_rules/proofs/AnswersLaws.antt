@@ -1,39 +1,18 @@
 -- How answers go together: codes after codes, one rule after another, and what a token's symbol says of the rule that asks for it.
-use Prim.Native.Nat.{ℕ, ◌+◌, ◌*◌, ◌-◌, ◌≤◌, ◌<◌}
-use native.Mathlib.Omega.{arith}
-use mathlib.Core.Path.{◌≡◌, refl, sym, ap, ◌∙◌}
-use mathlib.Core.Bool.{Bool, true, false}
-use mathlib.Core.List.{List, [], ◌∷◌, ◌++◌, append-nil, flat_map}
-use borrow.Author.Tests.{ne_eqb, eq-eqb}
-use lib.Dec.{eqb}
-use lib.ListN.{length, take, length-append}
-use lib.Seq.{sets}
+use Rattle.std.proofs.Common.{◌≡◌, ℕ, ◌+◌, ◌<◌, ◌≤◌, List, [], ◌∷◌, ◌++◌, append-nil, sym, ap, ◌∙◌, refl, subst, arith, Ok, Err}
 use Rattle.model.specs.declared.Code.{Code}
-use Rattle.model.specs.Limits.{max_text}
-use Rattle.model.proofs.SetsLaws.{sets-append}
-use Rattle.grammar.specs.Stream.{Stream, stream_at}
-use Rattle.grammar.specs.Symbols.{no_more, symbol_in}
-use Rattle.grammar.specs.Grammar.{Outcome, failed, read, Rule, prefixed, ◌then◌, refused, expect, writes}
-use Rattle.scanner.specs.Scanned.{Scanned, start_of, end_of, symbol_at}
-use Rattle.flat_rules.specs.Steps.{Step, reached, stopped, has_failed, at_of, count_of, number_of, place_of, step_of}
-use Rattle.flat_rules.specs.Answers.{pair, pairs, Wrote, Ready, Further, ReadsTo, Says, Went, Answers}
-
--- ---- an answer in one number
-
-pub step_reached : (r : ℕ) → has_failed r ≡ false → step_of r ≡ reached (at_of r) (count_of r)
-unfolding step_of
-step_reached r h = rw h
-
-pub step_stopped : (r : ℕ) → has_failed r ≡ true → step_of r ≡ stopped (number_of r) (place_of r)
-unfolding step_of
-step_stopped r h = rw h
-
--- what the code reads of an answer
-pub step_read : (r : ℕ) {at count : ℕ} {f : Bool} → f ≡ has_failed r → f ≡ false → at ≡ at_of r → count ≡ count_of r → step_of r ≡ reached at count
-step_read r e h a c = rw (a, c) (step_reached r (sym e ∙ h))
-
-pub step_failed : (r : ℕ) {f : Bool} → f ≡ has_failed r → f ≡ true → step_of r ≡ stopped (number_of r) (place_of r)
-step_failed r e h = step_stopped r (sym e ∙ h)
+use Rattle.model.specs.declared.Refusal.{Refusal}
+use Rattle.model.specs.declared.Reason.{Reason}
+use Rattle.model.specs.declared.Reason.TheVariants.{UnexpectedToken}
+use Rattle.grammar.specs.Stream.{Stream, place_in, rest_of}
+use Rattle.grammar.specs.Grammar.{Outcome, failed, read, Rule, prefixed, ◌then◌, refused, writes}
+use Rattle.grammar.proofs.JoiningLaws.{prefixed-prefixed}
+use Rattle.scanner.specs.declared.symbols.Symbol.{Symbol}
+use Rattle.lent_text.specs.declared.codes.Codes.{Codes}
+use Rattle.lent_text.specs.State.{State, left, stream_of, Numbered, Pushed, Took}
+use Rattle.lent_text.specs.Written.{Written}
+use Rattle.lent_text.proofs.WrittenLaws.{written-append, written-none}
+use Rattle.flat_rules.specs.Answers.{Answer, Further, ReadsTo, Says, Went, Answers}
 
 -- ---- outcomes
 
@@ -46,7 +25,7 @@ pub then_read : {o : Outcome} {cs : List Code} {us : Stream} (r : Rule) → o �
 unfolding ◌then◌
 then_read r e = ap (λ x. x then r) e
 
-pub then_failed : {o : Outcome} {x y : ℕ} (r : Rule) → o ≡ failed x y → (o then r) ≡ failed x y
+pub then_failed : {o : Outcome} {x : Reason} {y : ℕ} (r : Rule) → o ≡ failed x y → (o then r) ≡ failed x y
 unfolding ◌then◌
 then_failed r e = ap (λ z. z then r) e
 
@@ -64,132 +43,135 @@ pub then_none : {o : Outcome} {cs : List Code} {us vs : Stream} (r : Rule) → o
 unfolding prefixed
 then_none {cs = cs} {vs = vs} r e f = then_read r e ∙ ap (prefixed cs) f ∙ ap (λ l. read l vs) (append-nil cs)
 
--- ---- writing
+-- ---- how far a rule has come
 
-pairs-append : (cs ds : List Code) → pairs (cs ++ ds) ≡ pairs cs ++ pairs ds
-unfolding pairs flat_map
-pairs-append [] ds = refl
-pairs-append (c ∷ cs) ds = ap (λ l. pair c ++ l) (pairs-append cs ds)
+-- what is read from s on is some codes, and then what is read from m on
+pub record Going (o o' : Outcome) (s m : State) : Type 0 where
+  pub codes : List Code
+  pub is : o ≡ prefixed codes o'
+  pub written : Written codes s.codes m.codes
 
-pub pairs-length : (cs : List Code) → length (pairs cs) ≡ length cs * 2
-unfolding pairs flat_map
-pairs-length [] = refl
-pairs-length (c ∷ cs) = omega (arith, pairs-length cs)
+-- from s on a rule is some codes, and then `rest` from m on
+pub record Front (rule : ℕ → Rule) (s m : State) (rest : ℕ → Rule) : Type 0 where
+  pub going : (n : ℕ) → left s ≤ n → Going (rule n (stream_of s)) (rest n (stream_of m)) s m
+  pub fewer : left m ≤ left s
+  pub few : m.codes.count + left m ≤ s.codes.count + left s
 
-pub wrote_none : (entry : List ℕ) (n : ℕ) → Wrote [] entry entry n n
-unfolding pairs flat_map
-wrote_none entry n = record { counted = omega arith; written = λ h. refl }
+-- .. no codes
+pub going-on : {o o' : Outcome} (s m : State) → o ≡ o' → m.codes ≡ s.codes → Going o o' s m
+going-on s m e q = record { codes = []; is = e ∙ sym (prefixed-none _); written = written-none q }
 
-stored : (cs ds : List Code) (l l' l'' : List ℕ) (n m : ℕ) → m ≡ n + length cs → l' ≡ sets l (n * 2) (pairs cs) → l'' ≡ sets l' (m * 2) (pairs ds)
-    → l'' ≡ sets l (n * 2) (pairs (cs ++ ds))
-stored cs ds l l' l'' n m e a b =
-    let at : m * 2 ≡ n * 2 + length (pairs cs) = omega (arith, pairs-length cs) in
-    b ∙ ap (λ k. sets l' k (pairs ds)) at ∙ ap (λ k. sets k (n * 2 + length (pairs cs)) (pairs ds)) a
-    ∙ sym (sets-append l (n * 2) (pairs cs) (pairs ds)) ∙ ap (sets l (n * 2)) (sym (pairs-append cs ds))
-
-pub wrote-append : {cs ds : List Code} {entry middle exit : List ℕ} {n m r : ℕ} → Wrote cs entry middle n m → Wrote ds middle exit m r → Wrote (cs ++ ds) entry exit n r
-wrote-append {cs} {ds} {entry} {middle} {exit} {n} {m} {r} a b = record {
-  counted = omega (arith, a.counted, b.counted, length-append cs ds);
-  written = λ h. stored cs ds entry middle exit n m a.counted (a.written (omega (arith, b.counted))) (b.written h);
+pub going-then : {o o' o'' : Outcome} {s m q : State} → Going o o' s m → Going o' o'' m q → Going o o'' s q
+going-then a b = record {
+  codes = a.codes ++ b.codes;
+  is = a.is ∙ ap (prefixed a.codes) b.is ∙ prefixed-prefixed a.codes b.codes _;
+  written = written-append a.written b.written;
 }
+
+pub front-on : {rule : ℕ → Rule} (s m : State) {rest : ℕ → Rule} → ((n : ℕ) → rule n (stream_of s) ≡ rest n (stream_of m)) → left m ≤ left s → m.codes ≡ s.codes → Front rule s m rest
+front-on s m e h q = record {
+  going = λ n l. going-on s m (e n) q;
+  fewer = h;
+  few = omega (arith, ap (λ (x : Codes). x.count) q);
+}
+
+pub answers-front : {rule rest : ℕ → Rule} {s m e : State} → Front rule s m rest → (r : Answer) → Answers rest m e r → Answers rule s e r
+unfolding Went Says prefixed
+answers-front f (Ok u) a = record {
+  went = record { fewer = omega (arith, a.went.fewer, f.fewer); few = omega (arith, a.went.few, f.few) };
+  says = λ n l. let g = f.going n l in let t = a.says n (omega (arith, f.fewer)) in
+      record { codes = g.codes ++ t.codes; is = g.is ∙ ap (prefixed g.codes) t.is; written = written-append g.written t.written };
+}
+answers-front f (Err x) a = record { went = tt; says = λ n l. let g = f.going n l in g.is ∙ ap (prefixed g.codes) (a.says n (omega (arith, f.fewer))) }
 
 -- ---- answers
 
--- a rule that goes on as another does after codes
-pub answers-prefixed : {rule rule' : ℕ → Rule} {bytes entry middle exit : List ℕ} {size at q count m : ℕ} (cs : List Code) (r : Step)
-    → ((n : ℕ) → size - at ≤ n → rule n (stream_at (take size bytes) at) ≡ prefixed cs (rule' n (stream_at (take size bytes) q)))
-    → Wrote cs entry middle count m → at ≤ q → m + at ≤ count + q
-    → Answers rule' bytes size q middle exit m r → Answers rule bytes size at entry exit count r
-unfolding prefixed Went Says
-answers-prefixed cs (reached p k) e w h f a = record {
-  went = record { on = omega (arith, a.went.on); end_within = a.went.end_within; few = omega (arith, a.went.few) };
-  says = λ n l. let s = a.says n (omega arith) in record { codes = cs ++ s.codes; is = e n l ∙ ap (prefixed cs) s.is; wrote = wrote-append w s.wrote };
-}
-answers-prefixed cs (stopped x y) e w h f a = record { went = tt; says = λ n l. e n l ∙ ap (prefixed cs) (a.says n (omega arith)) }
+pub answers-on : {rule rest : Rule} (s m : State) {e : State} {r : Answer} → rule (stream_of s) ≡ rest (stream_of m) → left m ≤ left s → m.codes ≡ s.codes
+    → Answers (λ _. rest) m e r → Answers (λ _. rule) s e r
+answers-on {rule} {rest} s m {r = r} e h q a = answers-front (front-on {rule = λ _. rule} s m {rest = λ _. rest} (λ n. e) h q) r a
 
--- .. after none
-pub answers-from : {rule rule' : ℕ → Rule} {bytes entry exit : List ℕ} {size at q count : ℕ} (r : Step)
-    → ((n : ℕ) → size - at ≤ n → rule n (stream_at (take size bytes) at) ≡ rule' n (stream_at (take size bytes) q)) → at ≤ q
-    → Answers rule' bytes size q entry exit count r → Answers rule bytes size at entry exit count r
-answers-from {entry = entry} {count = count} r e h a = answers-prefixed [] r (λ n l. e n l ∙ sym (prefixed-none _)) (wrote_none entry count) h (omega arith) a
+-- .. where nothing was passed
+pub answers-same : {rule rest : Rule} (s m : State) {e : State} {r : Answer} → m ≡ s → rule (stream_of s) ≡ rest (stream_of s) → Answers (λ _. rest) m e r → Answers (λ _. rule) s e r
+answers-same {rest = rest} s m q e a = answers-on s m (e ∙ ap (λ (x : State). rest (stream_of x)) (sym q)) (omega (arith, ap left q)) (ap (λ (x : State). x.codes) q) a
 
-module _ {rule : ℕ → Rule} {bytes entry exit : List ℕ} {size at count : ℕ} where
-  pub answers-failed : {x y : ℕ} → ((n : ℕ) → size - at ≤ n → rule n (stream_at (take size bytes) at) ≡ failed x y) → Answers rule bytes size at entry exit count (stopped x y)
+module _ {rule : ℕ → Rule} (s : State) {e : State} where
+  pub answers-failed : (r : Refusal) → ((n : ℕ) → left s ≤ n → rule n (stream_of s) ≡ failed r.reason r.place) → Answers rule s e (Err r)
   unfolding Went Says
-  answers-failed e = record { went = tt; says = e }
+  answers-failed r h = record { went = tt; says = h }
 
-  pub answers-read : {q m : ℕ} (cs : List Code) → Further size at count q m
-      → ((n : ℕ) → size - at ≤ n → rule n (stream_at (take size bytes) at) ≡ read cs (stream_at (take size bytes) q))
-      → Wrote cs entry exit count m → Answers rule bytes size at entry exit count (reached q m)
+  -- "10 where the grammar doesn't allow it"
+  pub answers-refused : (r : Refusal) → r ≡ record { reason = UnexpectedToken; place = place_in (stream_of s) } → ((n : ℕ) → rule n (stream_of s) ≡ refused (stream_of s))
+      → Answers rule s e (Err r)
+  answers-refused r q h = answers-failed r (λ n l. h n ∙ rw q refl)
+
+  -- a code after what was passed
+  code-after : (m : State) (c : Code) {u : Unit {0}} → left m < left s → m.codes ≡ s.codes → ((n : ℕ) → rule n (stream_of s) ≡ read (c ∷ []) (stream_of m)) → Pushed c m e
+      → Answers rule s e (Ok u)
   unfolding Went Says
-  answers-read cs f e w = record { went = f; says = λ n l. record { codes = cs; is = e n l; wrote = w } }
+  code-after m c f q h p =
+      let written : Written (c ∷ []) s.codes e.codes = subst (λ (x : Codes). Written (c ∷ []) x e.codes) q p.written in
+      record {
+        went = record { fewer = omega (arith, p.left_is); few = omega (arith, p.left_is, written.counted) };
+        says = λ n l. record { codes = c ∷ []; is = h n ∙ ap (read (c ∷ [])) (sym p.stream_is); written = written };
+      }
 
-  -- and back: where it read to, what it read, and the error
-  pub read_further : {q m : ℕ} → Answers rule bytes size at entry exit count (reached q m) → Further size at count q m
+  -- .. a token
+  pub answers-code : {symbol : Symbol} (m : State) (c : Code) {u : Unit {0}} → Took symbol s m → ((n : ℕ) → rule n (stream_of s) ≡ read (c ∷ []) (rest_of (stream_of s))) → Pushed c m e
+      → Answers rule s e (Ok u)
+  answers-code m c t h p = code-after m c t.fewer t.codes_are (λ n. h n ∙ ap (read (c ∷ [])) (sym t.rest_is)) p
+
+  -- .. a number
+  pub answers-number : {most v : ℕ} (m : State) (c : Code) {u : Unit {0}} → Numbered most v s m → ((n : ℕ) → rule n (stream_of s) ≡ read (c ∷ []) (stream_of m)) → Pushed c m e
+      → Answers rule s e (Ok u)
+  answers-number m c t h p = code-after m c t.fewer t.codes_are h p
+
+-- .. another rule after it
+pub answers-took : {rule rest : Rule} {symbol : Symbol} (s m : State) {e : State} {r : Answer} → Took symbol s m → rule (stream_of s) ≡ rest (rest_of (stream_of s))
+    → Answers (λ _. rest) m e r → Answers (λ _. rule) s e r
+answers-took {rest = rest} s m t e a = answers-on s m (e ∙ ap rest (sym t.rest_is)) (omega (arith, t.fewer)) t.codes_are a
+
+-- and back: how far a rule read, what it read, and the error
+module _ {rule : ℕ → Rule} {s e : State} where
+  pub read_further : {u : Unit {0}} → Answers rule s e (Ok u) → Further s e
   unfolding Went
   read_further a = a.went
 
-  pub read-codes : {q m : ℕ} → Answers rule bytes size at entry exit count (reached q m) → (n : ℕ) → size - at ≤ n
-      → ReadsTo (rule n (stream_at (take size bytes) at)) (take size bytes) entry exit count q m
+  pub read-codes : {u : Unit {0}} → Answers rule s e (Ok u) → (n : ℕ) → left s ≤ n → ReadsTo (rule n (stream_of s)) s e
   unfolding Says
   read-codes a = a.says
 
-  pub failed-is : {x y : ℕ} → Answers rule bytes size at entry exit count (stopped x y) → (n : ℕ) → size - at ≤ n → rule n (stream_at (take size bytes) at) ≡ failed x y
+  pub failed-is : {r : Refusal} → Answers rule s e (Err r) → (n : ℕ) → left s ≤ n → rule n (stream_of s) ≡ failed r.reason r.place
   unfolding Says
   failed-is a = a.says
 
-  -- an answer that is known by an equation
-  pub answers_as : {r s : Step} → r ≡ s → Answers rule bytes size at entry exit count s → Answers rule bytes size at entry exit count r
-  answers_as e a = rw e a
+-- ---- one rule, then another
 
-  pub answers-known : {r s : Step} → r ≡ s → Answers rule bytes size at entry exit count r → Answers rule bytes size at entry exit count s
-  answers-known e a = rw (sym e) a
+pub front-then : {a b c : ℕ → Rule} {s m q : State} → Front a s m b → Front b m q c → Front a s q c
+front-then f g = record {
+  going = λ n l. going-then (f.going n l) (g.going n (omega (arith, f.fewer)));
+  fewer = omega (arith, f.fewer, g.fewer);
+  few = omega (arith, f.few, g.few);
+}
 
--- ---- ready for what follows
+module _ (first next : ℕ → Rule) where
+  -- what was read goes on with the other
+  pub then-front : {s m : State} {u : Unit {0}} → Answers first s m (Ok u) → Front (λ n ts. first n ts then next n) s m next
+  then-front a =
+      let f = read_further a in
+      record {
+        going = λ n l. let t = read-codes a n l in record { codes = t.codes; is = then_read (next n) t.is; written = t.written };
+        fewer = omega (arith, f.fewer);
+        few = f.few;
+      }
 
-pub ready_next : {bytes : List ℕ} {size at count q m : ℕ} → Ready bytes size at count → Further size at count q m → Ready bytes size q m
-ready_next r f = record { inside = record { held = r.inside.held; short = r.inside.short; within = f.end_within }; few = omega (arith, r.few, f.on, f.few) }
-
--- the numbers fit
-pub at-short : {bytes : List ℕ} {size at count : ℕ} → Ready bytes size at count → at ≤ max_text
-at-short r = omega (arith, r.inside.short, r.inside.within)
-
-pub count-short : {bytes : List ℕ} {size at count : ℕ} → Ready bytes size at count → count ≤ max_text
-count-short r = omega (arith, r.inside.short, r.inside.within, r.few)
-
--- ---- the first token
-
-module _ {bytes : List ℕ} {size at t : ℕ} (s : Scanned bytes size at t) where
-  -- after a token
-  pub ready_after : {count end : ℕ} → Ready bytes size at count → end ≡ end_of t → Ready bytes size end count
-  ready_after r e = record {
-    inside = record { held = r.inside.held; short = r.inside.short; within = omega (arith, s.end_within) };
-    few = omega (arith, r.few, s.from, s.upto);
+  -- .. which may read nothing
+  pub then-ends : {s m : State} {u : Unit {0}} → Answers first s m (Ok u) → ((n : ℕ) → next n (stream_of m) ≡ read [] (stream_of m))
+      → Answers (λ n ts. first n ts then next n) s m (Ok u)
+  unfolding Went Says
+  then-ends a e = record {
+    went = read_further a;
+    says = λ n l. let t = read-codes a n l in record { codes = t.codes; is = then_none (next n) t.is (e n); written = t.written };
   }
 
-  pub start-short : {count : ℕ} → Ready bytes size at count → start_of t ≤ max_text
-  start-short r = omega (arith, r.inside.short, s.upto, s.end_within)
-
-  pub end_further : {end : ℕ} → end ≡ end_of t → at ≤ end
-  end_further e = omega (arith, s.from, s.upto)
-
-  -- "10 where the grammar doesn't allow it"
-  pub refused-here : refused (stream_at (take size bytes) at) ≡ failed 10 (start_of t + 1)
-  refused-here = ap (failed 10) s.place_is
-
-  module _ {symbol : ℕ} (e : symbol ≡ symbol_at t) where
-    pub symbol_here : symbol_in (stream_at (take size bytes) at) ≡ symbol
-    symbol_here = s.symbol_is ∙ sym e
-
-    pub symbol_yes : (k : ℕ) → symbol ≡ k → eqb (symbol_in (stream_at (take size bytes) at)) k ≡ true
-    symbol_yes k h = eq-eqb _ _ (symbol_here ∙ h)
-
-    pub symbol_no : (k : ℕ) → ¬ (symbol ≡ k) → eqb (symbol_in (stream_at (take size bytes) at)) k ≡ false
-    symbol_no k h = ne_eqb _ _ (λ q. h (sym symbol_here ∙ q))
-
-    pub some_further : {end : ℕ} → ¬ (symbol ≡ no_more) → end ≡ end_of t → at < end
-    some_further h q = omega (arith, s.from, s.some (λ z. h (e ∙ z)))
-
-    -- a token of another symbol than the one asked for
-    pub expect-failed : (k : ℕ) → ¬ (symbol ≡ k) → expect k (stream_at (take size bytes) at) ≡ failed 10 (start_of t + 1)
-    expect-failed k h = rw (symbol_no k h) refused-here
+  pub then-fails : {s e : State} {r : Refusal} → Answers first s e (Err r) → Answers (λ n ts. first n ts then next n) s e (Err r)
+  then-fails {s = s} {r = r} a = answers-failed s r (λ n l. then_failed (next n) (failed-is a n l))

@@ -1,143 +1,161 @@
 -- The rules of a filter by the first symbol, and the loop over filters.
-use Prim.Native.Nat.{ℕ, zero, suc, ◌-◌, ◌<◌}
-use native.Mathlib.Omega.{arith}
-use mathlib.Core.Path.{◌≡◌, refl, sym, ap, ◌∙◌}
-use mathlib.Core.Bool.{Bool, true, false, ◌&&◌}
-use mathlib.Core.List.{List, [], ◌∷◌, ◌++◌, append-nil}
-use borrow.Author.Tests.{ne_eqb, eq-eqb}
-use lib.Dec.{leb}
-use lib.ListN.{take}
-use Rattle.model.specs.declared.Code.{Code}
+use Rattle.std.proofs.Common.{◌≡◌, ℕ, zero, suc, ◌-◌, ◌<◌, Bool, true, false, ◌&&◌, not, eqb, leb, [], append-nil, sym, ap, ◌∙◌, refl, arith, Ok, Err}
+use Rattle.std.proofs.lemmas.Bool.{false≢true}
+use borrow.Author.Tests.{eqb-true, ne_eqb, leb-true}
 use Rattle.model.specs.declared.Code.TheVariants.{Filter as Filtered}
-use Rattle.model.specs.declared.Filter.TheVariants.{Ordered, Window, SameSentence, SameParagraph, DifferentSentence, DifferentParagraph, AtStart, AtEnd, EntireContent}
-use Rattle.grammar.specs.Stream.{Stream, rest_of, stream_at}
-use Rattle.grammar.specs.Symbols.{k_ordered, k_window, k_distance, k_same, k_different, k_at, k_entire, k_start, k_end, k_sentence, k_paragraph, k_content, k_words, symbol_in}
+use Rattle.model.specs.declared.Filter.TheVariants as filters_of
+use Rattle.model.specs.declared.Refusal.{Refusal}
+use Rattle.model.specs.declared.Reason.TheVariants.{UnexpectedToken}
+use Rattle.grammar.specs.Stream.{Stream, place_in}
+use Rattle.grammar.specs.Symbols.{k_ordered, k_entire, k_start, k_end, k_sentence, k_paragraph, k_content, k_words, symbol_in}
 use Rattle.grammar.specs.Grammar.{read, prefixed, ◌then◌, refused, coded, measured, distance, either, starts_filter, filter, filters}
-use Rattle.grammar.proofs.JoiningLaws.{prefixed-prefixed}
-use Rattle.flat_rules.specs.Steps.{Step, reached, stopped}
-use Rattle.flat_rules.specs.Answers.{Wrote, Ready, NoLess, Says, Answers, WentMany, AnswersMany}
-use Rattle.flat_rules.proofs.AnswersLaws.{prefixed-none, failed-is, read-codes, read_further, ready_next, then_failed, then_read, wrote-append, wrote_none}
+use Rattle.scanner.specs.declared.symbols.Symbol.{Symbol}
+use Rattle.scanner.specs.declared.symbols.Symbol.TheVariants as symbols
+use Rattle.scanner.specs.Symbols.{is_asked, named, number_of}
+use Rattle.scanner.proofs.SymbolsLaws.{named-number, number-named}
+use Rattle.lent_text.specs.State.{State, left, stream_of, Pushed, Took}
+use Rattle.flat_rules.specs.Answers.{Answer, Answers, AnswersMany, NoLess, Says, WentMany}
+use Rattle.flat_rules.proofs.AnswersLaws.{Going, answers-code, answers-refused, answers-took, failed-is, going-on, going-then, prefixed-none, read-codes, read_further, then_failed, then_read}
 
 -- ---- by a symbol
 
-module _ (j : ℕ) (c : Code) (k : ℕ) (d : Code) (ts : Stream) where
-  pub either_first : symbol_in ts ≡ j → either j c k d ts ≡ read (c ∷ []) (rest_of ts)
-  unfolding either
-  either_first h = rw (eq-eqb _ _ h)
-
-  pub either_second : {symbol : ℕ} → symbol_in ts ≡ symbol → ¬ (symbol ≡ j) → either j c k d ts ≡ coded k d ts
-  unfolding either
-  either_second h n = rw (ne_eqb _ _ (λ z. n (sym h ∙ z)))
-
-module _ (ts : Stream) where
-  pub filter-ordered : symbol_in ts ≡ k_ordered → filter ts ≡ read (Filtered Ordered ∷ []) (rest_of ts)
+module _ (s m : State) {e : State} where
+  pub filter-ordered : {u : Unit {0}} → Took symbols.Ordered s m → Pushed (Filtered filters_of.Ordered) m e → Answers (λ _. filter) s e (Ok u)
   unfolding filter
-  filter-ordered h = rw h
+  filter-ordered t p = answers-code s m (Filtered filters_of.Ordered) t (λ _. rw (eqb-true _ _ t.is) refl) p
 
-  pub filter-window : symbol_in ts ≡ k_window → filter ts ≡ measured k_words (λ n. Filtered (Window n)) (rest_of ts)
-  unfolding filter
-  filter-window h = rw h
+  module _ {r : Answer} where
+    pub filter-window : Took symbols.Window s m → Answers (λ _. measured k_words (λ n. Filtered (filters_of.Window n))) m e r → Answers (λ _. filter) s e r
+    unfolding filter
+    filter-window t a = answers-took {rest = measured k_words (λ n. Filtered (filters_of.Window n))} s m t (rw (eqb-true _ _ t.is) refl) a
 
-  pub filter-distance : symbol_in ts ≡ k_distance → filter ts ≡ distance (rest_of ts)
-  unfolding filter
-  filter-distance h = rw h
+    pub filter-distance : Took symbols.Distance s m → Answers (λ _. distance) m e r → Answers (λ _. filter) s e r
+    unfolding filter
+    filter-distance t a = answers-took {rest = distance} s m t (rw (eqb-true _ _ t.is) refl) a
 
-  pub filter_same : symbol_in ts ≡ k_same → filter ts ≡ either k_sentence (Filtered SameSentence) k_paragraph (Filtered SameParagraph) (rest_of ts)
-  unfolding filter
-  filter_same h = rw h
+    pub filter_same : Took symbols.Same s m → Answers (λ _. either k_sentence (Filtered filters_of.SameSentence) k_paragraph (Filtered filters_of.SameParagraph)) m e r → Answers (λ _. filter) s e r
+    unfolding filter
+    filter_same t a = answers-took {rest = either k_sentence (Filtered filters_of.SameSentence) k_paragraph (Filtered filters_of.SameParagraph)} s m t (rw (eqb-true _ _ t.is) refl) a
 
-  pub filter-different : symbol_in ts ≡ k_different → filter ts ≡ either k_sentence (Filtered DifferentSentence) k_paragraph (Filtered DifferentParagraph) (rest_of ts)
-  unfolding filter
-  filter-different h = rw h
+    pub filter-different : Took symbols.Different s m → Answers (λ _. either k_sentence (Filtered filters_of.DifferentSentence) k_paragraph (Filtered filters_of.DifferentParagraph)) m e r
+        → Answers (λ _. filter) s e r
+    unfolding filter
+    filter-different t a = answers-took {rest = either k_sentence (Filtered filters_of.DifferentSentence) k_paragraph (Filtered filters_of.DifferentParagraph)} s m t (rw (eqb-true _ _ t.is) refl) a
 
-  pub filter-at : symbol_in ts ≡ k_at → filter ts ≡ either k_start (Filtered AtStart) k_end (Filtered AtEnd) (rest_of ts)
-  unfolding filter
-  filter-at h = rw h
+    pub filter-at : Took symbols.At s m → Answers (λ _. either k_start (Filtered filters_of.AtStart) k_end (Filtered filters_of.AtEnd)) m e r → Answers (λ _. filter) s e r
+    unfolding filter
+    filter-at t a = answers-took {rest = either k_start (Filtered filters_of.AtStart) k_end (Filtered filters_of.AtEnd)} s m t (rw (eqb-true _ _ t.is) refl) a
 
-  pub filter_entire : symbol_in ts ≡ k_entire → filter ts ≡ coded k_content (Filtered EntireContent) (rest_of ts)
+    pub filter_entire : Took symbols.Entire s m → Answers (λ _. coded k_content (Filtered filters_of.EntireContent)) m e r → Answers (λ _. filter) s e r
+    unfolding filter ◌then◌
+    filter_entire t a = answers-took {rest = coded k_content (Filtered filters_of.EntireContent)} s m t (rw (eqb-true _ _ t.is) (prefixed-none _)) a
+
+-- ---- no filter
+
+zero-of : (n : ℕ) → not (eqb n 0) ≡ false → n ≡ 0
+zero-of n h = at (eqb n 0) refl h where
+  at : (b : Bool) → eqb n 0 ≡ b → not b ≡ false → n ≡ 0
+  at true e h = eqb-true n 0 e
+  at false e h = absurd (false≢true (sym h))
+
+outside : (n : ℕ) → ¬ (n ≡ 6) → ¬ (n ≡ 7) → ¬ (n ≡ 8) → ¬ (n ≡ 9) → ¬ (n ≡ 10) → ¬ (n ≡ 11) → ¬ (n ≡ 12) → (leb k_ordered n && leb n k_entire) ≡ false
+outside n a b c d e f g = at (leb k_ordered n) (leb n k_entire) refl refl where
+  at : (x y : Bool) → leb k_ordered n ≡ x → leb n k_entire ≡ y → (x && y) ≡ false
+  at false y h k = refl
+  at true false h k = refl
+  at true true h k = absurd (omega (arith, leb-true k_ordered n h, leb-true n k_entire k))
+
+module _ (ts : Stream) {r : Symbol} (is : r ≡ named (symbol_in ts)) where
+  -- a symbol that isn't the one of a number
+  other : (s : Symbol) → is_asked s ≡ true → ¬ (r ≡ s) → eqb (symbol_in ts) (number_of s) ≡ false
+  other s known apart = ne_eqb _ _ (λ e. apart (is ∙ ap named e ∙ number-named s known))
+
+  filter_other : ¬ (r ≡ symbols.Ordered) → ¬ (r ≡ symbols.Window) → ¬ (r ≡ symbols.Distance) → ¬ (r ≡ symbols.Same) → ¬ (r ≡ symbols.Different) → ¬ (r ≡ symbols.At) → ¬ (r ≡ symbols.Entire) → filter ts ≡ refused ts
   unfolding filter ◌then◌
-  filter_entire h = rw h (prefixed-none _)
+  filter_other a b c d e f g =
+      rw (other symbols.Ordered refl a, other symbols.Window refl b, other symbols.Distance refl c, other symbols.Same refl d, other symbols.Different refl e, other symbols.At refl f, other symbols.Entire refl g) refl
 
-  -- any other symbol
-  pub filter_none : {symbol : ℕ} → symbol_in ts ≡ symbol → ¬ (symbol ≡ k_ordered) → ¬ (symbol ≡ k_window) → ¬ (symbol ≡ k_distance) → ¬ (symbol ≡ k_same)
-      → ¬ (symbol ≡ k_different) → ¬ (symbol ≡ k_at) → ¬ (symbol ≡ k_entire) → filter ts ≡ refused ts
-  unfolding filter ◌then◌
-  filter_none h a b c d e f g = rw (h, ne_eqb _ _ a, ne_eqb _ _ b, ne_eqb _ _ c, ne_eqb _ _ d, ne_eqb _ _ e, ne_eqb _ _ f, ne_eqb _ _ g)
+  -- is it between those that begin a filter?
+  pub starts-here : {b : Bool} → b ≡ (leb k_ordered (number_of r) && leb (number_of r) k_entire) → starts_filter ts ≡ b
+  unfolding starts_filter
+  starts-here e = sym (e ∙ at (is_asked r) refl) where
+    at : (t : Bool) → is_asked r ≡ t → (leb k_ordered (number_of r) && leb (number_of r) k_entire) ≡ (leb k_ordered (symbol_in ts) && leb (symbol_in ts) k_entire)
+    at true h = ap (λ n. leb k_ordered n && leb n k_entire) (sym (named-number _ r is h))
+    at false h =
+        let none : number_of r ≡ 0 = zero-of _ h in
+        let apart : (s : Symbol) → is_asked s ≡ true → ¬ (symbol_in ts ≡ number_of s) = λ s known e. false≢true (sym h ∙ ap is_asked (is ∙ ap named e ∙ number-named s known) ∙ known) in
+        rw none (sym (outside (symbol_in ts) (apart symbols.Ordered refl) (apart symbols.Window refl) (apart symbols.Distance refl) (apart symbols.Same refl) (apart symbols.Different refl) (apart symbols.At refl) (apart symbols.Entire refl)))
+
+pub filter_none : (s : State) {e : State} {r : Symbol} (x : Refusal) → r ≡ named (symbol_in (stream_of s)) → ¬ (r ≡ symbols.Ordered) → ¬ (r ≡ symbols.Window) → ¬ (r ≡ symbols.Distance) → ¬ (r ≡ symbols.Same) → ¬ (r ≡ symbols.Different) → ¬ (r ≡ symbols.At) → ¬ (r ≡ symbols.Entire)
+    → x ≡ record { reason = UnexpectedToken; place = place_in (stream_of s) } → Answers (λ _. filter) s e (Err x)
+filter_none s x is a b c d e f g q = answers-refused s x q (λ _. filter_other (stream_of s) is a b c d e f g)
 
 -- ---- filters: a loop, from where it begins to where it is
 
-pub record Filtering (bytes : List ℕ) (size at : ℕ) (entry exit : List ℕ) (count p m k : ℕ) : Type 0 where
+pub record Filtering (s m : State) (k : ℕ) : Type 0 where
   pub fuel : ℕ
-  pub enough : size - p < fuel
-  pub codes : List Code
-  pub is : filters k (stream_at (take size bytes) at) ≡ prefixed codes (filters fuel (stream_at (take size bytes) p))
-  pub wrote : Wrote codes entry exit count m
+  pub enough : left m < fuel
+  pub going : Going (filters k (stream_of s)) (filters fuel (stream_of m)) s m
 
-pub record Filters (bytes : List ℕ) (size at : ℕ) (entry exit : List ℕ) (count p m : ℕ) : Type 0 where
-  pub ready : Ready bytes size p m
-  pub passed : NoLess size at count p m
-  pub going : (k : ℕ) → size - at < k → Filtering bytes size at entry exit count p m k
+pub record Filters (s m : State) : Type 0 where
+  pub passed : NoLess s m
+  pub going : (k : ℕ) → left s < k → Filtering s m k
+
+pub filters_start : (s : State) → Filters s s
+filters_start s = record {
+  passed = record { fewer = omega arith; few = omega arith };
+  going = λ k h. record { fuel = k; enough = h; going = going-on s s refl refl };
+}
 
 filters-none : (f : ℕ) (ts : Stream) → starts_filter ts ≡ false → filters f ts ≡ read [] ts
 unfolding filters
 filters-none zero ts h = refl
-filters-none (suc f) ts h = rw h
+filters-none (suc f) ts h = rw h refl
 
-filters-some : (f : ℕ) (ts : Stream) → starts_filter ts ≡ true → filters (suc f) ts ≡ (filter ts then filters f)
+filters-more : (f : ℕ) (ts : Stream) → starts_filter ts ≡ true → filters (suc f) ts ≡ (filter ts then filters f)
 unfolding filters
-filters-some f ts h = rw h
+filters-more f ts h = rw h refl
 
-pub filters-start : {bytes entry : List ℕ} {size at count : ℕ} → Ready bytes size at count → Filters bytes size at entry entry count at count
-filters-start {entry = entry} {count = count} r = record {
-  ready = r;
-  passed = record { on = omega arith; end_within = r.inside.within; few = omega arith };
-  going = λ k h. record { fuel = k; enough = h; codes = []; is = sym (prefixed-none _); wrote = wrote_none entry count };
-}
+filters-some : (f : ℕ) (ts : Stream) → starts_filter ts ≡ true → 0 < f → filters f ts ≡ (filter ts then filters (f - 1))
+filters-some f ts h l = let one : f ≡ suc (f - 1) = omega arith in ap (λ k. filters k ts) one ∙ filters-more (f - 1) ts h
 
--- the test of the first symbol
-pub starts-here : (ts : Stream) {symbol : ℕ} {f b : Bool} → symbol_in ts ≡ symbol → f ≡ (leb k_ordered symbol && leb symbol k_entire) → f ≡ b → starts_filter ts ≡ b
-unfolding starts_filter
-starts-here ts h e g = rw h (sym e ∙ g)
-
-module _ {bytes entry exit : List ℕ} {size at count p m : ℕ} (t : Filters bytes size at entry exit count p m) where
-  pub filters_stop : {r : Step} → starts_filter (stream_at (take size bytes) p) ≡ false → r ≡ reached p m → AnswersMany filters bytes size at entry exit count r
+module _ {s m : State} (t : Filters s m) where
+  pub filters_stop : {u : Unit {0}} → starts_filter (stream_of m) ≡ false → AnswersMany filters s m (Ok u)
   unfolding WentMany Says prefixed
-  filters_stop h e = rw e (record {
+  filters_stop h = record {
     went = t.passed;
-    says = λ k l. let g = t.going k l in record {
+    says = λ k l. let f = t.going k l in let g = f.going in record {
       codes = g.codes;
-      wrote = g.wrote;
-      is = g.is ∙ ap (prefixed g.codes) (filters-none g.fuel (stream_at (take size bytes) p) h) ∙ ap (λ c. read c (stream_at (take size bytes) p)) (append-nil g.codes);
+      written = g.written;
+      is = g.is ∙ ap (prefixed g.codes) (filters-none f.fuel (stream_of m) h) ∙ ap (λ c. read c (stream_of m)) (append-nil g.codes);
     };
-  })
+  }
 
-  module _ (h : starts_filter (stream_at (take size bytes) p) ≡ true) where
-    filter-first : (f : ℕ) → size - p < f → filters f (stream_at (take size bytes) p) ≡ (filter (stream_at (take size bytes) p) then filters (f - 1))
-    filter-first f l = let one : f ≡ suc (f - 1) = omega arith in ap (λ k. filters k (stream_at (take size bytes) p)) one ∙ filters-some (f - 1) (stream_at (take size bytes) p) h
-
-    pub filters_fail : {exit' : List ℕ} {x y : ℕ} {r : Step} → r ≡ stopped x y → Answers (λ _. filter) bytes size p exit exit' m r → AnswersMany filters bytes size at entry exit' count r
+  module _ (h : starts_filter (stream_of m) ≡ true) where
+    pub filters_fail : {e : State} {r : Refusal} → Answers (λ _. filter) m e (Err r) → AnswersMany filters s e (Err r)
     unfolding WentMany Says prefixed
-    filters_fail e a = rw e (let b = rw e at a in record {
+    filters_fail a = record {
       went = tt;
-      says = λ k l. let g = t.going k l in
-          g.is ∙ ap (prefixed g.codes) (filter-first g.fuel g.enough ∙ then_failed (filters (g.fuel - 1)) (failed-is b size (omega arith)));
-    })
+      says = λ k l. let f = t.going k l in let g = f.going in
+          g.is ∙ ap (prefixed g.codes) (filters-some f.fuel (stream_of m) h (omega (arith, f.enough)) ∙ then_failed (filters (f.fuel - 1)) (failed-is a (left m) (omega arith)));
+    }
 
-    pub filters_step : {exit' : List ℕ} {q j : ℕ} {r : Step} → r ≡ reached q j → Answers (λ _. filter) bytes size p exit exit' m r → Filters bytes size at entry exit' count q j
-    filters_step {q = q} e a =
-        let b = rw e at a in
-        let f = read_further b in
+    pub filters_step : {q : State} {u : Unit {0}} → Answers (λ _. filter) m q (Ok u) → Filters s q
+    filters_step {q} a =
+        let b = read_further a in
         record {
-          ready = ready_next t.ready f;
-          passed = record { on = omega (arith, t.passed.on, f.on); end_within = f.end_within; few = omega (arith, t.passed.few, f.few) };
+          passed = record { fewer = omega (arith, t.passed.fewer, b.fewer); few = omega (arith, t.passed.few, b.few) };
           going = λ k l.
-              let g = t.going k l in
-              let s = read-codes b size (omega arith) in
+              let f = t.going k l in
+              let x = read-codes a (left m) (omega arith) in
+              let step : Going (filters f.fuel (stream_of m)) (filters (f.fuel - 1) (stream_of q)) m q = record {
+                codes = x.codes;
+                is = filters-some f.fuel (stream_of m) h (omega (arith, f.enough)) ∙ then_read (filters (f.fuel - 1)) x.is;
+                written = x.written;
+              } in
               record {
-                fuel = g.fuel - 1;
-                enough = omega (arith, g.enough, f.on, f.end_within);
-                codes = g.codes ++ s.codes;
-                is = g.is ∙ ap (prefixed g.codes) (filter-first g.fuel g.enough ∙ then_read (filters (g.fuel - 1)) s.is) ∙ prefixed-prefixed g.codes s.codes _;
-                wrote = wrote-append g.wrote s.wrote;
+                fuel = f.fuel - 1;
+                enough = omega (arith, f.enough, b.fewer);
+                going = going-then f.going step;
               };
         }

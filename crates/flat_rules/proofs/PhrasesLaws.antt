@@ -1,148 +1,115 @@
--- The words of a phrase: how its rule goes by the first token, and the loop over the words. Then its times, by the token after them.
-use Prim.Native.Nat.{ℕ, zero, suc, ◌+◌, ◌-◌, ◌≤◌, ◌<◌}
-use native.Mathlib.Omega.{arith}
-use mathlib.Core.Path.{◌≡◌, refl, sym, ap, ◌∙◌}
-use mathlib.Core.Bool.{Bool, true, false, ◌&&◌, not}
-use mathlib.Core.Logic.{◌⊎◌, ⊎_elim}
-use mathlib.Core.List.{List, [], ◌∷◌, ◌++◌}
+-- The words of a phrase: how their rule goes by the first token, and the loop over them. Then its times, by the token after them.
+use Rattle.std.proofs.Common.{◌≡◌, ℕ, zero, suc, ◌+◌, ◌-◌, ◌<◌, ◌≤◌, Bool, true, false, ◌&&◌, not, cond, eqb, leb, [], ◌∷◌, sym, ap, ◌∙◌, refl, arith, Ok, Err}
 use borrow.Author.Tests.{ne_eqb}
-use lib.Dec.{eqb}
-use lib.ListN.{take}
-use Rattle.model.specs.declared.Code.{Code}
 use Rattle.model.specs.declared.Code.TheVariants.{Word, Phrase}
+use Rattle.model.specs.declared.Refusal.{Refusal}
+use Rattle.model.specs.declared.Reason.TheVariants.{OverLimit}
 use Rattle.model.specs.Limits.{max_words, max_word}
-use Rattle.model.specs.Tokens.{number_from}
-use Rattle.grammar.specs.Stream.{Stream, place_in, rest_of, value_in, stream_at}
-use Rattle.grammar.specs.Symbols.{k_occurs, s_number, s_quote, symbol_in}
-use Rattle.grammar.specs.Grammar.{failed, read, Rule, prefixed, ◌then◌, refused, number, times, words, any_times, phrase}
-use Rattle.grammar.proofs.JoiningLaws.{prefixed-prefixed}
-use Rattle.scanner.specs.Scanned.{Scanned, bytes_from, capped, start_of, end_of, symbol_at}
-use Rattle.flat_rules.specs.Steps.{Step, reached, stopped}
-use Rattle.flat_rules.specs.Answers.{Wrote, Ready, NoLess, Answers}
-use Rattle.flat_rules.proofs.AnswersLaws.{answers_as, answers-failed, answers-known, answers-prefixed, answers-read, end_further, failed-is, prefixed-none, read-codes, read_further, ready_after, ready_next, some_further, symbol_here, then_failed, then_none, then_read, wrote-append, wrote_none}
-use Rattle.flat_rules.proofs.TokensLaws.{number-none, number-over, number_read, rest-here, value_here}
+use Rattle.grammar.specs.Stream.{Stream, place_in, rest_of, value_in}
+use Rattle.grammar.specs.Symbols.{s_number, s_quote, symbol_in}
+use Rattle.grammar.specs.Grammar.{failed, read, Rule, prefixed, ◌then◌, refused, number, coded, times, words, any_times, phrase}
+use Rattle.scanner.specs.declared.symbols.Symbol.TheVariants.{Occurs, Quote}
+use Rattle.lent_text.specs.State.{State, left, stream_of, Kept, Numbered, Pushed, Took, Unnumbered}
+use Rattle.flat_rules.specs.Answers.{Answer, Answers, one_word}
+use Rattle.flat_rules.proofs.AnswersLaws.{Front, answers-code, answers-failed, answers-number, answers-front, answers-on, answers-took, front-on, front-then, then-ends, then-fails, then-front}
 
 -- ---- the rule by its first token
 
--- after a word
-unfoldable next_word : ℕ → ℕ → ℕ → Rule
-next_word left k v rest = read (Word v ∷ []) rest then words left (k + 1)
-
-pub words_closed : (left k : ℕ) (ts : Stream) → symbol_in ts ≡ s_quote → ¬ (k ≡ 0) → words left k ts ≡ read (Phrase k ∷ []) (rest_of ts)
-unfolding words
-words_closed zero k ts h n = rw (h, ne_eqb k 0 n)
-words_closed (suc left) k ts h n = rw (h, ne_eqb k 0 n)
+number-then : (most : ℕ) (f : ℕ → Rule) (r : Rule) (ts : Stream) → number most (λ v rest. f v rest then r) ts ≡ (number most f ts then r)
+unfolding ◌then◌
+number-then most f r ts = at (eqb (symbol_in ts) s_number) (leb (value_in ts) most) where
+  at : (a b : Bool) → cond a (cond b (f (value_in ts) (rest_of ts) then r) (failed OverLimit (place_in ts))) (refused ts)
+      ≡ (cond a (cond b (f (value_in ts) (rest_of ts)) (failed OverLimit (place_in ts))) (refused ts) then r)
+  at true true = refl
+  at true false = refl
+  at false b = refl
 
 -- no quote closes the phrase: there is none, or it has no words yet
-module _ (k : ℕ) (ts : Stream) {symbol : ℕ} (h : symbol_in ts ≡ symbol) (o : ¬ (symbol ≡ s_quote) ⊎ (k ≡ 0)) where
-  unclosed : (eqb (symbol_in ts) s_quote && not (eqb k 0)) ≡ false
-  unclosed = ⊎_elim (λ n. rw (ne_eqb (symbol_in ts) s_quote (λ z. n (sym h ∙ z)))) (λ z. rw z (neither (eqb (symbol_in ts) s_quote))) o where
-    neither : (b : Bool) → (b && false) ≡ false
-    neither true = refl
-    neither false = refl
+words-more : (more k : ℕ) (ts : Stream) → (eqb (symbol_in ts) s_quote && not (eqb k 0)) ≡ false → words (suc more) k ts ≡ (one_word ts then words more (k + 1))
+unfolding words one_word
+words-more more k ts h = rw h (number-then max_word (λ v rest. read (Word v ∷ []) rest) (words more (k + 1)) ts)
 
-  pub words_full : k ≡ max_words → words (max_words - k) k ts ≡ refused ts
-  unfolding words
-  words_full e = let none : max_words - k ≡ 0 = omega arith in rw (none, unclosed)
+words-closed : (more k : ℕ) (ts : Stream) → eqb (symbol_in ts) s_quote ≡ true → ¬ (k ≡ 0) → words more k ts ≡ read (Phrase k ∷ []) (rest_of ts)
+unfolding words
+words-closed zero k ts h n = rw (h, ne_eqb k 0 n) refl
+words-closed (suc more) k ts h n = rw (h, ne_eqb k 0 n) refl
 
-  module _ (f : k ≤ max_words) (n : ¬ (k ≡ max_words)) where
-    words_more : words (max_words - k) k ts ≡ number max_word (next_word (max_words - (k + 1)) k) ts
-    unfolding words next_word
-    words_more = let some : max_words - k ≡ suc (max_words - (k + 1)) = omega arith in rw (some, unclosed)
+words-full : (ts : Stream) → words 0 max_words ts ≡ coded s_quote (Phrase max_words) ts
+unfolding words coded ◌then◌ prefixed
+words-full ts = at (eqb (symbol_in ts) s_quote) where
+  at : (b : Bool) → cond (b && true) (read (Phrase max_words ∷ []) (rest_of ts)) (refused ts) ≡ (cond b (read [] (rest_of ts)) (refused ts) then (λ us. read (Phrase max_words ∷ []) us))
+  at true = refl
+  at false = refl
 
-    pub words-none : ¬ (symbol ≡ s_number) → words (max_words - k) k ts ≡ refused ts
-    words-none m = words_more ∙ number-none max_word (next_word (max_words - (k + 1)) k) ts h m
+-- ---- one word, and the loop over them
 
-    module _ {v : ℕ} (w : v ≡ capped (value_in ts)) (m : symbol ≡ s_number) where
-      pub words-over : max_word < v → words (max_words - k) k ts ≡ failed 11 (place_in ts)
-      words-over l = words_more ∙ number-over max_word (next_word (max_words - (k + 1)) k) ts h w m l
+pub word-read : (s m : State) {e : State} {v : ℕ} {u : Unit {0}} → Numbered max_word v s m → Pushed (Word v) m e → Answers (λ _. one_word) s e (Ok u)
+unfolding one_word
+word-read s m {v = v} n p = answers-number s m (Word v) n (λ _. n.is (λ v rest. read (Word v ∷ []) rest)) p
 
-      words-read : v ≤ max_word → words (max_words - k) k ts ≡ prefixed (Word v ∷ []) (words (max_words - (k + 1)) (k + 1) (rest_of ts))
-      unfolding next_word ◌then◌
-      words-read l = words_more ∙ number_read max_word (next_word (max_words - (k + 1)) k) ts h w m l (omega arith)
+pub word-none : (s : State) {e : State} (r : Refusal) → Unnumbered max_word s r → Answers (λ _. one_word) s e (Err r)
+unfolding one_word
+word-none s r n = answers-failed s r (λ _ _. n (λ v rest. read (Word v ∷ []) rest))
 
--- ---- the loop, from where it begins to where it is
+-- k words were read from s to m
+abbrev pub Worded : (s m : State) → ℕ → Type 0
+Worded s m k = Front (λ _. words max_words 0) s m (λ _. words (max_words - k) k)
 
-pub record Phrasing (bytes : List ℕ) (size at : ℕ) (entry exit : List ℕ) (count p n k : ℕ) : Type 0 where
-  pub ready : Ready bytes size p n
-  pub passed : NoLess size at count p n
-  pub few : k ≤ max_words
-  pub codes : List Code
-  pub is : words max_words 0 (stream_at (take size bytes) at) ≡ prefixed codes (words (max_words - k) k (stream_at (take size bytes) p))
-  pub wrote : Wrote codes entry exit count n
+not_yet : (b : Bool) → (b && false) ≡ false
+not_yet true = refl
+not_yet false = refl
 
-pub words-start : {bytes entry : List ℕ} {size at count : ℕ} → Ready bytes size at count → Phrasing bytes size at entry entry count at count 0
-words-start {entry = entry} {count = count} r = record {
-  ready = r;
-  passed = record { on = omega arith; end_within = r.inside.within; few = omega arith };
-  few = omega arith;
-  codes = [];
-  is = sym (prefixed-none _);
-  wrote = wrote_none entry count;
-}
+first-more : (ts : Stream) → words max_words 0 ts ≡ (one_word ts then words (max_words - 1) 1)
+first-more ts = words-more 7 0 ts (not_yet (eqb (symbol_in ts) s_quote))
 
-module _ {bytes entry exit : List ℕ} {size at count p n k : ℕ} (inv : Phrasing bytes size at entry exit count p n k) where
-  -- what the rule answers from here on it answers as a whole
-  pub words-on : {exit' : List ℕ} {r : Step} → Answers (λ _. words (max_words - k) k) bytes size p exit exit' n r → Answers (λ _. words max_words 0) bytes size at entry exit' count r
-  words-on {r = r} a = answers-prefixed inv.codes r (λ m l. inv.is) inv.wrote inv.passed.on inv.passed.few a
+pub words_first : (s m : State) {u : Unit {0}} → Answers (λ _. one_word) s m (Ok u) → Worded s m 1
+words_first s m a =
+    front-then (front-on {rule = λ _. words max_words 0} s s {rest = λ _ ts. one_word ts then words (max_words - 1) 1} (λ _. first-more (stream_of s)) (omega arith) refl)
+    (then-front (λ _. one_word) (λ _. words (max_words - 1) 1) a)
 
-  -- one word more
-  pub words_step : {t symbol : ℕ} (s : Scanned bytes size p t) (e : symbol ≡ symbol_at t) {exit' : List ℕ} {v m end : ℕ} → ¬ (symbol ≡ s_quote) ⊎ (k ≡ 0) → ¬ (k ≡ max_words)
-      → symbol ≡ s_number → v ≡ capped (number_from 0 (bytes_from bytes (start_of t) (end_of t))) → v ≤ max_word → Wrote (Word v ∷ []) exit exit' n m → end ≡ end_of t
-      → Phrasing bytes size at entry exit' count end m (k + 1)
-  words_step s e {v = v} {end = end} o f h w l u q =
-      let on = some_further s e (λ z. omega (arith, h, z)) q in
-      let after = ready_after s inv.ready q in
-      let word = Word v ∷ [] in
-      let one : words (max_words - k) k (stream_at (take size bytes) p) ≡ prefixed word (words (max_words - (k + 1)) (k + 1) (stream_at (take size bytes) end))
-      = words-read k _ (symbol_here s e) o inv.few f (value_here s w) h l ∙ ap (λ us. prefixed word (words (max_words - (k + 1)) (k + 1) us)) (rest-here s q) in
-      record {
-        ready = record { inside = after.inside; few = omega (arith, inv.ready.few, u.counted, on) };
-        passed = record { on = omega (arith, inv.passed.on, on); end_within = after.inside.within; few = omega (arith, inv.passed.few, u.counted, on) };
-        few = omega (arith, inv.few);
-        codes = inv.codes ++ word;
-        is = inv.is ∙ ap (prefixed inv.codes) one ∙ prefixed-prefixed inv.codes word _;
-        wrote = wrote-append inv.wrote u;
-      }
+pub words-none : (s : State) {e : State} (r : Refusal) → Answers (λ _. one_word) s e (Err r) → Answers (λ _. words max_words 0) s e (Err r)
+words-none s r a =
+    answers-on {rest = λ ts. one_word ts then words (max_words - 1) 1} s s (first-more (stream_of s)) (omega arith) refl (then-fails (λ _. one_word) (λ _. words (max_words - 1) 1) a)
+
+module _ (s m : State) (k : ℕ) (w : Worded s m k) (some : 1 ≤ k) where
+  pub words_closed : {q e : State} {u : Unit {0}} → Took Quote m q → Pushed (Phrase k) q e → Answers (λ _. words max_words 0) s e (Ok u)
+  words_closed {q} {u = u} t p =
+      answers-front w (Ok u) (answers-code m q (Phrase k) t (λ _. words-closed (max_words - k) k (stream_of m) t.is (λ z. omega arith)) p)
+
+  module _ (few : k < max_words) {p : State} (no : Kept Quote m p) where
+    more-here : words (max_words - k) k (stream_of m) ≡ (one_word (stream_of m) then words (max_words - (k + 1)) (k + 1))
+    more-here =
+        let one : max_words - k ≡ suc (max_words - (k + 1)) = omega arith in
+        rw one (words-more (max_words - (k + 1)) k (stream_of m) (rw no.is refl))
+
+    more : Front (λ _. words max_words 0) s p (λ _ ts. one_word ts then words (max_words - (k + 1)) (k + 1))
+    more =
+        front-then w (front-on {rule = λ _. words (max_words - k) k} m p {rest = λ _ ts. one_word ts then words (max_words - (k + 1)) (k + 1)}
+        (λ _. more-here ∙ ap (λ (x : State). one_word (stream_of x) then words (max_words - (k + 1)) (k + 1)) (sym no.same))
+        (omega (arith, ap left no.same)) (ap (λ (x : State). x.codes) no.same))
+
+    pub words_next : {q : State} {u : Unit {0}} → Answers (λ _. one_word) p q (Ok u) → Worded s q (k + 1)
+    words_next a = front-then more (then-front (λ _. one_word) (λ _. words (max_words - (k + 1)) (k + 1)) a)
+
+    pub words-fail : {e : State} (r : Refusal) → Answers (λ _. one_word) p e (Err r) → Answers (λ _. words max_words 0) s e (Err r)
+    words-fail r a = answers-front more (Err r) (then-fails (λ _. one_word) (λ _. words (max_words - (k + 1)) (k + 1)) a)
+
+pub words_full : (s m : State) (k : ℕ) {e : State} {r : Answer} → Worded s m k → k ≡ max_words → Answers (λ _. coded s_quote (Phrase max_words)) m e r → Answers (λ _. words max_words 0) s e r
+words_full s m k {r = r} w h a =
+    answers-front w r (answers-on {rest = coded s_quote (Phrase max_words)} m m (rw h (words-full (stream_of m))) (omega arith) refl a)
 
 -- ---- the times after the words
 
-module _ (ts : Stream) where
-  times-some : symbol_in ts ≡ k_occurs → any_times ts ≡ times (rest_of ts)
-  unfolding any_times
-  times-some h = rw h
+module _ (s m : State) {u : Unit {0}} (w : Answers (λ _. words max_words 0) s m (Ok u)) where
+  pub phrase_alone : {p : State} → Kept Occurs m p → Answers (λ _. phrase) s p (Ok u)
+  unfolding phrase any_times
+  phrase_alone k = rw k.same (then-ends (λ _. words max_words 0) (λ _. any_times) w (λ _. rw k.is refl))
 
-  times_none : {symbol : ℕ} → symbol_in ts ≡ symbol → ¬ (symbol ≡ k_occurs) → any_times ts ≡ read [] ts
-  unfolding any_times
-  times_none h n = rw (h, ne_eqb _ _ n)
+  pub phrase_times : {q e : State} {r : Answer} → Took Occurs m q → Answers (λ _. times) q e r → Answers (λ _. phrase) s e r
+  unfolding phrase any_times
+  phrase_times {q} {r = r} t a =
+      answers-front (then-front (λ _. words max_words 0) (λ _. any_times) w) r (answers-took {rest = times} m q t (rw t.is refl) a)
 
--- the answer of the words is an error, or they are read up to q
-module _ {bytes entry exit : List ℕ} {size at count : ℕ} {r : Step} where
-  pub phrase-fails : {x y : ℕ} → r ≡ stopped x y → Answers (λ _. words max_words 0) bytes size at entry exit count r → Answers (λ _. phrase) bytes size at entry exit count r
-  unfolding phrase
-  phrase-fails e a = answers_as e (answers-failed (λ n l. then_failed any_times (failed-is (answers-known e a) n l)))
-
-  module _ {q m : ℕ} (g : r ≡ reached q m) (a : Answers (λ _. words max_words 0) bytes size at entry exit count r) where
-    read-words : Answers (λ _. words max_words 0) bytes size at entry exit count (reached q m)
-    read-words = answers-known g a
-
-    pub words_ready : Ready bytes size at count → Ready bytes size q m
-    words_ready h = ready_next h (read_further read-words)
-
-    module _ {t symbol : ℕ} (s : Scanned bytes size q t) (e : symbol ≡ symbol_at t) where
-      pub phrase-alone : ¬ (symbol ≡ k_occurs) → Answers (λ _. phrase) bytes size at entry exit count r
-      unfolding phrase
-      phrase-alone n =
-          let w = read-codes read-words size (omega arith) in
-          answers_as g (answers-read w.codes (read_further read-words) (λ k l. then_none any_times w.is (times_none _ (symbol_here s e) n)) w.wrote)
-
-      pub phrase_times : {exit' : List ℕ} {end : ℕ} {r' : Step} → symbol ≡ k_occurs → end ≡ end_of t → Answers (λ _. times) bytes size end exit exit' m r'
-          → Answers (λ _. phrase) bytes size at entry exit' count r'
-      unfolding phrase
-      phrase_times {r' = r'} h p b =
-          let w = read-codes read-words size (omega arith) in
-          let f = read_further read-words in
-          let on = end_further s p in
-          answers-prefixed w.codes r'
-          (λ k l. then_read any_times w.is ∙ ap (prefixed w.codes) (times-some _ (symbol_here s e ∙ h) ∙ ap times (rest-here s p)))
-          w.wrote (omega (arith, f.on, on)) (omega (arith, f.few, on)) b
+pub phrase-fails : {s e : State} {r : Refusal} → Answers (λ _. words max_words 0) s e (Err r) → Answers (λ _. phrase) s e (Err r)
+unfolding phrase
+phrase-fails a = then-fails (λ _. words max_words 0) (λ _. any_times) a

@@ -1,136 +1,124 @@
--- A number with a last word and the code that it makes, and the four ranges, by the first token.
-use Prim.Native.Nat.{ℕ, ◌+◌, ◌*◌, ◌≤◌, ◌<◌}
-use native.Mathlib.Omega.{arith}
-use native.Mathlib.Nat.{mul-le-mul}
-use mathlib.Core.Path.{◌≡◌, refl, ◌∙◌}
-use mathlib.Core.List.{[], ◌∷◌}
-use borrow.Author.Tests.{ne_eqb, eq-eqb}
+-- A symbol with its code, one of two, a number with a last word, and the four ranges, by the first token.
+use Rattle.std.proofs.Common.{◌≡◌, ℕ, true, false, eqb, [], ◌∷◌, sym, ap, ◌∙◌, refl, arith, Err}
 use Rattle.model.specs.declared.Code.{Code}
-use Rattle.model.specs.declared.Code.TheVariants.{Filter as Filtered, Occurs}
-use Rattle.model.specs.declared.Filter.TheVariants.{Window, Distance}
-use Rattle.model.specs.declared.Times.TheVariants.{FromTo, AtLeast}
-use Rattle.model.specs.Limits.{max_distance, max_number, radix}
-use Rattle.grammar.specs.Stream.{Stream, place_in, rest_of, value_in}
-use Rattle.grammar.specs.Symbols.{k_at, k_exactly, k_from, k_to, k_least, k_most, s_number, symbol_in}
-use Rattle.grammar.specs.Grammar.{failed, read, Rule, prefixed, ◌then◌, refused, expect, coded, measured, range_from, range_at, range}
-use Rattle.scanner.specs.Scanned.{capped}
-use Rattle.flat_rules.specs.Answers.{Makes, MakesBoth}
-use Rattle.flat_rules.proofs.AnswersLaws.{prefixed-none}
-use Rattle.flat_rules.proofs.TokensLaws.{number-none, number-over, number_read}
+use Rattle.model.specs.Limits.{max_number}
+use Rattle.grammar.specs.Stream.{Stream, rest_of}
+use Rattle.grammar.specs.Symbols.{k_at, k_to, k_least, k_most, symbol_in}
+use Rattle.grammar.specs.Grammar.{failed, read, Rule, prefixed, ◌then◌, refused, expect, coded, either, measured, range_from, range_at, range}
+use Rattle.model.specs.declared.Refusal.{Refusal}
+use Rattle.scanner.specs.declared.symbols.Symbol.TheVariants.{At, Exactly, From, Least, Most, To}
+use Rattle.lent_text.specs.State.{State, stream_of, Kept, Missed, Numbered, Took, Unnumbered}
+use Rattle.lent_text.proofs.TokensLaws.{kept-kept, kept-missed, kept-took}
+use Rattle.flat_rules.specs.Answers.{Answer, Answers}
+use Rattle.flat_rules.proofs.AnswersLaws.{answers-failed, answers-on, answers-refused, answers-took, prefixed-none}
 
--- ---- a symbol and its code
+module _ (k : ℕ) (ts : Stream) where
+  pub expect-yes : eqb (symbol_in ts) k ≡ true → expect k ts ≡ read [] (rest_of ts)
+  expect-yes h = rw h refl
 
-module _ (k : ℕ) (c : Code) (ts : Stream) where
-  pub coded_yes : symbol_in ts ≡ k → coded k c ts ≡ read (c ∷ []) (rest_of ts)
+  pub expect-no : eqb (symbol_in ts) k ≡ false → expect k ts ≡ refused ts
+  expect-no h = rw h refl
+
+  pub coded-yes : (c : Code) → eqb (symbol_in ts) k ≡ true → coded k c ts ≡ read (c ∷ []) (rest_of ts)
   unfolding coded ◌then◌ prefixed
-  coded_yes h = rw (eq-eqb _ _ h)
+  coded-yes c h = rw h refl
 
-  pub coded_no : {symbol : ℕ} → symbol_in ts ≡ symbol → ¬ (symbol ≡ k) → coded k c ts ≡ refused ts
+  pub coded-no : (c : Code) → eqb (symbol_in ts) k ≡ false → coded k c ts ≡ refused ts
   unfolding coded ◌then◌
-  coded_no h n = rw (h, ne_eqb _ _ n)
+  coded-no c h = rw h refl
 
--- ---- the codes that a number makes
+  module _ (c : Code) (j : ℕ) (d : Code) where
+    pub either-first : eqb (symbol_in ts) k ≡ true → either k c j d ts ≡ read (c ∷ []) (rest_of ts)
+    unfolding either
+    either-first h = rw h refl
 
-pub product_small : (v b p : ℕ) → v ≤ 4096 → b ≤ 65537 → p ≤ 268435456 → v * b + p ≤ 536875008
-product_small v b p h k l = omega (arith, mul-le-mul h k)
+    pub either-second : eqb (symbol_in ts) k ≡ false → either k c j d ts ≡ coded j d ts
+    unfolding either
+    either-second h = rw h refl
 
-pub makes-window : Makes (λ n. Filtered (Window n)) 7 1 0
-makes-window = record { makes = λ n h. record { kind_is = refl; operand_is = omega arith } }
+-- a token and then a rule
+pub then-yes : (k : ℕ) (ts : Stream) (r : Rule) → eqb (symbol_in ts) k ≡ true → (expect k ts then r) ≡ r (rest_of ts)
+unfolding ◌then◌
+then-yes k ts r h = rw h (prefixed-none _)
 
-pub makes_least_distance : Makes (λ a. Filtered (Distance a max_distance)) 8 radix max_distance
-makes_least_distance = record { makes = λ n h. record { kind_is = refl; operand_is = omega arith } }
-
-pub makes-distance : MakesBoth (λ a b. Filtered (Distance a b)) 8
-makes-distance = record { makes = λ a b. record { kind_is = refl; operand_is = refl } }
-
-pub makes_least_times : Makes (λ a. Occurs (AtLeast a)) 17 1 0
-makes_least_times = record { makes = λ n h. record { kind_is = refl; operand_is = omega arith } }
-
-pub makes-times : MakesBoth (λ a b. Occurs (FromTo a b)) 16
-makes-times = record { makes = λ a b. record { kind_is = refl; operand_is = refl } }
-
--- `exactly n` is from n to n, `at most b` from 0 to b
-module _ {g : ℕ → ℕ → Code} {kind : ℕ} (m : MakesBoth g kind) where
-  pub makes_exactly : Makes (λ n. g n n) kind 65537 0
-  makes_exactly = record { makes = λ n h. record { kind_is = (m.makes n n).kind_is; operand_is = (m.makes n n).operand_is ∙ omega arith } }
-
-  pub makes-from : (a : ℕ) → Makes (g a) kind 1 (a * radix)
-  makes-from a = record { makes = λ n h. record { kind_is = (m.makes a n).kind_is; operand_is = (m.makes a n).operand_is ∙ omega arith } }
+pub then-no : (k : ℕ) (ts : Stream) (r : Rule) → eqb (symbol_in ts) k ≡ false → (expect k ts then r) ≡ refused ts
+unfolding ◌then◌
+then-no k ts r h = rw h refl
 
 -- ---- by a number
 
--- after a number that makes a code
-unfoldable worded : ℕ → (ℕ → Code) → ℕ → Rule
-worded last f n rest = coded last (f n) rest
+module _ (last : ℕ) (s m : State) {v : ℕ} (n : Numbered max_number v s m) where
+  -- f makes the code c of the number
+  pub measured-read : (f : ℕ → Code) {c : Code} → c ≡ f v → measured last f (stream_of s) ≡ coded last c (stream_of m)
+  unfolding measured
+  measured-read f e = n.is (λ k rest. coded last (f k) rest) ∙ ap (λ c. coded last c (stream_of m)) (sym e)
 
--- after the first number of `from a to b`
-unfoldable pub toward : ℕ → (ℕ → ℕ → Code) → ℕ → Rule
-toward last g a rest = expect k_to rest then measured last (g a)
+  from-read : (g : ℕ → ℕ → Code) → range_from last g (stream_of s) ≡ (expect k_to (stream_of m) then measured last (g v))
+  unfolding range_from
+  from-read g = n.is (λ a rest. expect k_to rest then measured last (g a))
 
-module _ (last : ℕ) (ts : Stream) {symbol : ℕ} (h : symbol_in ts ≡ symbol) where
-  pub measured-none : (f : ℕ → Code) → ¬ (symbol ≡ s_number) → measured last f ts ≡ refused ts
-  unfolding measured worded
-  measured-none f n = number-none max_number (worded last f) ts h n
+  pub from_to : (g : ℕ → ℕ → Code) {q e : State} {r : Answer} → Took To m q → Answers (λ _. measured last (g v)) q e r → Answers (λ _. range_from last g) s e r
+  from_to g {q} t a =
+      answers-on {rest = λ ts. expect k_to ts then measured last (g v)} s m (from-read g) (omega (arith, n.fewer)) n.codes_are
+      (answers-took {rest = measured last (g v)} m q t (then-yes k_to (stream_of m) (measured last (g v)) t.is) a)
 
-  pub from-none : (g : ℕ → ℕ → Code) → ¬ (symbol ≡ s_number) → range_from last g ts ≡ refused ts
-  unfolding range_from toward
-  from-none g n = number-none max_number (toward last g) ts h n
+  pub from-missed : (g : ℕ → ℕ → Code) {e : State} (r : Refusal) → Missed To m r → Answers (λ _. range_from last g) s e (Err r)
+  from-missed g r t = answers-failed s r (λ _ _. from-read g ∙ then-no k_to (stream_of m) (measured last (g v)) t.is ∙ rw t.refused refl)
 
-  pub toward_none : (g : ℕ → ℕ → Code) (a : ℕ) → ¬ (symbol ≡ k_to) → toward last g a ts ≡ refused ts
-  unfolding toward ◌then◌
-  toward_none g a n = rw (h, ne_eqb _ _ n)
+module _ (last : ℕ) (s : State) {r : Refusal} (n : Unnumbered max_number s r) where
+  pub measured-none : (f : ℕ → Code) → measured last f (stream_of s) ≡ failed r.reason r.place
+  unfolding measured
+  measured-none f = n (λ k rest. coded last (f k) rest)
 
-  module _ {v : ℕ} (w : v ≡ capped (value_in ts)) (n : symbol ≡ s_number) where
-    pub measured-over : (f : ℕ → Code) → max_number < v → measured last f ts ≡ failed 11 (place_in ts)
-    unfolding measured worded
-    measured-over f o = number-over max_number (worded last f) ts h w n o
-
-    pub measured-read : (f : ℕ → Code) → v ≤ max_number → measured last f ts ≡ coded last (f v) (rest_of ts)
-    unfolding measured worded
-    measured-read f o = number_read max_number (worded last f) ts h w n o (omega arith)
-
-    pub from-over : (g : ℕ → ℕ → Code) → max_number < v → range_from last g ts ≡ failed 11 (place_in ts)
-    unfolding range_from toward
-    from-over g o = number-over max_number (toward last g) ts h w n o
-
-    pub from-read : (g : ℕ → ℕ → Code) → v ≤ max_number → range_from last g ts ≡ toward last g v (rest_of ts)
-    unfolding range_from toward
-    from-read g o = number_read max_number (toward last g) ts h w n o (omega arith)
+  pub from-none : (g : ℕ → ℕ → Code) → range_from last g (stream_of s) ≡ failed r.reason r.place
+  unfolding range_from
+  from-none g = n (λ a rest. expect k_to rest then measured last (g a))
 
 -- ---- by a symbol
 
-module _ (last : ℕ) (g : ℕ → ℕ → Code) (ts : Stream) where
-  pub toward_second : (a : ℕ) → symbol_in ts ≡ k_to → toward last g a ts ≡ measured last (g a) (rest_of ts)
-  unfolding toward ◌then◌
-  toward_second a h = rw h (prefixed-none _)
-
-module _ (last : ℕ) (f : ℕ → Code) (g : ℕ → ℕ → Code) (ts : Stream) where
-  pub at_least : symbol_in ts ≡ k_least → range_at last f g ts ≡ measured last f (rest_of ts)
+module _ (last : ℕ) (f : ℕ → Code) (g : ℕ → ℕ → Code) (s : State) where
+  at_other : eqb (symbol_in (stream_of s)) k_least ≡ false → range_at last f g (stream_of s) ≡ (expect k_most (stream_of s) then measured last (g 0))
   unfolding range_at
-  at_least h = rw h
+  at_other h = rw h refl
 
-  pub at_most : symbol_in ts ≡ k_most → range_at last f g ts ≡ measured last (g 0) (rest_of ts)
-  unfolding range_at ◌then◌
-  at_most h = rw h (prefixed-none _)
+  pub at_least : {m e : State} {r : Answer} → Took Least s m → Answers (λ _. measured last f) m e r → Answers (λ _. range_at last f g) s e r
+  unfolding range_at
+  at_least {m} t a = answers-took {rest = measured last f} s m t (rw t.is refl) a
 
-  pub range_exactly : symbol_in ts ≡ k_exactly → range last f g ts ≡ measured last (λ n. g n n) (rest_of ts)
+  pub at_most : {m q e : State} {r : Answer} → Kept Least s m → Took Most m q → Answers (λ _. measured last (g 0)) q e r → Answers (λ _. range_at last f g) s e r
+  at_most {q = q} k t' a =
+      let t = kept-took k t' in
+      answers-took {rest = measured last (g 0)} s q t (at_other k.is ∙ then-yes k_most (stream_of s) (measured last (g 0)) t.is) a
+
+  pub at-missed : {m e : State} (r : Refusal) → Kept Least s m → Missed Most m r → Answers (λ _. range_at last f g) s e (Err r)
+  at-missed r k t' =
+      let t = kept-missed k t' in
+      answers-refused s r t.refused (λ _. at_other k.is ∙ then-no k_most (stream_of s) (measured last (g 0)) t.is)
+
+  pub range_exactly : {m e : State} {r : Answer} → Took Exactly s m → Answers (λ _. measured last (λ n. g n n)) m e r → Answers (λ _. range last f g) s e r
   unfolding range
-  range_exactly h = rw h
+  range_exactly {m} t a = answers-took {rest = measured last (λ n. g n n)} s m t (rw t.is refl) a
 
-  pub range_from_to : symbol_in ts ≡ k_from → range last f g ts ≡ range_from last g (rest_of ts)
+  pub range_from_to : {m q e : State} {r : Answer} → Kept Exactly s m → Took From m q → Answers (λ _. range_from last g) q e r → Answers (λ _. range last f g) s e r
   unfolding range
-  range_from_to h = rw h
+  range_from_to {q = q} k t' a =
+      let t = kept-took k t' in
+      answers-took {rest = range_from last g} s q t (rw (k.is, t.is) refl) a
 
-  pub range_at_lem : symbol_in ts ≡ k_at → range last f g ts ≡ range_at last f g (rest_of ts)
-  unfolding range ◌then◌
-  range_at_lem h = rw h (prefixed-none _)
+  module _ {m p : State} (k : Kept Exactly s m) (l' : Kept From m p) where
+    l : Kept From s p
+    l = kept-kept k l'
 
-  -- any other symbol
-  module _ {symbol : ℕ} (h : symbol_in ts ≡ symbol) where
-    pub at_none : ¬ (symbol ≡ k_least) → ¬ (symbol ≡ k_most) → range_at last f g ts ≡ refused ts
-    unfolding range_at ◌then◌
-    at_none a b = rw (h, ne_eqb _ _ a, ne_eqb _ _ b)
+    range_other : range last f g (stream_of s) ≡ (expect k_at (stream_of s) then range_at last f g)
+    unfolding range
+    range_other = rw (k.is, l.is) refl
 
-    pub range_none : ¬ (symbol ≡ k_exactly) → ¬ (symbol ≡ k_from) → ¬ (symbol ≡ k_at) → range last f g ts ≡ refused ts
-    unfolding range ◌then◌
-    range_none a b c = rw (h, ne_eqb _ _ a, ne_eqb _ _ b, ne_eqb _ _ c)
+    pub range_bound : {q e : State} {r : Answer} → Took At p q → Answers (λ _. range_at last f g) q e r → Answers (λ _. range last f g) s e r
+    range_bound {q} t' a =
+        let t = kept-took l t' in
+        answers-took {rest = range_at last f g} s q t (range_other ∙ then-yes k_at (stream_of s) (range_at last f g) t.is) a
+
+    pub range-missed : {e : State} (r : Refusal) → Missed At p r → Answers (λ _. range last f g) s e (Err r)
+    range-missed r t' =
+        let t = kept-missed l t' in
+        answers-refused s r t.refused (λ _. range_other ∙ then-no k_at (stream_of s) (range_at last f g) t.is)

@@ -1,81 +1,71 @@
--- What a rule's function says: it reads the text from a position on as the grammar's rule does, and writes the codes after the first `count`.
-use Rattle.std.specs.Prelude.{ℕ, ◌+◌, ◌*◌, ◌-◌, ◌≤◌, ◌<◌, ◌≡◌, length, take}
-use mathlib.Core.List.{List, [], ◌∷◌, flat_map}
-use Rattle.std.proofs.lemmas.List.Edits.{sets}
+-- What a rule's function says: it reads the text from a reader's position on as the grammar's rule does, and writes the codes after those before.
+use Rattle.std.specs.Prelude.{ℕ, ◌+◌, ◌≤◌, ◌<◌, ◌≡◌, ◌^◌, List, [], ◌∷◌, Result, Ok, Err}
 use Rattle.model.specs.declared.Code.{Code}
-use Rattle.model.specs.Limits.{max_codes, max_number, radix}
-use Rattle.model.specs.Selection.{kind_of, operand_of}
-use Rattle.grammar.specs.Stream.{stream_at}
-use Rattle.grammar.specs.Grammar.{Outcome, failed, read, Rule}
-use Rattle.scanner.specs.Scanned.{Inside}
-use Rattle.flat_rules.specs.Steps.{Step, reached, stopped}
+use Rattle.model.specs.declared.Code.TheVariants.{Word}
+use Rattle.model.specs.declared.Refusal.{Refusal}
+use Rattle.model.specs.Limits.{max_number, max_word}
+use Rattle.model.specs.Selection.{operand_of}
+use Rattle.grammar.specs.Grammar.{Outcome, failed, read, number, Rule}
+use Rattle.lent_text.specs.State.{State, left, stream_of}
+use Rattle.lent_text.specs.Written.{Written}
 
--- the numbers of a code, and of codes one after another
-abbrev pub pair : Code → List ℕ
-pair c = kind_of c ∷ operand_of c ∷ []
-
-unfoldable pub pairs : List Code → List ℕ
-pairs cs = flat_map pair cs
-
--- The codes cs were written after the first `count`. Codes past 64 are counted, and once there are such nothing is said of those written.
-pub record Wrote (cs : List Code) (entry exit : List ℕ) (count count' : ℕ) : Type 0 where
-  pub counted : count' ≡ count + length cs
-  pub written : count' ≤ max_codes → exit ≡ sets entry (count * 2) (pairs cs)
-
--- a code of these numbers
-pub record CodeIs (c : Code) (kind operand : ℕ) : Type 0 where
-  pub kind_is : kind_of c ≡ kind
-  pub operand_is : operand_of c ≡ operand
-
--- the code that each number n makes, of this kind and the operand n × by + plus
-pub record Makes (f : ℕ → Code) (kind by plus : ℕ) : Type 0 where
-  pub makes : (n : ℕ) → n ≤ max_number → CodeIs (f n) kind (n * by + plus)
-
--- the code that each two numbers a and b make, of this kind and the operand a × 65,536 + b
-pub record MakesBoth (f : ℕ → ℕ → Code) (kind : ℕ) : Type 0 where
-  pub makes : (a b : ℕ) → CodeIs (f a b) kind (a * radix + b)
-
--- ready to read from a position on: no more codes than bytes
-pub record Ready (bytes : List ℕ) (size at count : ℕ) : Type 0 where
-  pub inside : Inside bytes size at
-  pub few : count ≤ at
+-- what a rule's function answers
+abbrev pub Answer : Type 0
+Answer = Result (Unit {0}) Refusal
 
 -- a byte further at least, and no more codes than bytes read
-pub record Further (size at count at' count' : ℕ) : Type 0 where
-  pub on : at < at'
-  pub end_within : at' ≤ size
-  pub few : count' + at ≤ count + at'
+pub record Further (s e : State) : Type 0 where
+  pub fewer : left e < left s
+  pub few : e.codes.count + left e ≤ s.codes.count + left s
 
 -- .. or no further
-pub record NoLess (size at count at' count' : ℕ) : Type 0 where
-  pub on : at ≤ at'
-  pub end_within : at' ≤ size
-  pub few : count' + at ≤ count + at'
+pub record NoLess (s e : State) : Type 0 where
+  pub fewer : left e ≤ left s
+  pub few : e.codes.count + left e ≤ s.codes.count + left s
 
-pub record ReadsTo (o : Outcome) (text : List ℕ) (entry exit : List ℕ) (count at' count' : ℕ) : Type 0 where
+pub record ReadsTo (o : Outcome) (s e : State) : Type 0 where
   pub codes : List Code
-  pub is : o ≡ read codes (stream_at text at')
-  pub wrote : Wrote codes entry exit count count'
+  pub is : o ≡ read codes (stream_of e)
+  pub written : Written codes s.codes e.codes
 
 -- what an answer says of the outcome of a rule
-unfoldable pub Says : Outcome → (text entry exit : List ℕ) → ℕ → Step → Type 0
-Says o text entry exit count (reached at' count') = ReadsTo o text entry exit count at' count'
-Says o text entry exit count (stopped n p) = o ≡ failed n p
+unfoldable pub Says : Outcome → (s e : State) → Answer → Type 0
+Says o s e (Ok u) = ReadsTo o s e
+Says o s e (Err r) = o ≡ failed r.reason r.place
 
-unfoldable pub Went : (size at count : ℕ) → Step → Type 0
-Went size at count (reached at' count') = Further size at count at' count'
-Went size at count (stopped n p) = Unit {0}
+unfoldable pub Went : (s e : State) → Answer → Type 0
+Went s e (Ok u) = Further s e
+Went s e (Err r) = Unit {0}
 
--- The rule with any number of turns that is at least the bytes left. The text is the first `size` bytes of an array.
-pub record Answers (rule : ℕ → Rule) (bytes : List ℕ) (size at : ℕ) (entry exit : List ℕ) (count : ℕ) (r : Step) : Type 0 where
-  pub went : Went size at count r
-  pub says : (n : ℕ) → size - at ≤ n → Says (rule n (stream_at (take size bytes) at)) (take size bytes) entry exit count r
+-- The rule with any number of turns that is at least the bytes left.
+pub record Answers (rule : ℕ → Rule) (s e : State) (r : Answer) : Type 0 where
+  pub went : Went s e r
+  pub says : (n : ℕ) → left s ≤ n → Says (rule n (stream_of s)) s e r
 
 -- .. of a rule that may read nothing, with any number of turns above the bytes left
-unfoldable pub WentMany : (size at count : ℕ) → Step → Type 0
-WentMany size at count (reached at' count') = NoLess size at count at' count'
-WentMany size at count (stopped n p) = Unit {0}
+unfoldable pub WentMany : (s e : State) → Answer → Type 0
+WentMany s e (Ok u) = NoLess s e
+WentMany s e (Err r) = Unit {0}
 
-pub record AnswersMany (rule : ℕ → Rule) (bytes : List ℕ) (size at : ℕ) (entry exit : List ℕ) (count : ℕ) (r : Step) : Type 0 where
-  pub went : WentMany size at count r
-  pub says : (n : ℕ) → size - at < n → Says (rule n (stream_at (take size bytes) at)) (take size bytes) entry exit count r
+pub record AnswersMany (rule : ℕ → Rule) (s e : State) (r : Answer) : Type 0 where
+  pub went : WentMany s e r
+  pub says : (n : ℕ) → left s < n → Says (rule n (stream_of s)) s e r
+
+-- a closure makes the code that f makes of each number
+abbrev pub Makes : (ℕ → Code → Type 0) → (ℕ → Code) → Type 0
+Makes calls f = (n : ℕ) (c : Code) → n ≤ max_number → calls n c → c ≡ f n
+
+-- .. and that of each two numbers
+abbrev pub MakesBoth : (ℕ → ℕ → Code → Type 0) → (ℕ → ℕ → Code) → Type 0
+MakesBoth calls f = (a b : ℕ) (c : Code) → a ≤ max_number → b ≤ max_number → calls a b c → c ≡ f a b
+
+-- the codes that it makes have operands of 32 bits
+abbrev pub Fit : (ℕ → Code → Type 0) → Type 0
+Fit calls = (n : ℕ) (c : Code) → n ≤ max_number → calls n c → operand_of c < 2 ^ 32
+
+abbrev pub FitBoth : (ℕ → ℕ → Code → Type 0) → Type 0
+FitBoth calls = (a b : ℕ) (c : Code) → a ≤ max_number → b ≤ max_number → calls a b c → operand_of c < 2 ^ 32
+
+-- a word of a phrase, as a rule
+unfoldable pub one_word : Rule
+one_word = number max_word (λ v rest. read (Word v ∷ []) rest)

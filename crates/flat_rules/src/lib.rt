@@ -1,317 +1,259 @@
-// The rules of the grammar in which no parenthesis stands: a phrase with its times, and the filters. Each reads the text from a position on and writes
-// the codes after the first `count`, two numbers each.
+// The rules of the grammar in which no parenthesis stands: a phrase with its times, and the filters. Each goes over the text from the reader's position on
+// and writes its codes.
 
 #![tactic(auto)]
 
-pub mod steps; // what a rule answers, in one number
-
-ghost use Rattle.std.specs.Prelude.{◌&&◌, [], ◌∷◌, ◌≡◌, ℕ, ◌+◌, ◌≤◌, ◌<◌, leb};
+ghost use Rattle.std.specs.Prelude.{◌≡◌, ℕ, ◌^◌, ◌<◌, ◌&&◌, leb, true};
+ghost use Rattle.grammar.specs.Symbols.{k_entire, k_ordered};
 ghost use Rattle.model.specs.declared.Code.{Code};
-ghost use Rattle.model.specs.Limits.{max_text, max_words};
-ghost use Rattle.grammar.specs.Grammar.{coded as coded_rule, either as either_rule, filter as filter_rule, filters as filters_rule, measured as measured_rule, phrase as phrase_rule, range as range_rule, range_at, range_from, words as words_rule};
-ghost use Rattle.grammar.specs.Symbols.{k_entire, k_ordered, other_word};
-ghost use Rattle.flat_rules.specs.Steps.{step_of};
-ghost use Rattle.flat_rules.specs.Answers.{Answers, AnswersMany, CodeIs, Makes, MakesBoth, Ready, Wrote};
+ghost use Rattle.model.specs.Limits.{max_words};
+ghost use Rattle.model.specs.Selection.{operand_of};
+ghost use Rattle.grammar.specs.Grammar.{coded as coded_rule, either as either_rule, filter as filter_rule, filters as filters_rule, measured as measured_rule, phrase as phrase_rule, range as range_rule, range_at as range_at_rule, range_from as range_from_rule, words as words_rule};
+ghost use Rattle.scanner.specs.Symbols.{is_token, number_of};
+ghost use Rattle.flat_rules.specs.Answers.{Answers, AnswersMany, Fit, FitBoth, Makes, MakesBoth, one_word};
 
-use model::{MAX_CODES, MAX_DISTANCE, MAX_NUMBER, MAX_WORD, MAX_WORDS, RADIX};
-use scanner::symbols;
+use lent_text::Reader;
+use model::{Code, Filter, MAX_DISTANCE, MAX_NUMBER, MAX_WORD, MAX_WORDS, Refusal, Times};
+use scanner::symbols::Symbol;
 
-// One code more. The first 64 are written, those past them are counted.
-pub fn push(codes: &mut [u32; 128], count: u32, kind: u32, operand: u32) -> u32
-    requires { count ≤ max_text }
-    ensures { (c : Code) → CodeIs c kind operand → Wrote (c ∷ []) codes.old codes.new count result }
+// A word of a phrase.
+fn word(reader: &mut Reader) -> Result<(), Refusal>
+    ensures { Answers (λ _. one_word) reader.old reader.new result }
 {
-    if count < MAX_CODES {
-        let i = count as usize * 2;
-        codes[i] = kind;
-        codes[i + 1] = operand;
-    }
-    count + 1
-}
-
-// The words of a phrase, "one to eight word numbers", and the closing quote.
-fn words(text: &[u8; 2048], size: usize, at: u32, codes: &mut [u32; 128], count: u32) -> u64
-    requires { Ready text.now size at count }
-    ensures { Answers (λ _. words_rule max_words 0) text.now size at codes.old codes.new count (step_of result) }
-{
-    let mut p = at;
-    let mut n = count;
-    let mut k = 0;
-    loop {
-        let t = scanner::token_at(text, size, p);
-        let symbol = scanner::symbol_of(t);
-        if symbol == symbols::QUOTE {
-            if k != 0 {
-                let m = push(codes, n, 1, k);
-                return steps::read(scanner::end_of(t), m);
-            }
-        }
-        if k == MAX_WORDS {
-            return steps::error_at(10, t);
-        }
-        if symbol != symbols::NUMBER {
-            return steps::error_at(10, t);
-        }
-        let v = scanner::value_of(text, t);
-        if v > MAX_WORD {
-            return steps::error_at(11, t);
-        }
-        n = push(codes, n, 0, v as u32);
-        p = scanner::end_of(t);
-        k += 1;
-    }
+    let word = reader.number(MAX_WORD)?;
+    reader.push(Code::Word(word));
+    Ok(())
 }
 
 // A token of a symbol, and a code.
-fn coded(
-    text: &[u8; 2048],
-    size: usize,
-    at: u32,
-    codes: &mut [u32; 128],
-    count: u32,
-    symbol: u32,
-    kind: u32,
-    operand: u32,
-) -> u64
-    requires ready { Ready text.now size at count }
-    requires symbol_lt_other_word { symbol < other_word }
-    ensures { (c : Code) → CodeIs c kind operand → Answers (λ _. coded_rule symbol c) text.now size at codes.old codes.new count (step_of result) }
+fn coded(reader: &mut Reader, symbol: Symbol, code: Code) -> Result<(), Refusal>
+    requires symbol { is_token symbol ≡ true }
+    requires fits { operand_of code < 2 ^ 32 }
+    ensures { Answers (λ _. coded_rule (number_of symbol) code) reader.old reader.new result }
 {
-    let t = scanner::token_at(text, size, at);
-    if scanner::symbol_of(t) != symbol {
-        return steps::error_at(10, t);
-    }
-    push(codes, count, kind, operand);
-    steps::read(scanner::end_of(t), count + 1)
+    reader.expect(symbol)?;
+    reader.push(code);
+    Ok(())
 }
 
-// One of two words whose symbols follow each other, and so do the kinds of their codes.
+// One of two words, each with its code.
 fn either(
-    text: &[u8; 2048],
-    size: usize,
-    at: u32,
-    codes: &mut [u32; 128],
-    count: u32,
-    first: u32,
-    kind: u32,
-) -> u64
-    requires ready { Ready text.now size at count }
-    requires first_bound { (first + 1 < other_word) × (kind < 15) }
-    ensures { (c d : Code) → CodeIs c kind 0 → CodeIs d (kind + 1) 0 → Answers (λ _. either_rule first c (first + 1) d) text.now size at codes.old codes.new count (step_of result) }
+    reader: &mut Reader,
+    first: Symbol,
+    c: Code,
+    second: Symbol,
+    d: Code,
+) -> Result<(), Refusal>
+    requires first { is_token first ≡ true }
+    requires c_fits { operand_of c < 2 ^ 32 }
+    requires second { is_token second ≡ true }
+    requires d_fits { operand_of d < 2 ^ 32 }
+    ensures { Answers (λ _. either_rule (number_of first) c (number_of second) d) reader.old reader.new result }
 {
-    let t = scanner::token_at(text, size, at);
-    if scanner::symbol_of(t) == first {
-        push(codes, count, kind, 0);
-        return steps::read(scanner::end_of(t), count + 1);
+    if reader.takes(first) {
+        reader.push(c);
+        return Ok(());
     }
-    coded(text, size, at, codes, count, first + 1, kind + 1, 0)
+    coded(reader, second, d)
 }
 
-// A number n and a last word; the operand is n × by + plus.
-fn measured(
-    text: &[u8; 2048],
-    size: usize,
-    at: u32,
-    codes: &mut [u32; 128],
-    count: u32,
-    last: u32,
-    kind: u32,
-    by: u32,
-    plus: u32,
-) -> u64
-    requires ready { Ready text.now size at count }
-    requires last_lt_other_word { (last < other_word) × (by ≤ 65537) × (plus ≤ 268435456) }
-    ensures { (f : ℕ → Code) → Makes f kind by plus → Answers (λ _. measured_rule last f) text.now size at codes.old codes.new count (step_of result) }
+// A number and a last word, and the code that the number makes.
+fn measured<F: Fn(u32) -> Code>(reader: &mut Reader, last: Symbol, f: F) -> Result<(), Refusal>
+    requires last { is_token last ≡ true }
+    requires callable { F.IsAlwaysCallable f }
+    requires fit { Fit (F.post f) }
+    ensures { (g : ℕ → Code) → Makes (F.post f) g → Answers (λ _. measured_rule (number_of last) g) reader.old reader.new result }
 {
-    let t = scanner::token_at(text, size, at);
-    if scanner::symbol_of(t) != symbols::NUMBER {
-        return steps::error_at(10, t);
-    }
-    let v = scanner::value_of(text, t);
-    if v > MAX_NUMBER {
-        return steps::error_at(11, t);
-    }
-    let operand = v as u32 * by + plus;
-    let end = scanner::end_of(t);
-    coded(text, size, end, codes, count, last, kind, operand)
+    let n = reader.number(MAX_NUMBER)?;
+    coded(reader, last, f(n))
 }
 
 // `from a to b` and a last word, after `from`.
-fn range_from(
-    text: &[u8; 2048],
-    size: usize,
-    at: u32,
-    codes: &mut [u32; 128],
-    count: u32,
-    last: u32,
-    kind: u32,
-) -> u64
-    requires ready { Ready text.now size at count }
-    requires last_lt_other_word { last < other_word }
-    ensures { (g : ℕ → ℕ → Code) → MakesBoth g kind → Answers (λ _. range_from last g) text.now size at codes.old codes.new count (step_of result) }
+fn range_from<G: Fn(u32, u32) -> Code>(
+    reader: &mut Reader,
+    last: Symbol,
+    between: G,
+) -> Result<(), Refusal>
+    requires last { is_token last ≡ true }
+    requires callable { G.IsAlwaysCallable between }
+    requires fit { FitBoth (G.post between) }
+    ensures { (g : ℕ → ℕ → Code) → MakesBoth (G.post between) g → Answers (λ _. range_from_rule (number_of last) g) reader.old reader.new result }
 {
-    let t = scanner::token_at(text, size, at);
-    if scanner::symbol_of(t) != symbols::NUMBER {
-        return steps::error_at(10, t);
-    }
-    let v = scanner::value_of(text, t);
-    if v > MAX_NUMBER {
-        return steps::error_at(11, t);
-    }
-    let to = scanner::token_at(text, size, scanner::end_of(t));
-    if scanner::symbol_of(to) != symbols::TO {
-        return steps::error_at(10, to);
-    }
-    let end = scanner::end_of(to);
-    let first = v as u32 * RADIX;
-    measured(text, size, end, codes, count, last, kind, 1, first)
+    let a = reader.number(MAX_NUMBER)?;
+    reader.expect(Symbol::To)?;
+    measured(reader, last, |b| between(a, b))
 }
 
 // `at least a` or `at most b`, and a last word, after `at`.
-fn range_at(
-    text: &[u8; 2048],
-    size: usize,
-    at: u32,
-    codes: &mut [u32; 128],
-    count: u32,
-    last: u32,
-    kind: u32,
-    least: u32,
-    by: u32,
-    plus: u32,
-) -> u64
-    requires ready { Ready text.now size at count }
-    requires last_lt_other_word { (last < other_word) × (by ≤ 65537) × (plus ≤ 268435456) }
-    ensures { (f : ℕ → Code) (g : ℕ → ℕ → Code) → Makes f least by plus → MakesBoth g kind → Answers (λ _. range_at last f g) text.now size at codes.old codes.new count (step_of result) }
+fn range_at<F: Fn(u32) -> Code, G: Fn(u32, u32) -> Code>(
+    reader: &mut Reader,
+    last: Symbol,
+    least: F,
+    between: G,
+) -> Result<(), Refusal>
+    requires last { is_token last ≡ true }
+    requires least_callable { F.IsAlwaysCallable least }
+    requires least_fit { Fit (F.post least) }
+    requires callable { G.IsAlwaysCallable between }
+    requires fit { FitBoth (G.post between) }
+    ensures { (f : ℕ → Code) (g : ℕ → ℕ → Code) → Makes (F.post least) f → MakesBoth (G.post between) g → Answers (λ _. range_at_rule (number_of last) f g) reader.old reader.new result }
 {
-    let t = scanner::token_at(text, size, at);
-    let symbol = scanner::symbol_of(t);
-    let end = scanner::end_of(t);
-    if symbol == symbols::LEAST {
-        return measured(text, size, end, codes, count, last, least, by, plus);
+    if reader.takes(Symbol::Least) {
+        return measured(reader, last, least);
     }
-    if symbol != symbols::MOST {
-        return steps::error_at(10, t);
-    }
-    measured(text, size, end, codes, count, last, kind, 1, 0)
+    reader.expect(Symbol::Most)?;
+    measured(reader, last, |b| between(0, b))
 }
 
-// "`exactly`, `at least` .., `at most` (from 0) or `from .. to`", and a last word. `at least a` is of the kind `least`, its operand a × by + plus; the
-// other ranges, from a to b, are of the kind `kind` and the operand a × 65,536 + b.
-fn range(
-    text: &[u8; 2048],
-    size: usize,
-    at: u32,
-    codes: &mut [u32; 128],
-    count: u32,
-    last: u32,
-    kind: u32,
-    least: u32,
-    by: u32,
-    plus: u32,
-) -> u64
-    requires ready { Ready text.now size at count }
-    requires last_lt_other_word { (last < other_word) × (by ≤ 65537) × (plus ≤ 268435456) }
-    ensures { (f : ℕ → Code) (g : ℕ → ℕ → Code) → Makes f least by plus → MakesBoth g kind → Answers (λ _. range_rule last f g) text.now size at codes.old codes.new count (step_of result) }
+// "`exactly`, `at least` .., `at most` (from 0) or `from .. to`", and a last word: `least` makes the code of `at least a`, `between` that of the other ranges,
+// each from a number to a number.
+fn range<F: Fn(u32) -> Code, G: Fn(u32, u32) -> Code>(
+    reader: &mut Reader,
+    last: Symbol,
+    least: F,
+    between: G,
+) -> Result<(), Refusal>
+    requires last { is_token last ≡ true }
+    requires least_callable { F.IsAlwaysCallable least }
+    requires least_fit { Fit (F.post least) }
+    requires callable { G.IsAlwaysCallable between }
+    requires fit { FitBoth (G.post between) }
+    ensures { (f : ℕ → Code) (g : ℕ → ℕ → Code) → Makes (F.post least) f → MakesBoth (G.post between) g → Answers (λ _. range_rule (number_of last) f g) reader.old reader.new result }
 {
-    let t = scanner::token_at(text, size, at);
-    let symbol = scanner::symbol_of(t);
-    let end = scanner::end_of(t);
-    if symbol == symbols::EXACTLY {
-        return measured(text, size, end, codes, count, last, kind, RADIX + 1, 0);
+    if reader.takes(Symbol::Exactly) {
+        return measured(reader, last, |n| between(n, n));
     }
-    if symbol == symbols::FROM {
-        return range_from(text, size, end, codes, count, last, kind);
+    if reader.takes(Symbol::From) {
+        return range_from(reader, last, between);
     }
-    if symbol != symbols::AT {
-        return steps::error_at(10, t);
+    reader.expect(Symbol::At)?;
+    range_at(reader, last, least, between)
+}
+
+// The words of a phrase, "one to eight word numbers", and the closing quote.
+fn words(reader: &mut Reader) -> Result<(), Refusal>
+    ensures { Answers (λ _. words_rule max_words 0) reader.old reader.new result }
+{
+    word(reader)?;
+    for size in 1..MAX_WORDS {
+        if reader.takes(Symbol::Quote) {
+            reader.push(Code::Phrase(size));
+            return Ok(());
+        }
+        word(reader)?;
     }
-    range_at(text, size, end, codes, count, last, kind, least, by, plus)
+    coded(reader, Symbol::Quote, Code::Phrase(MAX_WORDS))
 }
 
 // FTWords FTTimes?, after the opening quote. "Typed, `occurs` with one of the four ranges and `times` follows a phrase; `at least` is kind 17."
 // A call of its own, so that a parenthesis doesn't pay for what it keeps.
 #[inline(never)]
-pub fn phrase(text: &[u8; 2048], size: usize, at: u32, codes: &mut [u32; 128], count: u32) -> u64
-    requires { Ready text.now size at count }
-    ensures { Answers (λ _. phrase_rule) text.now size at codes.old codes.new count (step_of result) }
+pub fn phrase(reader: &mut Reader) -> Result<(), Refusal>
+    ensures { Answers (λ _. phrase_rule) reader.old reader.new result }
 {
-    let step = words(text, size, at, codes, count);
-    if steps::is_failed(step) {
-        return step;
+    words(reader)?;
+    if !reader.takes(Symbol::Occurs) {
+        return Ok(());
     }
-    let q = steps::at_of(step);
-    let n = steps::count_of(step);
-    let t = scanner::token_at(text, size, q);
-    if scanner::symbol_of(t) != symbols::OCCURS {
-        return step;
-    }
-    let end = scanner::end_of(t);
-    range(text, size, end, codes, n, symbols::TIMES, 16, 17, 1, 0)
-}
-
-// FTPosFilter, by its first word.
-fn filter(text: &[u8; 2048], size: usize, at: u32, codes: &mut [u32; 128], count: u32) -> u64
-    requires { Ready text.now size at count }
-    ensures { Answers (λ _. filter_rule) text.now size at codes.old codes.new count (step_of result) }
-{
-    let t = scanner::token_at(text, size, at);
-    let symbol = scanner::symbol_of(t);
-    let end = scanner::end_of(t);
-    match symbol {
-        symbols::ORDERED => {
-            let m = push(codes, count, 6, 0);
-            steps::read(end, m)
-        }
-        symbols::WINDOW => measured(text, size, end, codes, count, symbols::WORDS, 7, 1, 0),
-        // "`at least` (to 4,095)"
-        symbols::DISTANCE => range(
-            text,
-            size,
-            end,
-            codes,
-            count,
-            symbols::WORDS,
-            8,
-            8,
-            RADIX,
-            MAX_DISTANCE,
-        ),
-        symbols::SAME => either(text, size, end, codes, count, symbols::SENTENCE, 9),
-        symbols::DIFFERENT => either(text, size, end, codes, count, symbols::SENTENCE, 11),
-        symbols::AT => either(text, size, end, codes, count, symbols::START, 13),
-        symbols::ENTIRE => coded(text, size, end, codes, count, symbols::CONTENT, 15, 0),
-        _ => steps::error_at(10, t),
-    }
+    range(
+        reader,
+        Symbol::Times,
+        |a| Code::Occurs(Times::AtLeast(a)),
+        |a, b| Code::Occurs(Times::FromTo { least: a, most: b }),
+    )
 }
 
 // Does a filter begin with this symbol?
-fn starts_filter(symbol: u32) -> bool
-    ensures { result ≡ (leb k_ordered symbol && leb symbol k_entire) }
+fn starts_filter(symbol: Symbol) -> bool
+    ensures { result ≡ (leb k_ordered (number_of symbol) && leb (number_of symbol) k_entire) }
 {
-    if symbol < symbols::ORDERED {
-        return false;
-    }
-    symbol <= symbols::ENTIRE
+    matches!(
+        symbol,
+        Symbol::Ordered
+            | Symbol::Window
+            | Symbol::Distance
+            | Symbol::Same
+            | Symbol::Different
+            | Symbol::At
+            | Symbol::Entire
+    )
 }
 
-// FTPosFilter*
-pub fn filters(text: &[u8; 2048], size: usize, at: u32, codes: &mut [u32; 128], count: u32) -> u64
-    requires { Ready text.now size at count }
-    ensures { AnswersMany filters_rule text.now size at codes.old codes.new count (step_of result) }
+fn distance(least: u32, most: u32) -> Code
+    ensures { result ≡ Code.Filter (Filter.Distance least most) }
 {
-    let mut p = at;
-    let mut n = count;
-    loop {
-        let t = scanner::token_at(text, size, p);
-        if !starts_filter(scanner::symbol_of(t)) {
-            return steps::read(p, n);
+    Code::Filter(Filter::Distance { least, most })
+}
+
+// FTPosFilter, by its first word.
+fn filter(reader: &mut Reader) -> Result<(), Refusal>
+    ensures { Answers (λ _. filter_rule) reader.old reader.new result }
+{
+    match reader.symbol() {
+        Symbol::Ordered => {
+            reader.pass();
+            reader.push(Code::Filter(Filter::Ordered));
+            Ok(())
         }
-        let step = filter(text, size, p, codes, n);
-        if steps::is_failed(step) {
-            return step;
+        Symbol::Window => {
+            reader.pass();
+            measured(reader, Symbol::Words, |n| Code::Filter(Filter::Window(n)))
         }
-        p = steps::at_of(step);
-        n = steps::count_of(step);
+        // "`at least` (to 4,095)"
+        Symbol::Distance => {
+            reader.pass();
+            range(
+                reader,
+                Symbol::Words,
+                |least| distance(least, MAX_DISTANCE),
+                distance,
+            )
+        }
+        Symbol::Same => {
+            reader.pass();
+            either(
+                reader,
+                Symbol::Sentence,
+                Code::Filter(Filter::SameSentence),
+                Symbol::Paragraph,
+                Code::Filter(Filter::SameParagraph),
+            )
+        }
+        Symbol::Different => {
+            reader.pass();
+            either(
+                reader,
+                Symbol::Sentence,
+                Code::Filter(Filter::DifferentSentence),
+                Symbol::Paragraph,
+                Code::Filter(Filter::DifferentParagraph),
+            )
+        }
+        Symbol::At => {
+            reader.pass();
+            either(
+                reader,
+                Symbol::Start,
+                Code::Filter(Filter::AtStart),
+                Symbol::End,
+                Code::Filter(Filter::AtEnd),
+            )
+        }
+        Symbol::Entire => {
+            reader.pass();
+            coded(reader, Symbol::Content, Code::Filter(Filter::EntireContent))
+        }
+        _ => Err(reader.unexpected()),
     }
+}
+
+// FTPosFilter*. A call of its own, as a phrase is.
+#[inline(never)]
+pub fn filters(reader: &mut Reader) -> Result<(), Refusal>
+    ensures { AnswersMany filters_rule reader.old reader.new result }
+{
+    while starts_filter(reader.symbol()) {
+        filter(reader)?;
+    }
+    Ok(())
 }

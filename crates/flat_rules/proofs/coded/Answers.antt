@@ -1,19 +1,13 @@
--- The first token has the symbol, and is read with the code, or is refused.
-use mathlib.Core.Path.{refl}
-use native.Mathlib.Omega.{arith}
-use Rattle.flat_rules.proofs.TokensLaws.{answers_code, answers-refused, one_more}
-use Rattle.flat_rules.proofs.RangesLaws.{coded_no, coded_yes}
+use Rattle.std.proofs.lemmas.Result.{err_from_is_err_and}
+use Rattle.flat_rules.proofs.AnswersLaws.{answers-code, answers-refused}
+use Rattle.flat_rules.proofs.RangesLaws.{coded-no, coded-yes}
 use Rattle.flat_rules.proofs.coded.Goals as goal
 
-pub returns-then-symbol_of-symbol : goal.returns-then-symbol_of-symbol
-returns-then-symbol_of-symbol c d is =
-    answers-refused c.token_at-t.ensures c.symbol_of.ensures (λ ts h. coded_no _ d ts h c.if-symbol_of-symbol.true) c.error_at.ensures
-
-pub read-requires : goal.read-requires
-read-requires c =
-    one_more c.token_at-t.ensures c.symbol_of.ensures c.requires.ready c.if-symbol_of-symbol.false (λ z. omega (arith, z, c.requires.symbol_lt_other_word)) c.end_of.ensures refl
+pub returns-in_err-expect : goal.returns-in_err-expect
+returns-in_err-expect c =
+    let p = err_from_is_err_and c.from_residual.result c.from_residual.ensures.1 in
+    let m = c.in_err-expect.ensures in
+    rw (p.1, p.2) (answers-refused c.args.reader.now _ m.refused (λ n. coded-no _ _ c.args.code m.is))
 
 pub returns : goal.returns
-returns c d is =
-    answers_code c.token_at-t.ensures c.symbol_of.ensures c.if-symbol_of-symbol.false (λ z. omega (arith, z, c.requires.symbol_lt_other_word)) c.end_of.ensures
-    (coded_yes _ d) (c.push.ensures d is) refl c.read.ensures
+returns c = let t = c.in_ok-expect.ensures in answers-code c.args.reader.now _ c.args.code t (λ n. coded-yes _ _ c.args.code t.is) c.push.ensures

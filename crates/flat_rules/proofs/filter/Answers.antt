@@ -1,48 +1,52 @@
 -- Each of the seven words goes on with its rule, and any other token is refused.
-use mathlib.Core.Path.{refl}
-use native.Mathlib.Omega.{arith}
-use borrow.Author.Rules.{rules}
+use Rattle.std.proofs.Common.{refl, rules}
 use Rattle.model.specs.declared.Code.TheVariants.{Filter as Filtered}
-use Rattle.model.specs.declared.Filter.TheVariants.{Ordered}
-use Rattle.flat_rules.proofs.TokensLaws.{answers-after, answers_code, answers-refused, one_more}
+use Rattle.model.specs.declared.Filter.TheVariants.{Distance, Window}
+use Rattle.model.specs.Limits.{max_distance}
+use Rattle.scanner.specs.declared.symbols.Symbol.TheVariants as symbols
+use Rattle.lent_text.proofs.TokensLaws.{passed}
 use Rattle.flat_rules.proofs.FiltersLaws.{filter-at, filter-different, filter-distance, filter_entire, filter_none, filter-ordered, filter_same, filter-window}
-use Rattle.flat_rules.proofs.RangesLaws.{makes-distance, makes_least_distance, makes-window}
 use Rattle.flat_rules.proofs.filter.Goals as goal
 
-pub read-requires : goal.read-requires
-read-requires c =
-    let w = c.push-m.ensures (Filtered Ordered) (record { kind_is = refl; operand_is = refl }) in
-    one_more c.token_at-t.ensures c.symbol_of-symbol.ensures c.requires c.in-6.is (λ z. omega (arith, z)) c.end_of-end.ensures w.counted
+pub push-requires-clause-few : goal.push-requires-clause-few
+push-requires-clause-few c = (passed symbols.Ordered c.args.reader.now _ refl c.symbol.ensures.symbol c.in-Ordered.is c.pass.ensures.passed c.pass.ensures.few).room
 
-pub returns-in-6 : goal.returns-in-6
-returns-in-6 c =
-    let w = c.push-m.ensures (Filtered Ordered) (record { kind_is = refl; operand_is = refl }) in
-    answers_code c.token_at-t.ensures c.symbol_of-symbol.ensures c.in-6.is (λ z. omega (arith, z)) c.end_of-end.ensures filter-ordered w w.counted c.read.ensures
+pub returns-in-Ordered : goal.returns-in-Ordered
+returns-in-Ordered c =
+    filter-ordered c.args.reader.now _ (passed symbols.Ordered c.args.reader.now _ refl c.symbol.ensures.symbol c.in-Ordered.is c.pass.ensures.passed c.pass.ensures.few)
+    c.push.ensures
 
-pub returns-in-7 : goal.returns-in-7
-returns-in-7 c =
-    answers-after c.token_at-t.ensures c.symbol_of-symbol.ensures c.in-7.is c.end_of-end.ensures filter-window (c.measured.ensures _ makes-window)
+pub returns-in-Window : goal.returns-in-Window
+returns-in-Window c =
+    filter-window c.args.reader.now _ (passed symbols.Window c.args.reader.now _ refl c.symbol.ensures.symbol c.in-Window.is c.pass-in-Window.ensures.passed c.pass-in-Window.ensures.few)
+    (c.measured.ensures (λ n. Filtered (Window n)) (λ n x l k. search rules))
 
-pub returns-in-8 : goal.returns-in-8
-returns-in-8 c =
-    answers-after c.token_at-t.ensures c.symbol_of-symbol.ensures c.in-8.is c.end_of-end.ensures filter-distance (c.range.ensures _ _ makes_least_distance makes-distance)
+pub returns-in-Distance : goal.returns-in-Distance
+returns-in-Distance c =
+    filter-distance c.args.reader.now _ (passed symbols.Distance c.args.reader.now _ refl c.symbol.ensures.symbol c.in-Distance.is c.pass-in-Distance.ensures.passed c.pass-in-Distance.ensures.few)
+    (c.range.ensures (λ a. Filtered (Distance a max_distance)) (λ a b. Filtered (Distance a b)) (λ n x l k. search rules) (λ a b x l m k. search rules))
 
-pub returns-in-9 : goal.returns-in-9
-returns-in-9 c =
-    answers-after c.token_at-t.ensures c.symbol_of-symbol.ensures c.in-9.is c.end_of-end.ensures filter_same (c.either.ensures _ _ (record { kind_is = refl; operand_is = refl }) (record { kind_is = refl; operand_is = refl }))
+pub returns-in-Same : goal.returns-in-Same
+returns-in-Same c =
+    filter_same c.args.reader.now _ (passed symbols.Same c.args.reader.now _ refl c.symbol.ensures.symbol c.in-Same.is c.pass-in-Same.ensures.passed c.pass-in-Same.ensures.few)
+    c.either.ensures
 
-pub returns-in-10 : goal.returns-in-10
-returns-in-10 c =
-    answers-after c.token_at-t.ensures c.symbol_of-symbol.ensures c.in-10.is c.end_of-end.ensures filter-different (c.either-in-10.ensures _ _ (record { kind_is = refl; operand_is = refl }) (record { kind_is = refl; operand_is = refl }))
+pub returns-in-Different : goal.returns-in-Different
+returns-in-Different c =
+    filter-different c.args.reader.now _ (passed symbols.Different c.args.reader.now _ refl c.symbol.ensures.symbol c.in-Different.is c.pass-in-Different.ensures.passed c.pass-in-Different.ensures.few)
+    c.either-in-Different.ensures
 
-pub returns-in-11 : goal.returns-in-11
-returns-in-11 c =
-    answers-after c.token_at-t.ensures c.symbol_of-symbol.ensures c.in-11.is c.end_of-end.ensures filter-at (c.either-in-11.ensures _ _ (record { kind_is = refl; operand_is = refl }) (record { kind_is = refl; operand_is = refl }))
+pub returns-in-At : goal.returns-in-At
+returns-in-At c =
+    filter-at c.args.reader.now _ (passed symbols.At c.args.reader.now _ refl c.symbol.ensures.symbol c.in-At.is c.pass-in-At.ensures.passed c.pass-in-At.ensures.few)
+    c.either-in-At.ensures
 
-pub returns-in-12 : goal.returns-in-12
-returns-in-12 c =
-    answers-after c.token_at-t.ensures c.symbol_of-symbol.ensures c.in-12.is c.end_of-end.ensures filter_entire (c.coded.ensures _ (record { kind_is = refl; operand_is = refl }))
+pub returns-in-Entire : goal.returns-in-Entire
+returns-in-Entire c =
+    filter_entire c.args.reader.now _ (passed symbols.Entire c.args.reader.now _ refl c.symbol.ensures.symbol c.in-Entire.is c.pass-in-Entire.ensures.passed c.pass-in-Entire.ensures.few)
+    c.coded.ensures
 
 pub returns-in_default : goal.returns-in_default
 returns-in_default c =
-    answers-refused c.token_at-t.ensures c.symbol_of-symbol.ensures (λ ts h. filter_none ts h (search rules) (search rules) (search rules) (search rules) (search rules) (search rules) (search rules)) c.error_at.ensures
+    let n = c.in_default in
+    filter_none c.args.reader.now _ c.symbol.ensures.symbol n.not-Ordered n.not-Window n.not-Distance n.not-Same n.not-Different n.not-At n.not-Entire c.unexpected.ensures

@@ -1,10 +1,10 @@
--- The filters read so far are followed by the rest of the filters. Measure: the bytes left.
-use Prim.Native.Nat.{◌-◌}
+-- The filters read so far are followed by the rest. Measure: the bytes left.
+use Rattle.lent_text.specs.State.{left}
 use Rattle.flat_rules.proofs.FiltersLaws.{Filters}
 use Rattle.flat_rules.proofs.filters.Given as goal
 
-abbrev pub invariant-loop-size : goal.invariant-loop-size
-invariant-loop-size l = Filters l.text l.size l.at l.initial.codes l.codes l.count l.p l.n
+abbrev pub invariant-loop-reader : goal.invariant-loop-reader
+invariant-loop-reader l = Filters l.fn.reader l.reader
 
-abbrev pub decreases-loop-size : goal.decreases-loop-size
-decreases-loop-size l = l.size - l.p
+abbrev pub decreases-loop-reader : goal.decreases-loop-reader
+decreases-loop-reader l = left l.reader

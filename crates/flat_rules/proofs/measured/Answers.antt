@@ -1,25 +1,15 @@
--- The number is at most 4,096, so that it makes the operand, and the last word is read after it.
-use native.Mathlib.Omega.{arith}
-use Rattle.flat_rules.proofs.TokensLaws.{answers_number, answers-over, answers-refused}
-use Rattle.flat_rules.proofs.RangesLaws.{measured-none, measured-over, measured-read, product_small}
+use Rattle.std.proofs.Common.{arith}
+use Rattle.std.proofs.lemmas.Result.{err_from_is_err_and}
+use Rattle.flat_rules.proofs.AnswersLaws.{answers-failed, answers-on}
+use Rattle.flat_rules.proofs.RangesLaws.{measured-none, measured-read}
 use Rattle.flat_rules.proofs.measured.Goals as goal
 
-pub returns-then-symbol_of-ne-NUMBER : goal.returns-then-symbol_of-ne-NUMBER
-returns-then-symbol_of-ne-NUMBER c f m =
-    answers-refused c.token_at-t.ensures c.symbol_of.ensures (λ ts h. measured-none _ ts h f c.if-symbol_of-ne-NUMBER.true) c.error_at.ensures
-
-pub returns-then-v-gt-MAX_NUMBER : goal.returns-then-v-gt-MAX_NUMBER
-returns-then-v-gt-MAX_NUMBER c f m =
-    answers-over c.token_at-t.ensures c.symbol_of.ensures c.value_of-v.ensures (λ ts h w. measured-over _ ts h w c.if-symbol_of-ne-NUMBER.false f c.if-v-gt-MAX_NUMBER.true) c.error_at-then-v-gt-MAX_NUMBER.ensures
-
-pub overflow_mul-operand : goal.overflow_mul-operand
-overflow_mul-operand c = omega (arith, product_small _ _ 0 c.if-v-gt-MAX_NUMBER.false c.requires.last_lt_other_word.1 (omega arith))
-
-pub overflow_add-operand : goal.overflow_add-operand
-overflow_add-operand c = omega (arith, product_small _ _ _ c.if-v-gt-MAX_NUMBER.false c.requires.last_lt_other_word.1 c.requires.last_lt_other_word.2)
+pub returns-in_err-n : goal.returns-in_err-n
+returns-in_err-n g c f makes =
+    let p = err_from_is_err_and c.from_residual.result c.from_residual.ensures.1 in
+    rw (p.1, p.2) (answers-failed c.args.reader.now _ (λ n l. measured-none _ c.args.reader.now c.in_err-n.ensures f))
 
 pub returns : goal.returns
-returns c f m =
-    let small = c.if-v-gt-MAX_NUMBER.false in
-    answers_number c.token_at-t.ensures c.symbol_of.ensures c.value_of-v.ensures c.end_of-end.ensures (λ ts h w. measured-read _ ts h w c.if-symbol_of-ne-NUMBER.false f small)
-    (c.coded.ensures (f _) (m.makes _ small))
+returns g c f makes =
+    let n = c.in_ok-n.ensures in
+    answers-on c.args.reader.now _ (measured-read _ c.args.reader.now _ n f (makes _ _ n.within c.f.ensures)) (omega (arith, n.fewer)) n.codes_are c.coded.ensures

@@ -1,30 +1,19 @@
--- The words are read; `occurs` after them goes on with a range, and any other token ends the phrase before it.
-use native.Mathlib.Omega.{arith}
-use Rattle.flat_rules.proofs.AnswersLaws.{ready_after, step_failed, step_read}
-use Rattle.flat_rules.proofs.RangesLaws.{makes_least_times, makes-times}
-use Rattle.flat_rules.proofs.PhrasesLaws.{phrase-alone, phrase-fails, phrase_times, words_ready}
+use Rattle.std.proofs.Common.{rules}
+use Rattle.std.proofs.lemmas.Result.{err_from_is_err_and}
+use Rattle.model.specs.declared.Code.TheVariants.{Occurs}
+use Rattle.model.specs.declared.Times.TheVariants.{AtLeast, FromTo}
+use Rattle.flat_rules.proofs.PhrasesLaws.{phrase_alone, phrase-fails, phrase_times}
 use Rattle.flat_rules.proofs.phrase.Goals as goal
 
-pub returns-then-is_failed : goal.returns-then-is_failed
-returns-then-is_failed c = phrase-fails (step_failed _ c.is_failed.ensures c.if-is_failed.true) c.words-step.ensures
+pub returns-in_err-words : goal.returns-in_err-words
+returns-in_err-words c =
+    let p = err_from_is_err_and c.from_residual.result c.from_residual.ensures.1 in
+    rw (p.1, p.2) (phrase-fails c.in_err-words.ensures)
 
-pub token_at-t-requires : goal.token_at-t-requires
-token_at-t-requires c =
-    let g = step_read _ c.is_failed.ensures c.if-is_failed.false c.at_of-q.ensures c.count_of-n.ensures in
-    (words_ready g c.words-step.ensures c.requires).inside
-
-pub returns-then-symbol_of-ne-OCCURS : goal.returns-then-symbol_of-ne-OCCURS
-returns-then-symbol_of-ne-OCCURS c =
-    let g = step_read _ c.is_failed.ensures c.if-is_failed.false c.at_of-q.ensures c.count_of-n.ensures in
-    phrase-alone g c.words-step.ensures c.token_at-t.ensures c.symbol_of.ensures c.if-symbol_of-ne-OCCURS.true
-
-pub range-requires : goal.range-requires
-range-requires c =
-    let g = step_read _ c.is_failed.ensures c.if-is_failed.false c.at_of-q.ensures c.count_of-n.ensures in
-    record { ready = ready_after c.token_at-t.ensures (words_ready g c.words-step.ensures c.requires) c.end_of-end.ensures; last_lt_other_word = (omega arith, omega arith, omega arith) }
+pub returns-then-not-takes : goal.returns-then-not-takes
+returns-then-not-takes c = phrase_alone c.args.reader.now c.words.new.reader c.in_ok-words.ensures c.if-not-takes.ensures
 
 pub returns : goal.returns
 returns c =
-    let g = step_read _ c.is_failed.ensures c.if-is_failed.false c.at_of-q.ensures c.count_of-n.ensures in
-    phrase_times g c.words-step.ensures c.token_at-t.ensures c.symbol_of.ensures c.if-symbol_of-ne-OCCURS.false c.end_of-end.ensures
-    (c.range.ensures _ _ makes_least_times makes-times)
+    phrase_times c.args.reader.now c.words.new.reader c.in_ok-words.ensures c.if-not-takes.ensures
+    (c.range.ensures (λ a. Occurs (AtLeast a)) (λ a b. Occurs (FromTo a b)) (λ n x l k. search rules) (λ a b x l m k. search rules))

@@ -1,20 +1,21 @@
--- Each of the three words goes on with its rule, and any other token is refused.
-use Rattle.flat_rules.proofs.TokensLaws.{answers-after, answers-refused}
-use Rattle.flat_rules.proofs.RangesLaws.{makes_exactly, range_at_lem, range_exactly, range_from_to, range_none}
+use Rattle.std.proofs.Common.{rules}
+use Rattle.std.proofs.lemmas.Result.{err_from_is_err_and}
+use Rattle.flat_rules.proofs.RangesLaws.{range_bound, range_exactly, range_from_to, range-missed}
 use Rattle.flat_rules.proofs.range.Goals as goal
 
-pub returns-then-symbol-eq-EXACTLY : goal.returns-then-symbol-eq-EXACTLY
-returns-then-symbol-eq-EXACTLY c f g least between =
-    answers-after c.token_at-t.ensures c.symbol_of-symbol.ensures c.if-symbol-eq-EXACTLY.true c.end_of-end.ensures (range_exactly _ f g) (c.measured.ensures _ (makes_exactly between))
+pub returns-then-takes : goal.returns-then-takes
+returns-then-takes g c least between makes both =
+    range_exactly _ least between c.args.reader.now c.if-takes.ensures (c.measured.ensures (λ n. between n n) (λ b x l e. search (rules, both)))
 
-pub returns-then-symbol-eq-FROM : goal.returns-then-symbol-eq-FROM
-returns-then-symbol-eq-FROM c f g least between =
-    answers-after c.token_at-t.ensures c.symbol_of-symbol.ensures c.if-symbol-eq-FROM.true c.end_of-end.ensures (range_from_to _ f g) (c.range_from.ensures g between)
+pub returns-then-takes-2 : goal.returns-then-takes-2
+returns-then-takes-2 g c least between makes both =
+    range_from_to _ least between c.args.reader.now c.if-takes.ensures c.if-takes-2.ensures (c.range_from.ensures between both)
 
-pub returns-then-symbol-ne-AT : goal.returns-then-symbol-ne-AT
-returns-then-symbol-ne-AT c f g least between =
-    answers-refused c.token_at-t.ensures c.symbol_of-symbol.ensures (λ ts h. range_none _ f g ts h c.if-symbol-eq-EXACTLY.false c.if-symbol-eq-FROM.false c.if-symbol-ne-AT.true) c.error_at.ensures
+pub returns-in_err-expect : goal.returns-in_err-expect
+returns-in_err-expect g c least between makes both =
+    let p = err_from_is_err_and c.from_residual.result c.from_residual.ensures.1 in
+    rw (p.1, p.2) (range-missed _ least between c.args.reader.now c.if-takes.ensures c.if-takes-2.ensures _ c.in_err-expect.ensures)
 
 pub returns : goal.returns
-returns c f g least between =
-    answers-after c.token_at-t.ensures c.symbol_of-symbol.ensures c.if-symbol-ne-AT.false c.end_of-end.ensures (range_at_lem _ f g) (c.range_at.ensures f g least between)
+returns g c least between makes both =
+    range_bound _ least between c.args.reader.now c.if-takes.ensures c.if-takes-2.ensures c.in_ok-expect.ensures (c.range_at.ensures least between makes both)

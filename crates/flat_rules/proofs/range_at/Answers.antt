@@ -1,16 +1,16 @@
--- `least` and `most` go on with a number, and any other token is refused.
-use Rattle.flat_rules.proofs.TokensLaws.{answers-after, answers-refused}
-use Rattle.flat_rules.proofs.RangesLaws.{at_least, at_most, at_none, makes-from}
+use Rattle.std.proofs.Common.{rules}
+use Rattle.std.proofs.lemmas.Result.{err_from_is_err_and}
+use Rattle.flat_rules.proofs.RangesLaws.{at_least, at-missed, at_most}
 use Rattle.flat_rules.proofs.range_at.Goals as goal
 
-pub returns-then-symbol-eq-LEAST : goal.returns-then-symbol-eq-LEAST
-returns-then-symbol-eq-LEAST c f g least between =
-    answers-after c.token_at-t.ensures c.symbol_of-symbol.ensures c.if-symbol-eq-LEAST.true c.end_of-end.ensures (at_least _ f g) (c.measured.ensures f least)
+pub returns-then-takes : goal.returns-then-takes
+returns-then-takes g c least between makes both = at_least _ least between c.args.reader.now c.if-takes.ensures (c.measured.ensures least makes)
 
-pub returns-then-symbol-ne-MOST : goal.returns-then-symbol-ne-MOST
-returns-then-symbol-ne-MOST c f g least between =
-    answers-refused c.token_at-t.ensures c.symbol_of-symbol.ensures (λ ts h. at_none _ f g ts h c.if-symbol-eq-LEAST.false c.if-symbol-ne-MOST.true) c.error_at.ensures
+pub returns-in_err-expect : goal.returns-in_err-expect
+returns-in_err-expect g c least between makes both =
+    let p = err_from_is_err_and c.from_residual.result c.from_residual.ensures.1 in
+    rw (p.1, p.2) (at-missed _ least between c.args.reader.now _ c.if-takes.ensures c.in_err-expect.ensures)
 
 pub returns : goal.returns
-returns c f g least between =
-    answers-after c.token_at-t.ensures c.symbol_of-symbol.ensures c.if-symbol-ne-MOST.false c.end_of-end.ensures (at_most _ f g) (c.measured-2.ensures _ (makes-from between 0))
+returns g c least between makes both =
+    at_most _ least between c.args.reader.now c.if-takes.ensures c.in_ok-expect.ensures (c.measured-2.ensures (between 0) (λ b x l e. search (rules, both)))

@@ -1,72 +1,30 @@
-use mathlib.Core.Path.{refl}
-use mathlib.Core.Logic.{inl, inr}
-use native.Mathlib.Omega.{arith}
-use Rattle.model.specs.declared.Code.TheVariants.{Word, Phrase}
-use Rattle.flat_rules.proofs.AnswersLaws.{count-short, start-short}
-use Rattle.flat_rules.proofs.TokensLaws.{answers_code, answers-over, answers-refused, one_more}
-use Rattle.flat_rules.proofs.PhrasesLaws.{words_closed, words_full, words-none, words-on, words-over, words-start, words_step}
+use Rattle.std.proofs.Common.{◌≡◌, arith}
+use Rattle.std.proofs.lemmas.Result.{err_from_is_err_and}
+use Rattle.flat_rules.proofs.PhrasesLaws.{words_closed, words-fail, words_first, words_full, words_next, words-none}
 use Rattle.flat_rules.proofs.words.Goals as goal
-use Rattle.flat_rules.proofs.words.Goals.{then-symbol-eq-QUOTE+else-k-ne0, else-symbol-eq-QUOTE}
 
-pub loop-codes-init : goal.loop-codes-init
-loop-codes-init c = words-start c.requires
+pub returns-in_err-word : goal.returns-in_err-word
+returns-in_err-word c =
+    let p = err_from_is_err_and c.from_residual.result c.from_residual.ensures.1 in
+    rw (p.1, p.2) (words-none c.args.reader.now _ c.in_err-word.ensures)
 
-pub token_at-t-requires : goal.token_at-t-requires
-token_at-t-requires c = c.loop-codes.invariant.ready.inside
+pub loop-size-init : goal.loop-size-init
+loop-size-init c = words_first c.args.reader.now c.word.new.reader c.in_ok-word.ensures
 
-pub push-m-requires : goal.push-m-requires
-push-m-requires c = count-short c.loop-codes.invariant.ready
+pub returns-then-takes : goal.returns-then-takes
+returns-then-takes c =
+    words_closed c.args.reader.now c.loop-size.reader c.loop-size.size c.loop-size.invariant c.loop-size.auto.size c.if-takes.ensures c.push.ensures
 
-pub read-requires : goal.read-requires
-read-requires c =
-    let w = c.push-m.ensures (Phrase _) (record { kind_is = refl; operand_is = refl }) in
-    let i = c.loop-codes.invariant in
-    one_more c.token_at-t.ensures c.symbol_of-symbol.ensures i.ready c.if-symbol-eq-QUOTE.true (λ z. omega (arith, z)) c.end_of.ensures w.counted
+pub returns-in_err-word-2 : goal.returns-in_err-word-2
+returns-in_err-word-2 c =
+    let p = err_from_is_err_and c.from_residual-in_err-word-2.result c.from_residual-in_err-word-2.ensures.1 in
+    rw (p.1, p.2) (words-fail c.args.reader.now c.loop-size.reader c.loop-size.size c.loop-size.invariant c.loop-size.auto.size c.loop-size-test.true c.if-takes.ensures _ c.in_err-word-2.ensures)
 
-pub returns-then-k-ne0 : goal.returns-then-k-ne0
-returns-then-k-ne0 c =
-    let w = c.push-m.ensures (Phrase _) (record { kind_is = refl; operand_is = refl }) in
-    let i = c.loop-codes.invariant in
-    words-on i (answers_code c.token_at-t.ensures c.symbol_of-symbol.ensures c.if-symbol-eq-QUOTE.true (λ z. omega (arith, z)) c.end_of.ensures
-    (λ ts h. words_closed _ _ ts h c.if-k-ne0.true) w w.counted c.read.ensures)
+pub loop-size-preserved : goal.loop-size-preserved
+loop-size-preserved c =
+    words_next c.args.reader.now c.loop-size.reader c.loop-size.size c.loop-size.invariant c.loop-size.auto.size c.loop-size-test.true c.if-takes.ensures c.in_ok-word-2.ensures
 
-pub error_at-requires : goal.error_at-requires
-error_at-requires c = record { le_number = (omega arith, omega arith); token_bound = start-short c.token_at-t.ensures c.loop-codes.invariant.ready }
-
-pub returns-then-k-eq-MAX_WORDS : goal.returns-then-k-eq-MAX_WORDS
-returns-then-k-eq-MAX_WORDS c =
-    let i = c.loop-codes.invariant in
-    words-on i (answers-refused c.token_at-t.ensures c.symbol_of-symbol.ensures (λ ts h. words_full _ ts h (elim c.if-symbol-eq-QUOTE.branch [ then-symbol-eq-QUOTE+else-k-ne0 w ↦ inr w.if-k-ne0.false | else-symbol-eq-QUOTE w ↦ inl w.if-symbol-eq-QUOTE.false ]) c.if-k-eq-MAX_WORDS.true) c.error_at.ensures)
-
-pub error_at-requires-then-symbol-ne-NUMBER : goal.error_at-requires-then-symbol-ne-NUMBER
-error_at-requires-then-symbol-ne-NUMBER c = record { le_number = (omega arith, omega arith); token_bound = start-short c.token_at-t.ensures c.loop-codes.invariant.ready }
-
-pub returns-then-symbol-ne-NUMBER : goal.returns-then-symbol-ne-NUMBER
-returns-then-symbol-ne-NUMBER c =
-    let i = c.loop-codes.invariant in
-    words-on i (answers-refused c.token_at-t.ensures c.symbol_of-symbol.ensures
-    (λ ts h. words-none _ ts h (elim c.if-symbol-eq-QUOTE.branch [ then-symbol-eq-QUOTE+else-k-ne0 w ↦ inr w.if-k-ne0.false | else-symbol-eq-QUOTE w ↦ inl w.if-symbol-eq-QUOTE.false ]) i.few c.if-k-eq-MAX_WORDS.false c.if-symbol-ne-NUMBER.true) c.error_at-then-symbol-ne-NUMBER.ensures)
-
-pub error_at-requires-then-v-gt-MAX_WORD : goal.error_at-requires-then-v-gt-MAX_WORD
-error_at-requires-then-v-gt-MAX_WORD c = record { le_number = (omega arith, omega arith); token_bound = start-short c.token_at-t.ensures c.loop-codes.invariant.ready }
-
-pub returns-then-v-gt-MAX_WORD : goal.returns-then-v-gt-MAX_WORD
-returns-then-v-gt-MAX_WORD c =
-    let i = c.loop-codes.invariant in
-    words-on i (answers-over c.token_at-t.ensures c.symbol_of-symbol.ensures c.value_of-v.ensures
-    (λ ts h w. words-over _ ts h (elim c.if-symbol-eq-QUOTE.branch [ then-symbol-eq-QUOTE+else-k-ne0 w ↦ inr w.if-k-ne0.false | else-symbol-eq-QUOTE w ↦ inl w.if-symbol-eq-QUOTE.false ]) i.few c.if-k-eq-MAX_WORDS.false w c.if-symbol-ne-NUMBER.false c.if-v-gt-MAX_WORD.true) c.error_at-then-v-gt-MAX_WORD.ensures)
-
-pub push-n-requires : goal.push-n-requires
-push-n-requires c = count-short c.loop-codes.invariant.ready
-
-pub overflow_add-k : goal.overflow_add-k
-overflow_add-k c = omega (arith, c.loop-codes.invariant.few)
-
-pub loop-codes-smaller : goal.loop-codes-smaller
-loop-codes-smaller c = omega (arith, c.loop-codes.invariant.few, c.if-k-eq-MAX_WORDS.false)
-
-pub loop-codes-preserved : goal.loop-codes-preserved
-loop-codes-preserved c =
-    let i = c.loop-codes.invariant in
-    let w = c.push-n.ensures (Word _) (record { kind_is = refl; operand_is = refl }) in
-    words_step i c.token_at-t.ensures c.symbol_of-symbol.ensures (elim c.if-symbol-eq-QUOTE.branch [ then-symbol-eq-QUOTE+else-k-ne0 w ↦ inr w.if-k-ne0.false | else-symbol-eq-QUOTE w ↦ inl w.if-symbol-eq-QUOTE.false ]) c.if-k-eq-MAX_WORDS.false c.if-symbol-ne-NUMBER.false c.value_of-v.ensures c.if-v-gt-MAX_WORD.false w c.end_of-p.ensures
+pub returns : goal.returns
+returns c =
+    let all : c.loop-size.size ≡ 8 = omega (arith, c.loop-size.auto.size, c.loop-size.auto.size-end) in
+    words_full c.args.reader.now c.loop-size.reader c.loop-size.size c.loop-size.invariant all c.coded.ensures
