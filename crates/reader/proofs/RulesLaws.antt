@@ -1,127 +1,165 @@
--- The rules without a loop: a selection with its filters, `ftnot`, and what stands in quotes or in parentheses.
-use Prim.Native.Nat.{ℕ, suc, ◌+◌, ◌-◌, ◌≤◌}
-use native.Mathlib.Omega.{arith}
-use mathlib.Core.Path.{◌≡◌, ap, ◌∙◌}
-use mathlib.Core.Bool.{Bool, true, false, cond}
-use mathlib.Core.List.{List, [], ◌∷◌, ◌++◌}
-use lib.Dec.{eqb}
-use lib.ListN.{length}
-use Rattle.model.specs.declared.Code.TheVariants.{Not}
-use Rattle.grammar.specs.Stream.{place_in}
-use Rattle.grammar.specs.Symbols.{k_ftnot, s_quote, s_opening, s_closing, symbol_in}
-use Rattle.grammar.specs.Grammar.{failed, Rule, prefixed, ◌then◌, writes, expect, phrase, filters, ft_primary, ft_unary_not, ft_selection}
-use Rattle.flat_rules.specs.Steps.{Step, reached, stopped}
-use Rattle.flat_rules.specs.Answers.{Wrote, Ready, Says, Went, Answers, WentMany, AnswersMany}
-use Rattle.flat_rules.proofs.AnswersLaws.{answers-failed, answers-from, then_failed, then_none, then_read, then_writes, wrote-append}
-use Rattle.reader.proofs.CallsLaws.{stream_in, Begins, expect-is, ready_on}
-use Rattle.reader.proofs.LevelsLaws.{or_rule, not_rule}
+-- The levels by their operators; and the rules without a loop: a selection with its filters, `ftnot`, and what stands in quotes or in parentheses.
+use Rattle.std.proofs.Common.{◌≡◌, ℕ, suc, ◌+◌, ◌-◌, ◌<◌, ◌≤◌, Bool, true, false, [], ◌∷◌, ◌++◌, sym, ap, ◌∙◌, refl, subst, arith, Ok, Err}
+use Rattle.std.specs.Bool.{MatchBool}
+use Rattle.std.specs.Result.{MatchResult}
+use Rattle.model.specs.declared.Code.TheVariants.{Not as NotCode}
+use Rattle.model.specs.declared.Pair.TheVariants.{Or, And, MildNot}
+use Rattle.model.specs.declared.Refusal.{Refusal}
+use Rattle.model.specs.Limits.{max_text}
+use Rattle.grammar.specs.Stream.{Stream, rest_of}
+use Rattle.grammar.specs.Symbols.{s_closing}
+use Rattle.grammar.specs.Grammar.{failed, read, Rule, prefixed, ◌then◌, writes, expect, phrase, filters, ft_primary, ft_unary_not, ft_mild_not, ft_and, ft_or, ft_selection}
+use Rattle.scanner.specs.declared.symbols.Symbol.TheVariants.{Closing, Ftnot, Opening, Quote}
+use Rattle.lent_text.specs.declared.codes.Codes.{Codes}
+use Rattle.lent_text.specs.Written.{Written}
+use Rattle.lent_text.specs.State.{State, left, stream_of, Kept, Missed, Pushed, Took}
+use Rattle.lent_text.proofs.TokensLaws.{kept-missed, kept-took}
+use Rattle.lent_text.proofs.WrittenLaws.{written-append}
+use Rattle.flat_rules.specs.Answers.{Answer, Says, Went, Answers, WentMany, AnswersMany}
+use Rattle.flat_rules.proofs.AnswersLaws.{Front, answers-failed, answers-front, answers-refused, failed-is, front-on, read-codes, read_further, then_failed, then_none, then_read, then_writes, then-fails}
+use Rattle.flat_rules.proofs.RangesLaws.{expect-yes}
+use Rattle.reader.specs.Levels.{level_rule}
 
-abbrev pub whole_rule : ℕ → Rule
-whole_rule n = ft_selection (suc n)
+-- the rules with the whole in parentheses
+abbrev pub or_rule : ℕ → Rule
+or_rule n = ft_or n (ft_selection n)
+
+abbrev pub and_rule : ℕ → Rule
+and_rule n = ft_and n (ft_selection n)
+
+abbrev pub mild_rule : ℕ → Rule
+mild_rule n = ft_mild_not n (ft_selection n)
+
+abbrev pub not_rule : ℕ → Rule
+not_rule n = ft_unary_not n (ft_selection n)
 
 abbrev pub primary_rule : ℕ → Rule
 primary_rule n = ft_primary n (ft_selection n)
 
+abbrev pub whole_rule : ℕ → Rule
+whole_rule n = ft_selection (suc n)
+
+-- one rule is another
+answers-as : {rule rule' : ℕ → Rule} {s e : State} (r : Answer) → ((n : ℕ) (ts : Stream) → rule n ts ≡ rule' n ts) → Answers rule' s e r → Answers rule s e r
+answers-as {rule} {rule'} {s} r e a = answers-front (front-on {rule = rule} s s {rest = rule'} (λ n. e n (stream_of s)) (omega arith) refl) r a
+
+-- ---- the three levels
+
+pub or_level : {s e : State} (r : Answer) → Answers (level_rule Or and_rule) s e r → Answers or_rule s e r
+unfolding level_rule ft_or
+or_level r a = answers-as {rule' = level_rule Or and_rule} r (λ n ts. refl) a
+
+pub and_level : {s e : State} (r : Answer) → Answers (level_rule And mild_rule) s e r → Answers and_rule s e r
+unfolding level_rule ft_and
+and_level r a = answers-as {rule' = level_rule And mild_rule} r (λ n ts. refl) a
+
+pub mild_level : {s e : State} (r : Answer) → Answers (level_rule MildNot not_rule) s e r → Answers mild_rule s e r
+unfolding level_rule ft_mild_not
+mild_level r a = answers-as {rule' = level_rule MildNot not_rule} r (λ n ts. refl) a
+
 -- ---- a selection and its filters
 
-module _ {bytes entry middle : List ℕ} {size at count : ℕ} where
-  pub whole_fails : (x y : ℕ) → Answers or_rule bytes size at entry middle count (stopped x y) → Answers whole_rule bytes size at entry middle count (stopped x y)
-  unfolding Says ft_selection
-  whole_fails x y a = answers-failed (λ n l. then_failed (filters n) (a.says n l))
+pub whole_fails : {s e : State} {r : Refusal} → Answers or_rule s e (Err r) → Answers whole_rule s e (Err r)
+unfolding ft_selection
+whole_fails a = then-fails or_rule filters a
 
-  pub whole_is : {exit : List ℕ} {q m : ℕ} (r : Step) → Answers or_rule bytes size at entry middle count (reached q m) → AnswersMany filters bytes size q middle exit m r
-      → Answers whole_rule bytes size at entry exit count r
-  unfolding Went Says WentMany ft_selection prefixed
-  whole_is (reached e j) a b = record {
-    went = record { on = omega (arith, a.went.on, b.went.on); end_within = b.went.end_within; few = omega (arith, a.went.few, b.went.few) };
-    says = λ n l.
-        let s = a.says n l in
-        let t = b.says n (omega (arith, a.went.on, a.went.end_within)) in
-        record { codes = s.codes ++ t.codes; is = then_read (filters n) s.is ∙ ap (prefixed s.codes) t.is; wrote = wrote-append s.wrote t.wrote };
-  }
-  whole_is (stopped x y) a b = answers-failed (λ n l. let s = a.says n l in
-      then_read (filters n) s.is ∙ ap (prefixed s.codes) (b.says n (omega (arith, a.went.on, a.went.end_within))))
+pub whole_is : {s m e : State} {u : Unit {0}} (r : Answer) → Answers or_rule s m (Ok u) → AnswersMany filters m e r → Answers whole_rule s e r
+unfolding Went Says WentMany ft_selection prefixed
+whole_is (Ok v) a b =
+    let f = read_further a in
+    record {
+      went = record { fewer = omega (arith, f.fewer, b.went.fewer); few = omega (arith, f.few, b.went.few) };
+      says = λ n l.
+          let x = read-codes a n l in
+          let t = b.says n (omega (arith, f.fewer)) in
+          record { codes = x.codes ++ t.codes; is = then_read (filters n) x.is ∙ ap (prefixed x.codes) t.is; written = written-append x.written t.written };
+    }
+whole_is {s} (Err r) a b = answers-failed s r (λ n l. let x = read-codes a n l in
+    then_read (filters n) x.is ∙ ap (prefixed x.codes) (b.says n (omega (arith, (read_further a).fewer))))
 
 -- ---- ftnot
 
--- p is after `ftnot`, or where none stands
-pub record Negated (negated : Bool) (bytes : List ℕ) (size at p : ℕ) : Type 0 where
-  pub is : (n : ℕ) → not_rule n (stream_in bytes size at) ≡ cond negated (primary_rule n (stream_in bytes size p) then writes Not) (primary_rule n (stream_in bytes size p))
-  pub on : at + length (cond negated (Not ∷ []) []) ≤ p
-  pub end_within : p ≤ size
+module _ {s m : State} where
+  pub not_plain : {e : State} {r : Answer} → Kept Ftnot s m → Answers primary_rule m e r → Answers not_rule s e r
+  unfolding ft_unary_not
+  not_plain {r = r} k a =
+      answers-front (front-on {rule = not_rule} s m {rest = primary_rule} (λ n. rw (k.is, k.same) refl) (omega (arith, ap left k.same)) (ap (λ (x : State). x.codes) k.same)) r a
 
-pub negated-is : {bytes : List ℕ} {size at p : ℕ} → Begins k_ftnot bytes size at p → Negated true bytes size at p
-unfolding ft_unary_not
-negated-is b = record { is = λ n. rw (b.first, b.rest); on = omega (arith, b.on); end_within = b.end_within }
+  module _ (t : Took Ftnot s m) where
+    pub not-front : Front not_rule s m (λ n ts. primary_rule n ts then writes NotCode)
+    unfolding ft_unary_not
+    not-front = front-on s m (λ n. rw (t.is, t.rest_is) refl) (omega (arith, t.fewer)) t.codes_are
 
-pub negated-not : {bytes : List ℕ} {size at : ℕ} → at ≤ size → eqb (symbol_in (stream_in bytes size at)) k_ftnot ≡ false → Negated false bytes size at at
-unfolding ft_unary_not
-negated-not l h = record { is = λ n. rw h; on = omega arith; end_within = l }
-
-module _ {negated : Bool} {bytes : List ℕ} {size at p : ℕ} (g : Negated negated bytes size at p) where
-  pub negated_ready : {count : ℕ} → Ready bytes size at count → Ready bytes size p count
-  negated_ready r = ready_on r (omega (arith, g.on)) g.end_within
-
-  module _ {entry middle : List ℕ} {count : ℕ} where
-    pub not-fails : (x y : ℕ) → Answers primary_rule bytes size p entry middle count (stopped x y) → Answers not_rule bytes size at entry middle count (stopped x y)
-    unfolding Says
-    not-fails x y a = answers-failed (λ n l. g.is n ∙ by negated n (a.says n (omega (arith, g.on)))) where
-      by : (b : Bool) (n : ℕ) → primary_rule n (stream_in bytes size p) ≡ failed x y
-          → cond b (primary_rule n (stream_in bytes size p) then writes Not) (primary_rule n (stream_in bytes size p)) ≡ failed x y
-      by true n e = then_failed (writes Not) e
-      by false n e = e
-
-    pub not_plain : (r : Step) → negated ≡ false → Answers primary_rule bytes size p entry middle count r → Answers not_rule bytes size at entry middle count r
-    not_plain r h a = answers-from r (λ n l. g.is n ∙ rw h) (omega (arith, g.on)) a
-
-    pub not_is : {exit : List ℕ} {q m n : ℕ} → negated ≡ true → Answers primary_rule bytes size p entry middle count (reached q m) → Wrote (Not ∷ []) middle exit m n
-        → Answers not_rule bytes size at entry exit count (reached q n)
-    unfolding Went Says
-    not_is h a v =
-        let on : at + 1 ≤ p = rw h at g.on in
+    pub not_is : {q e : State} {u : Unit {0}} → Answers primary_rule m q (Ok u) → Pushed NotCode q e → Answers not_rule s e (Ok u)
+    unfolding Went Says prefixed
+    not_is {q} a p =
+        let f = read_further a in
         record {
-          went = record { on = omega (arith, a.went.on); end_within = a.went.end_within; few = omega (arith, a.went.few, v.counted) };
-          says = λ n l. let s = a.says n (omega arith) in
-              record { codes = s.codes ++ Not ∷ []; is = g.is n ∙ rw h (then_writes Not s.is); wrote = wrote-append s.wrote v };
+          went = record { fewer = omega (arith, t.fewer, f.fewer, p.left_is); few = omega (arith, not-front.few, t.fewer, ap (λ (x : Codes). x.count) t.codes_are, f.few, p.left_is, p.written.counted) };
+          says = λ n l.
+              let g = not-front.going n l in
+              let x = read-codes a n (omega (arith, t.fewer)) in
+              record {
+                codes = g.codes ++ (x.codes ++ NotCode ∷ []);
+                is = g.is ∙ ap (prefixed g.codes) (then_writes NotCode x.is ∙ ap (read (x.codes ++ NotCode ∷ [])) (sym p.stream_is));
+                written = written-append g.written (written-append x.written p.written);
+              };
         }
+
+    pub not_room : {q : State} {u : Unit {0}} → Answers primary_rule m q (Ok u) → q.codes.count + left q < max_text
+    not_room a = omega (arith, t.room, (read_further a).few)
+
+  pub not-fails : (b : Bool) {e : State} {r : Refusal} → MatchBool b (Took Ftnot s m) (Kept Ftnot s m) → Answers primary_rule m e (Err r) → Answers not_rule s e (Err r)
+  not-fails true {r = r} t a = answers-front (not-front t) (Err r) (then-fails primary_rule (λ _. writes NotCode) a)
+  not-fails false k a = not_plain k a
 
 -- ---- a phrase, or a selection in parentheses
 
-module _ {bytes : List ℕ} {size at : ℕ} where
-  pub primary_phrase : {entry exit : List ℕ} {count e : ℕ} (r : Step) → Begins s_quote bytes size at e → Answers (λ _. phrase) bytes size e entry exit count r
-      → Answers primary_rule bytes size at entry exit count r
+pub primary_phrase : {s m e : State} {r : Answer} → Took Quote s m → Answers (λ _. phrase) m e r → Answers primary_rule s e r
+unfolding ft_primary
+primary_phrase {s} {m} {r = r} t a =
+    answers-front (front-on {rule = primary_rule} s m {rest = λ _. phrase} (λ n. rw (t.is, t.rest_is) refl) (omega (arith, t.fewer)) t.codes_are) r a
+
+module _ {s m : State} (k : Kept Quote s m) where
+  pub primary_not : {e : State} (r : Refusal) → Missed Opening m r → Answers primary_rule s e (Err r)
   unfolding ft_primary
-  primary_phrase r b a = answers-from r (λ n l. rw (b.first, b.rest)) (omega (arith, b.on)) a
+  primary_not r x = let y = kept-missed k x in answers-refused s r y.refused (λ n. rw (k.is, y.is) refl)
 
-  module _ (no : eqb (symbol_in (stream_in bytes size at)) s_quote ≡ false) where
-    pub primary_not : {entry exit : List ℕ} {count y : ℕ} → eqb (symbol_in (stream_in bytes size at)) s_opening ≡ false → place_in (stream_in bytes size at) ≡ y
-        → Answers primary_rule bytes size at entry exit count (stopped 10 y)
+  module _ {p : State} (o : Took Opening m p) where
+    open_here : Took Opening s p
+    open_here = kept-took k o
+
+    -- the turns of the selection in parentheses, which begins a byte further at least
+    inner_is : (n : ℕ) → left s ≤ n → primary_rule n (stream_of s) ≡ (whole_rule (n - 1) (stream_of p) then expect s_closing)
     unfolding ft_primary
-    primary_not h e = answers-failed (λ n l. rw (no, h) (ap (failed 10) e))
+    inner_is n l =
+        let t = open_here in
+        let one : n ≡ suc (n - 1) = omega (arith, t.fewer) in
+        rw (k.is, t.is, t.rest_is) (ap (λ j. ft_selection j (rest_of (stream_of s)) then expect s_closing) one)
 
-    module _ {e : ℕ} (b : Begins s_opening bytes size at e) where
-      -- the turns of the selection in parentheses, which begins a byte further at least
-      inner_is : (n : ℕ) → size - at ≤ n → primary_rule n (stream_in bytes size at) ≡ (whole_rule (n - 1) (stream_in bytes size e) then expect s_closing)
-      unfolding ft_primary
-      inner_is n l =
-          let one : n ≡ suc (n - 1) = omega (arith, b.on, b.end_within) in
-          rw (no, b.first, b.rest) (ap (λ k. ft_selection k (stream_in bytes size e) then expect s_closing) one)
+    pub primary_fails : {e : State} {r : Refusal} → Answers whole_rule p e (Err r) → Answers primary_rule s e (Err r)
+    primary_fails {r = r} a = answers-failed s r (λ n l. inner_is n l ∙ then_failed (expect s_closing) (failed-is a (n - 1) (omega (arith, open_here.fewer))))
 
-      module _ {entry exit : List ℕ} {count : ℕ} where
-        pub primary_fails : (x y : ℕ) → Answers whole_rule bytes size e entry exit count (stopped x y) → Answers primary_rule bytes size at entry exit count (stopped x y)
-        unfolding Says
-        primary_fails x y a = answers-failed (λ n l. inner_is n l ∙ then_failed (expect s_closing) (a.says (n - 1) (omega (arith, b.on, b.end_within))))
-
-        module _ {q m : ℕ} (a : Answers whole_rule bytes size e entry exit count (reached q m)) where
-          pub primary_open : {x y : ℕ} → expect s_closing (stream_in bytes size q) ≡ failed x y → Answers primary_rule bytes size at entry exit count (stopped x y)
-          unfolding Says prefixed
-          primary_open h = answers-failed (λ n l. let t = a.says (n - 1) (omega (arith, b.on, b.end_within)) in
-              inner_is n l ∙ then_read (expect s_closing) t.is ∙ ap (prefixed t.codes) h)
-
-          pub primary_closed : {d : ℕ} → Begins s_closing bytes size q d → Answers primary_rule bytes size at entry exit count (reached d m)
-          unfolding Went Says
-          primary_closed c = record {
-            went = record { on = omega (arith, b.on, a.went.on, c.on); end_within = c.end_within; few = omega (arith, b.on, a.went.few, c.on) };
-            says = λ n l. let t = a.says (n - 1) (omega (arith, b.on, b.end_within)) in
-                record { codes = t.codes; is = inner_is n l ∙ then_none (expect s_closing) t.is (expect-is c); wrote = t.wrote };
-          }
+    pub primary_ends : {q e : State} {u : Unit {0}} → Answers whole_rule p q (Ok u) → (r : Answer) → MatchResult r (λ _. Took Closing q e) (Missed Closing q) → Answers primary_rule s e r
+    unfolding Went Says prefixed
+    primary_ends {q} {e} a (Ok u) c =
+        let f = read_further a in
+        let t = open_here in
+        record {
+          went = record {
+            fewer = omega (arith, t.fewer, f.fewer, c.fewer);
+            few = omega (arith, t.fewer, ap (λ (x : Codes). x.count) t.codes_are, f.few, c.fewer, ap (λ (x : Codes). x.count) c.codes_are);
+          };
+          says = λ n l.
+              let x = read-codes a (n - 1) (omega (arith, t.fewer)) in
+              let closed : expect s_closing (stream_of q) ≡ read [] (stream_of e) = expect-yes s_closing (stream_of q) c.is ∙ ap (read []) (sym c.rest_is) in
+              record {
+                codes = x.codes;
+                is = inner_is n l ∙ then_none (expect s_closing) x.is closed;
+                written = subst (λ (y : Codes). Written x.codes s.codes y) (sym c.codes_are) (subst (λ (y : Codes). Written x.codes y q.codes) t.codes_are x.written);
+              };
+        }
+    primary_ends {q} a (Err r) c = answers-failed s r (λ n l.
+        let x = read-codes a (n - 1) (omega (arith, open_here.fewer)) in
+        let missed : expect s_closing (stream_of q) ≡ failed r.reason r.place = rw (c.is, c.refused) refl in
+        inner_is n l ∙ then_read (expect s_closing) x.is ∙ ap (prefixed x.codes) missed)

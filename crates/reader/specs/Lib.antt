@@ -1,2 +1,3 @@
 -- What the reader's contracts say.
+pub mod Levels
 pub mod Selections

@@ -1,27 +1,18 @@
 -- What the reader's functions say, by the answer of a text.
-use Rattle.std.specs.Prelude.{ℕ, ◌+◌, ◌*◌, ◌≤◌, cond, List, [], ◌∷◌, ◌++◌, ◌≡◌, leb, length}
-use Rattle.std.proofs.lemmas.List.Edits.{sets}
-use Rattle.model.specs.declared.Reading.{Reading}
-use Rattle.model.specs.declared.Reading.TheVariants.{Read, Refused}
+use Rattle.std.specs.Prelude.{ℕ, ◌+◌, ◌*◌, cond, List, [], ◌∷◌, ◌++◌, Ok, Err, leb, length, take}
 use Rattle.model.specs.Limits.{max_codes}
 use Rattle.model.specs.TextAnswer.{TextAnswer, codes, error}
-use Rattle.model.specs.Typed.{selection_of}
-use Rattle.slices.specs.EverySecond.{every_second}
-use Rattle.flat_rules.specs.Answers.{pairs}
+use Rattle.model.specs.Typed.{Reading, selection_of}
+use Rattle.lent_text.specs.declared.codes.Codes.{Codes}
 
 -- how many codes a text has, or its error
 abbrev pub reading_of : TextAnswer → Reading
-reading_of (codes cs) = Read (length cs)
-reading_of (error r) = Refused r
+reading_of (codes cs) = Ok (length cs)
+reading_of (error r) = Err r
 
--- up to 64 codes of a text stand in pairs at an array's start
-unfoldable pub InPairs : TextAnswer → (entry exit : List ℕ) → Type 0
-InPairs (codes cs) entry exit = length cs ≤ max_codes → exit ≡ sets entry 0 (pairs cs)
-InPairs (error r) entry exit = Unit {0}
-
--- numbers in pairs as a selection of so many codes
-abbrev pub spread : List ℕ → ℕ → List ℕ
-spread numbers m = m ∷ (every_second numbers 0 m ++ every_second numbers 1 m)
+-- What is put down of codes: a selection; of over 64 their number alone.
+abbrev pub put_down : Codes → List ℕ
+put_down c = cond (leb c.count max_codes) (c.count ∷ (take c.count c.kinds ++ take c.count c.operands)) (c.count ∷ [])
 
 -- What is put down of a text's answer: its codes as a selection; of over 64 their number alone.
 abbrev pub typed_numbers : TextAnswer → List ℕ
