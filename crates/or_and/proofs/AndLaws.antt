@@ -1,9 +1,9 @@
 -- And, step by step: two copies are one; the includes of two matches and then their excludes, with a header before them, are the joined match; a left
 -- match joined with each right one is a row, and the rows of the left matches are the product.
-use Prim.Native.Nat.{ℕ, ◌+◌, ◌-◌, ◌*◌, ◌≤◌, ◌<◌}
+use Prim.Native.Nat.{ℕ, ◌+◌, ◌-◌, ◌*◌, ◌≤◌}
 use native.Mathlib.Omega.{arith}
 use mathlib.Core.Path.{◌≡◌, refl, sym, ap, ap₂, ◌∙◌, subst}
-use mathlib.Core.List.{List, [], ◌∷◌, ◌++◌, map}
+use mathlib.Core.List.{List, [], ◌∷◌, ◌++◌, map, flat_map}
 use lib.ListN.{length, take, drop, get_or, set, length-append, length-drop}
 use lib.Seq.{length-take-le}
 use Rattle.model.specs.Matches.{Match}
@@ -16,7 +16,7 @@ use Rattle.std.specs.List.{copy_within}
 use Rattle.store.specs.declared.Size.{Size}
 use Rattle.store.specs.Built.{built_of, sized_as}
 use Rattle.store.specs.Indices.{ClosingMatch, SlotBelow}
-use Rattle.store.specs.Layout.{BoundsOf, Holds, header_between, matches_at, strings_at, match_length, match_numbers, matches_numbers, slot_length, slot_size}
+use Rattle.store.specs.Layout.{BoundsOf, Holds, header_between, matches_at, strings_at, match_numbers, matches_numbers, slot_length, slot_size}
 use Rattle.store.specs.Put.{Put}
 use Rattle.store.specs.Stream.{MatchHolds}
 use Rattle.store.proofs.MemoryLaws.{holds-part}
@@ -26,7 +26,8 @@ use Rattle.store.proofs.DecodeLaws.{length-held, includes_hold, excludes_hold, i
 use Rattle.store.proofs.StreamLaws.{match_below, remaining_below}
 use Rattle.store.proofs.SlotsLaws.{matches_held, strings-held, slot-stream, answer_made}
 use Rattle.store.proofs.RowsLaws.{map-flat_map}
-use Rattle.store.proofs.EachLaws.{Going, slot-each, start, item, step, finish}
+use Rattle.store.specs.Each.{Each, OneAt}
+use Rattle.store.proofs.EachLaws.{slot-each}
 use Rattle.or_and.specs.Joining.{CopyBoth, JoinableAt, Row, RowAt}
 use Rattle.store.specs.Slot.{TwoSlots}
 
@@ -109,40 +110,39 @@ module _ {mem : List ℕ} {pl pr q : ℕ} (w : JoinableAt mem pl pr q) {L R : Bo
 abbrev pub joined_one : Match → Match → List Match
 joined_one l r = joined l r ∷ []
 
-pub row-start : {left : Match} {rights : List Match} {mem : List ℕ} {pl pr n q : ℕ} → Row left rights mem pl pr n q → Going (joined_one left) rights mem n q mem pr q 0
-row-start {left} {rights} {mem} {q = q} w =
+pub row-each : {left : Match} {rights : List Match} {mem : List ℕ} {pl pr n q : ℕ} → Row left rights mem pl pr n q → Each (joined_one left) rights mem pr n q
+row-each {left} {rights} {mem} {q = q} w =
     let room = subst (λ ms. q + length (matches_numbers ms) ≤ length mem) (map-flat_map (joined left) rights) w.room in
-    start (record { end = w.end; stream = w.stream; count = w.count; below = w.below_right; room = room })
+    record { end = w.end; stream = w.stream; count = w.count; below = w.below_right; room = room }
 
-module _ {left : Match} {rights : List Match} {mem₀ mem : List ℕ} {pl pr n at p q j : ℕ}
-    (w : Row left rights mem₀ pl pr n at) (g : Going (joined_one left) rights mem₀ n at mem p q j) where
-  -- the two matches in hand
-  pub row-item : j < n → JoinableAt mem pl p q
-  row-item h =
-      let o = item g h in
-      let l : MatchHolds mem pl left = match_below g.rows.put w.below_left w.held in
-      let r = o.one.held in
-      let long = length_match (joined left o.item) in
-      let lengths = ap length (matches_one (joined left o.item)) in
-      record {
-        left = left;
-        right = o.item;
-        pair = record {
-          held_left = l;
-          held_right = r;
-          below_left = omega (arith, length-held l, length-held w.held, w.below_left, g.rows.put.next_is);
-          below_right = o.one.below;
-          room = omega (arith, o.one.room, lengths, long, strings-joined left o.item, length-held l, length-held r, length_match left, length_match o.item);
-        };
-      }
+module _ {left : Match} {rights : List Match} {mem₀ : List ℕ} {pl pr n at : ℕ} (w : Row left rights mem₀ pl pr n at) where
+  module _ {mem : List ℕ} {p q : ℕ} {written : List ℕ} (v : Put mem₀ mem at written q) (o : OneAt (joined_one left) mem p q) where
+    -- the two matches in hand: the left one lies below what is written, as it was
+    pub row-item : JoinableAt mem pl p q
+    row-item =
+        let l : MatchHolds mem pl left = match_below v w.below_left w.held in
+        let r = o.one.held in
+        let long = length_match (joined left o.item) in
+        let lengths = ap length (matches_one (joined left o.item)) in
+        record {
+          left = left;
+          right = o.item;
+          pair = record {
+            held_left = l;
+            held_right = r;
+            below_left = omega (arith, length-held l, length-held w.held, w.below_left, v.next_is);
+            below_right = o.one.below;
+            room = omega (arith, o.one.room, lengths, long, strings-joined left o.item, length-held l, length-held r, length_match left, length_match o.item);
+          };
+        }
 
-  pub row_step : (h : j < n) {mem' : List ℕ} {p' q' : ℕ} → Put mem mem' q (match_numbers (joined (row-item h).left (row-item h).right)) q'
-      → p' ≡ p + match_length (get_or mem p 0) → Going (joined_one left) rights mem₀ n at mem' p' q' (j + 1)
-  unfolding row-item
-  row_step h {mem'} {q' = q'} v e = step g h (subst (λ xs. Put mem mem' q xs q') (sym (matches_one (joined left (item g h).item))) v) e
+    pub row-put : {mem' : List ℕ} {q' : ℕ} → ((x : JoinableAt mem pl p q) → Put mem mem' q (match_numbers (joined x.left x.right)) q')
+        → Put mem mem' q (matches_numbers (joined_one left o.item)) q'
+    unfolding row-item
+    row-put {mem'} {q'} f = subst (λ xs. Put mem mem' q xs q') (sym (matches_one (joined left o.item))) (f row-item)
 
-  pub row_finish : n ≤ j → Put mem₀ mem at (matches_numbers (map (joined left) rights)) q
-  row_finish h = subst (λ ms. Put mem₀ mem at (matches_numbers ms) q) (sym (map-flat_map (joined left) rights)) (finish g h)
+  pub row_whole : {mem : List ℕ} {q : ℕ} → Put mem₀ mem at (matches_numbers (flat_map (joined_one left) rights)) q → Put mem₀ mem at (matches_numbers (map (joined left) rights)) q
+  row_whole {mem} {q} v = subst (λ ms. Put mem₀ mem at (matches_numbers ms) q) (sym (map-flat_map (joined left) rights)) v
 
 -- ---- the product
 
@@ -160,36 +160,35 @@ module _ {mem₀ : List ℕ} {l r : ℕ} (w : TwoSlots mem₀ l r) where
       ap₂ (λ m s. sized_as m s) (ap₂ ◌*◌ ml mr ∙ sym (length-and w.lefts w.rights))
       (ap₂ ◌+◌ (ap₂ ◌*◌ mr (c ∙ strings-held w.left)) (ap₂ ◌*◌ ml (d ∙ strings-held w.right)) ∙ sym (strings-and w.lefts w.rights))
 
-  pub and-start : {size : Size} {at k : ℕ} → Ok size ≡ built_of (and_list w.lefts w.rights) → SlotBelow (length mem₀) l at → k ≡ matches_at mem₀ l
-      → Going (row_of w.rights) w.lefts mem₀ k (at + 2) mem₀ (l + 2) (at + 2) 0
+  pub and-each : {size : Size} {at k : ℕ} → Ok size ≡ built_of (and_list w.lefts w.rights) → SlotBelow (length mem₀) l at → k ≡ matches_at mem₀ l
+      → Each (row_of w.rights) w.lefts mem₀ (l + 2) k (at + 2)
   unfolding and_list
-  and-start {k = k} e u f = start (slot-each w.left u (answer_made (and_list w.lefts w.rights) e).small k f)
+  and-each {k = k} e u f = slot-each w.left u (answer_made (and_list w.lefts w.rights) e).small k f
 
-  module _ {mem : List ℕ} {m at p q i : ℕ} (g : Going (row_of w.rights) w.lefts mem₀ m at mem p q i) where
-    module _ {n : ℕ} (below : r + slot_size ≤ at) (e : n ≡ matches_at mem₀ r) (h : i < m) where
-      -- the left match in hand, and the right list
-      pub and_item : RowAt mem p (r + 2) n q
-      and_item =
-          let o = item g h in
-          record {
-            left = o.item;
-            rights = w.rights;
-            row = record {
-              end = r + slot_length mem₀ r;
-              held = o.one.held;
-              stream = remaining_below g.rows.put (omega (arith, w.right.header)) (slot-stream w.right (r + 2) _ refl refl);
-              count = omega (arith, matches_held w.right);
-              below_left = o.one.below;
-              below_right = omega (arith, w.right.header, g.rows.put.next_is);
-              room = o.one.room;
-            };
-          }
+  module _ {n at : ℕ} (below : r + slot_size ≤ at) (e : n ≡ matches_at mem₀ r) {mem : List ℕ} {p q : ℕ} {written : List ℕ} (v : Put mem₀ mem (at + 2) written q)
+      (o : OneAt (row_of w.rights) mem p q) where
+    -- the left match in hand, and the right list, which lies below what is written
+    pub and_item : RowAt mem p (r + 2) n q
+    and_item =
+        record {
+          left = o.item;
+          rights = w.rights;
+          row = record {
+            end = r + slot_length mem₀ r;
+            held = o.one.held;
+            stream = remaining_below v (omega (arith, w.right.header)) (slot-stream w.right (r + 2) _ refl refl);
+            count = omega (arith, matches_held w.right);
+            below_left = o.one.below;
+            below_right = omega (arith, w.right.header, v.next_is);
+            room = o.one.room;
+          };
+        }
 
-      pub and_step : {mem' : List ℕ} {p' q' : ℕ} → Put mem mem' q (matches_numbers (map (joined and_item.left) and_item.rights)) q'
-          → p' ≡ p + match_length (get_or mem p 0) → Going (row_of w.rights) w.lefts mem₀ m at mem' p' q' (i + 1)
-      unfolding and_item
-      and_step v f = step g h v f
+    pub and_put : {mem' : List ℕ} {q' : ℕ} → ((x : RowAt mem p (r + 2) n q) → Put mem mem' q (matches_numbers (map (joined x.left) x.rights)) q')
+        → Put mem mem' q (matches_numbers (row_of w.rights o.item)) q'
+    unfolding and_item
+    and_put f = f and_item
 
-    pub and_finish : m ≤ i → Put mem₀ mem at (matches_numbers (and_list w.lefts w.rights)) q
-    unfolding and_list
-    and_finish h = finish g h
+  pub and_whole : {mem : List ℕ} {at q : ℕ} → Put mem₀ mem at (matches_numbers (flat_map (row_of w.rights) w.lefts)) q → Put mem₀ mem at (matches_numbers (and_list w.lefts w.rights)) q
+  unfolding and_list
+  and_whole v = v

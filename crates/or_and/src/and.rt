@@ -48,14 +48,9 @@ fn put_row(mem: &mut [u32], left: usize, first: usize, n: u32, at: usize) -> usi
     requires { RowAt mem.old left first n at }
     ensures { (w : RowAt mem.old left first n at) → Put mem.old mem.new at (matches_numbers (map (joined w.left) w.rights)) result }
 {
-    let mut right = first;
-    let mut q = at;
-    for _ in 0..n {
-        let end = store::match_end(mem, right);
-        q = put_joined(mem, left, right, q);
-        right = end;
-    }
-    q
+    store::each_match(mem, first, n, at, |mem, right, q| {
+        put_joined(mem, left, right, q)
+    })
 }
 
 // The size of the product of the lists in the slots at l and r.
@@ -81,13 +76,9 @@ pub fn and_list(mem: &mut [u32], l: usize, r: usize, at: usize) -> Built
     let size = and_size(mem, l, r)?;
     let m = store::size_at(mem, l).matches;
     let n = store::size_at(mem, r).matches;
-    let mut left = l + FIRST_MATCH;
-    let mut q = at + FIRST_MATCH;
-    for _ in 0..m {
-        let end = store::match_end(mem, left);
-        q = put_row(mem, left, r + FIRST_MATCH, n, q);
-        left = end;
-    }
+    store::each_match(mem, l + FIRST_MATCH, m, at + FIRST_MATCH, |mem, left, q| {
+        put_row(mem, left, r + FIRST_MATCH, n, q)
+    });
     store::put_slot_header(mem, at, size);
     Ok(size)
 }

@@ -4,6 +4,7 @@
 #![tactic(auto)]
 
 mod bounds;
+mod each;
 mod matches;
 mod slots;
 
@@ -11,6 +12,7 @@ ghost use Rattle.std.specs.Prelude.{◌≡◌};
 ghost use Rattle.store.specs.Built.{sized_as};
 
 pub use bounds::Bounds;
+pub use each::each_match;
 pub use matches::{Header, bounds_at, close_match, match_end, put_string, string_at};
 use model::{MAX_MATCHES, MAX_STRINGS};
 pub use slots::{

@@ -29,13 +29,10 @@ pub fn window_list(mem: &mut [u32], n: u32, src: usize, at: usize) -> Built
 {
     let size = sizes::window_size(mem, n, src)?;
     let count = store::size_at(mem, src).matches;
-    let mut from = src + store::FIRST_MATCH;
-    let mut q = at + store::FIRST_MATCH;
-    for _ in 0..count {
-        let end = store::match_end(mem, from);
-        q = writing::put_windows(mem, n, from, q);
-        from = end;
-    }
+    let first = src + store::FIRST_MATCH;
+    store::each_match(mem, first, count, at + store::FIRST_MATCH, |mem, from, q| {
+        writing::put_windows(mem, n, from, q)
+    });
     store::put_slot_header(mem, at, size);
     Ok(size)
 }

@@ -1,29 +1,28 @@
+-- The left match lies below what is written, so it is joined with each right one (AndLaws).
 use borrow.Author.Rules.{rules}
-use mathlib.Core.Path.{refl}
-use Rattle.or_and.specs.Joining.{JoinableAt}
-use Rattle.or_and.proofs.AndLaws.{row-start, row-item, row_step, row_finish}
+use Rattle.or_and.proofs.AndLaws.{joined_one, row-each, row-item, row-put, row_whole}
 use Rattle.or_and.proofs.and.put_row.Goals as goal
-use Rattle.or_and.proofs.and.put_row.Goals.{In-loop}
 
--- the two matches in hand
-one : (c : In-loop) → JoinableAt c.loop.mem c.args.left c.loop.right c.loop.q
-one c = row-item c.requires.row (c.loop.invariant.1 c.requires) c.loop-test.true
-
-pub loop-init : goal.loop-init
-loop-init c = (refl, λ w. row-start w.row)
-
-pub match_end-end-requires : goal.match_end-end-requires
-match_end-end-requires c = (one (goal.at.match_end-end-requires c).In-loop).pair.held_right.header
-
-pub put_joined-q-requires : goal.put_joined-q-requires
-put_joined-q-requires c = one (goal.at.put_joined-q-requires c).In-loop
-
-pub loop-preserved : goal.loop-preserved
-loop-preserved c = (
-  search rules,
-  λ w. let g = c.loop.invariant.1 w in
-      row_step w.row g c.loop-test.true (c.put_joined-q.ensures (row-item w.row g c.loop-test.true)) c.match_end-end.ensures,
-)
+pub each_match-requires : goal.each_match-requires
+each_match-requires c =
+    let w = c.requires.row in
+    record {
+      rule = joined_one c.requires.left;
+      list = c.requires.rights;
+      each = row-each w;
+      may = λ m p q written v o. let x = row-item w v o in search rules;
+      does = λ m m' p q next written v o f. row-put w v o (search rules);
+    }
 
 pub returns : goal.returns
-returns c w = row_finish w.row (c.loop.invariant.1 w) c.loop-test.false
+returns c x =
+    let w = x.row in
+    row_whole w
+    (c.each_match.ensures
+    (record {
+      rule = joined_one x.left;
+      list = x.rights;
+      each = row-each w;
+      may = λ m p q written v o. let y = row-item w v o in search rules;
+      does = λ m m' p q next written v o f. row-put w v o (search rules);
+    }))
