@@ -4,7 +4,7 @@
 
 pub mod symbols;
 
-ghost use Rattle.std.specs.Prelude.{◌≡◌, ◌+◌, ◌*◌, ◌-◌, ◌≤◌, length};
+ghost use Rattle.std.specs.Prelude.{◌≡◌, ◌+◌, ◌*◌, ◌-◌, ◌≤◌, eqb, length};
 ghost use Rattle.model.specs.Tokens.{number_from};
 ghost use Rattle.grammar.specs.Stream.{run_length, sort_of};
 ghost use Rattle.grammar.specs.Symbols.{symbol_of};
@@ -27,7 +27,8 @@ pub struct Token {
 // Each small letter counts as `a`, each digit as `0`, any other byte as itself.
 #[tactic(auto, using(std::proofs::lemmas::Bool::Decides::nat_tests), unfolding(grammar::specs::Stream::sort_of))]
 fn sort_of(b: u8) -> u8
-    ensures { result ≡ sort_of b }
+    ensures value { result ≡ sort_of b }
+    ensures of_itself { sort_of result ≡ result }
 {
     match b {
         b'0'..=b'9' => b'0',
@@ -36,12 +37,26 @@ fn sort_of(b: u8) -> u8
     }
 }
 
+// Is a byte of this sort? By a test for each sort, which a run of letters or digits takes no longer for than a run of blanks.
+#[tactic(auto, using(std::proofs::lemmas::Bool::Decides::nat_tests), unfolding(grammar::specs::Stream::sort_of))]
+fn is_of(b: u8, sort: u8) -> bool
+    requires { sort_of sort ≡ sort }
+    ensures { result ≡ eqb (sort_of b) sort }
+{
+    match sort {
+        b'a' => b.is_ascii_lowercase(),
+        b'0' => b.is_ascii_digit(),
+        _ => b == sort,
+    }
+}
+
 // How many bytes of a sort come first.
 fn run_length(bytes: &[u8], sort: u8) -> usize
+    requires { sort_of sort ≡ sort }
     ensures value { result ≡ run_length sort bytes.now }
     ensures within { result ≤ length bytes.now }
 {
-    bytes.iter().take_while(|b| sort_of(**b) == sort).count()
+    bytes.iter().take_while(|b| is_of(**b, sort)).count()
 }
 
 // The symbol of a token of this sort and these bytes.
