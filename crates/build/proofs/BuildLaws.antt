@@ -5,7 +5,7 @@ use native.Mathlib.Omega.{arith}
 use mathlib.Core.Path.{◌≡◌, refl, sym, ap, ap₂, ◌∙◌, subst}
 use mathlib.Core.Bool.{true, false, ◌&&◌}
 use mathlib.Core.List.{List, [], ◌∷◌, map}
-use Rattle.std.specs.Prelude.{Option, Some, None, option_map}
+use Rattle.std.specs.Prelude.{Option, Some, None, option_map, Ok, Err}
 use Rattle.std.specs.Option.{option_or}
 use lib.Dec.{eqb, ltb}
 use lib.ListN.{length}
@@ -33,12 +33,10 @@ use Rattle.model.proofs.TestsLaws.{both_true}
 use Rattle.model.proofs.WaitingLaws.{fit_of, step}
 use Rattle.model.proofs.WalkLaws.{first_too_long-append}
 use Rattle.selection.specs.Phrases.{phrase_words}
-use Rattle.store.specs.declared.Built.{Built}
-use Rattle.store.specs.declared.Built.TheVariants.{Made, TooLong}
+use Rattle.store.specs.Built.{Built, made, over}
 use Rattle.store.specs.Slot.{SlotHolds}
 use Rattle.store.specs.Stack.{Stack}
 use Rattle.store.proofs.StackLaws.{stack-last}
-use Rattle.build.specs.declared.Part.TheVariants as part
 use Rattle.build.specs.PartList.{PartList}
 use Rattle.build.specs.State.{Buildable, Waits, WaitsAt, AfterCode}
 use Rattle.build.proofs.WaitingTreesLaws.{part_formed, ranks-state, phrases-state, phrases-below, rank-read, rank-state}
@@ -153,7 +151,7 @@ module _ {section families sel mem₀ : List ℕ} {lo hi rank : ℕ} (w : Builda
         -- the parts that end so far, with the code's own
         found : (o : Option ℕ) → first_too_long (searched_of section families) (part_ended_by (shape_at sel (lo + suc g.n)) (waits_after (suc g.n)).trees) ≡ o
             → first_too_long (searched_of section families) (waiting_parts (waits_after (suc g.n)).trees) ≡ o
-        unfolding state_at option_or
+        unfolding state_at
         found o q =
             let S = searched_of section families in
             let s = waits_after g.n in
@@ -162,8 +160,8 @@ module _ {section families sel mem₀ : List ℕ} {lo hi rank : ℕ} (w : Builda
             ap (first_too_long S) more ∙ first_too_long-append S (waiting_parts s.trees) (part_ended_by x (read x s).trees) ∙ ap₂ option_or g.valid q
 
         -- its list is too long: the first that is
-        pub refuse : built ≡ TooLong → first_too_long (searched_of section families) (parts w.part.tree) ≡ Some c'
-        unfolding state_at option_or
+        pub refuse : built ≡ over → first_too_long (searched_of section families) (parts w.part.tree) ≡ Some c'
+        unfolding state_at
         refuse t =
             let S = searched_of section families in
             let ts = (waits_after (suc g.n)).trees in
@@ -171,7 +169,7 @@ module _ {section families sel mem₀ : List ℕ} {lo hi rank : ℕ} (w : Builda
             ap (first_too_long S) b.1 ∙ first_too_long-append S (waiting_parts ts) b.0 ∙ ap (λ (o : Option ℕ). option_or o (first_too_long S b.0)) (found (Some c') (after.long t))
 
         -- its list waits: the next code
-        pub go_on : {m s lists' next' : ℕ} → built ≡ Made m s → length mem' ≡ length mem → lists' ≡ lists_after (shape_of code) lists → next' ≡ next + phrases_ended (shape_of code) → Going mem' lists' next' c'
+        pub go_on : {m s lists' next' : ℕ} → built ≡ made m s → length mem' ≡ length mem → lists' ≡ lists_after (shape_of code) lists → next' ≡ next + phrases_ended (shape_of code) → Going mem' lists' next' c'
         unfolding state_at
         go_on {m} {s} {lists'} {next'} b l i j =
             let z = waits_after g.n in
@@ -207,7 +205,7 @@ module _ {section families sel mem₀ : List ℕ} {lo hi rank : ℕ} (w : Builda
 -- ---- PartList
 
 module _ {s : Searched} {t : Tree} {mem : List ℕ} where
-  pub part-long : {place : ℕ} → first_too_long s (parts t) ≡ Some place → PartList s t mem (part.Refused (refusal LongList place))
+  pub part-long : {place : ℕ} → first_too_long s (parts t) ≡ Some place → PartList s t mem (Err (refusal LongList place))
   part-long {place} e =
       record {
         slot = λ b. absurd (let z : ◌≡◌ {A = ℕ} 0 1 = cc in omega arith);
@@ -215,5 +213,5 @@ module _ {s : Searched} {t : Tree} {mem : List ℕ} where
         refused = λ r b. let z : refusal LongList place ≡ r = cc in ap (option_map (refusal LongList)) e ∙ ap Some z;
       }
 
-  pub part_built : SlotHolds mem 0 (all_matches s t) → first_too_long s (parts t) ≡ None → PartList s t mem part.Built
+  pub part_built : SlotHolds mem 0 (all_matches s t) → first_too_long s (parts t) ≡ None → PartList s t mem (Ok tt)
   part_built h e = record { slot = λ b. h; valid = λ b. e; refused = λ r b. absurd (let z : ◌≡◌ {A = ℕ} 0 1 = cc in omega arith) }

@@ -25,8 +25,7 @@ use Rattle.model.specs.Section.{section_of}
 use Rattle.model.specs.Trees.{Tree, phrase, pair, change, State, read, combine, change_last, place_of, top_tree}
 use Rattle.model.specs.Waiting.{fits}
 use Rattle.model.specs.Walk.{first_too_long}
-use Rattle.store.specs.declared.Built.{Built}
-use Rattle.store.specs.declared.Built.TheVariants.{Made}
+use Rattle.store.specs.Built.{Built, made}
 use Rattle.store.specs.ValidStr.{ValidStr}
 use Rattle.model.proofs.TestsLaws.{both_true, false-true}
 use Rattle.model.proofs.WaitingLaws.{fit_of}
@@ -254,9 +253,9 @@ module _ {section families mem : List ℕ} {place rank lists : ℕ} where
 
   -- nothing is built
   pub word_after : {shape : Shape} {s : State} {m n : ℕ} (v : ℕ) → shape ≡ a_word v → Waits section families mem shape s place rank lists
-      → AfterCode (searched_of section families) shape s place mem (Made m n)
+      → AfterCode (searched_of section families) shape s place mem (made m n)
   unfolding read first_too_long first
   word_after {shape} {s} {m} {n} v e w =
-      let b : AfterCode (searched_of section families) (a_word v) s place mem (Made m n) =
+      let b : AfterCode (searched_of section families) (a_word v) s place mem (made m n) =
       record { long = λ t. absurd (let z : ◌≡◌ {A = ℕ} 0 1 = cc in omega arith); valid = λ i j q. refl; stack = λ i j q. w.stack } in
-      subst (λ (x : Shape). AfterCode (searched_of section families) x s place mem (Made m n)) (sym e) b
+      subst (λ (x : Shape). AfterCode (searched_of section families) x s place mem (made m n)) (sym e) b

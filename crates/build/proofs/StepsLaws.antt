@@ -2,21 +2,16 @@
 use Prim.Native.Nat.{ℕ, ◌+◌, ◌-◌, ◌*◌, ◌≤◌, ◌<◌}
 use native.Mathlib.Omega.{arith}
 use mathlib.Core.Path.{◌≡◌, sym, ap, ◌∙◌, subst}
-use mathlib.Core.List.{List, ◌∷◌, map, flat_map}
+use mathlib.Core.List.{List, ◌∷◌, map}
 use lib.ListN.{length}
 use lib.Seq.{sets}
-use Rattle.model.specs.declared.Filter.{Filter}
-use Rattle.model.specs.declared.Filter.TheVariants.{Window}
 use Rattle.model.specs.declared.Pair.{Pair}
 use Rattle.model.specs.declared.Times.{Times}
-use Rattle.model.specs.AllMatches.{filter_list, occurs_list, pair_list}
+use Rattle.model.specs.AllMatches.{occurs_list, pair_list}
 use Rattle.model.specs.AllStrings.{AllList}
 use Rattle.model.specs.Limits.{max_waiting, work_length}
 use Rattle.model.specs.Matches.{Match}
-use Rattle.model.specs.Rules.{window}
-use Rattle.model.specs.Section.{Section}
-use Rattle.store.specs.declared.Built.{Built}
-use Rattle.store.specs.declared.Built.TheVariants.{Made, TooLong}
+use Rattle.store.specs.Built.{Built, made, over}
 use Rattle.store.specs.ValidStr.{ValidStr}
 use Rattle.store.specs.Layout.{scratch, slot_at, slot_numbers, slot_size}
 use Rattle.store.specs.Outcome.{Outcome}
@@ -25,9 +20,6 @@ use Rattle.store.specs.Slot.{SlotHolds, SlotAt, TwoSlots}
 use Rattle.store.specs.Stack.{Stack}
 use Rattle.store.proofs.SlotsLaws.{answer_made, outcome-put, outcome-slot}
 use Rattle.store.proofs.StackLaws.{stack-last, stack-rest, stack_push, stack_built}
-use Rattle.filter_rules.specs.declared.Rule.{Rule}
-use Rattle.filter_rules.specs.declared.Rule.TheVariants.{Window as ByWindow}
-use Rattle.filter_rules.specs.Keepers.{filter_of}
 use Rattle.occurs.specs.Finds.{find, FindsAt}
 use Rattle.build.specs.Steps.{NoneTaken, OneTaken, FindsTaken, TwoTaken, InScratch, Pushed}
 
@@ -44,20 +36,20 @@ pushed ms rest few room f st o =
 
 module _ {mem : List ℕ} {at : ℕ} {built : Built} (w : InScratch mem at built) where
   -- where the list is made, it lies in the slot to build in ..
-  unfoldable pub scratch-slot : {m s : ℕ} → built ≡ Made m s → SlotAt mem scratch
+  unfoldable pub scratch-slot : {m s : ℕ} → built ≡ made m s → SlotAt mem scratch
   scratch-slot e = record { list = w.list; slot = outcome-slot w.outcome e w.valid (omega (arith, w.room)) }
 
   pub scratch-below : at + slot_size ≤ scratch
   scratch-below = omega (arith, w.place, w.few)
 
   -- .. and once it is copied it waits
-  pub scratch-copied : {mem' : List ℕ} {m s : ℕ} (e : built ≡ Made m s) → ((v : SlotAt mem scratch) → mem' ≡ sets mem at (slot_numbers v.list)) → Pushed w.list w.rest mem' built
+  pub scratch-copied : {mem' : List ℕ} {m s : ℕ} (e : built ≡ made m s) → ((v : SlotAt mem scratch) → mem' ≡ sets mem at (slot_numbers v.list)) → Pushed w.list w.rest mem' built
   unfolding scratch-slot
   scratch-copied {mem'} e copied =
       let c : mem' ≡ sets mem (slot_at (length w.rest)) (slot_numbers w.list) = copied (scratch-slot e) ∙ ap (λ (i : ℕ). sets mem i (slot_numbers w.list)) w.place in
       record { answered = w.outcome.answered; waits = λ m s e'. stack_built w.list w.rest w.few w.room w.valid w.outcome e c w.stack }
 
-  pub scratch-long : {mem' : List ℕ} → built ≡ TooLong → Pushed w.list w.rest mem' built
+  pub scratch-long : {mem' : List ℕ} → built ≡ over → Pushed w.list w.rest mem' built
   scratch-long t = record { answered = w.outcome.answered; waits = λ m s e. absurd (let z : ◌≡◌ {A = ℕ} 0 1 = cc in omega arith) }
 
 -- ---- a rule that takes none
@@ -196,20 +188,6 @@ module _ {k j : Pair} {mem : List ℕ} {lists : ℕ} (e : k ≡ j) (w : TwoTaken
       → Pushed (pair_list k w.lefts w.rights) w.rest mem' built
   unfolding pair_as
   pair_pushed {mem'} {built} f = subst (λ (i : Pair). Pushed (pair_list i w.lefts w.rights) w.rest mem' built) (sym e) (f pair_as)
-
--- ---- a filter by its rule
-
-module _ {f : Filter} {rule : Rule} (e : f ≡ filter_of rule) where
-  pub is-window : {n : ℕ} → rule ≡ ByWindow n → f ≡ Window n
-  is-window t = e ∙ ap filter_of t
-
-  module _ (s : Section) (ms : List Match) {mem mem' : List ℕ} {at : ℕ} {built : Built} where
-    pub by_rule : {r : Rule} → rule ≡ r → Outcome (filter_list s (filter_of r) ms) mem mem' at built → Outcome (filter_list s f ms) mem mem' at built
-    by_rule t o = subst (λ (g : Filter). Outcome (filter_list s g ms) mem mem' at built) (sym (e ∙ ap filter_of t)) o
-
-    pub by_window : {n : ℕ} → rule ≡ ByWindow n → Outcome (flat_map (window n) ms) mem mem' at built → Outcome (filter_list s f ms) mem mem' at built
-    unfolding filter_list
-    by_window t o = by_rule t o
 
 -- ---- an occurs by its numbers
 

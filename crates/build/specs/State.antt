@@ -19,8 +19,7 @@ use Rattle.model.specs.Trees.{State, Tree, read}
 use Rattle.model.specs.Waiting.{fits}
 use Rattle.model.specs.Walk.{first_too_long}
 use Rattle.selection.specs.Phrases.{phrase_words}
-use Rattle.store.specs.declared.Built.{Built}
-use Rattle.store.specs.declared.Built.TheVariants.{Made, TooLong}
+use Rattle.store.specs.Built.{Built, made, over}
 use Rattle.store.specs.Stack.{Stack}
 use Rattle.window.specs.Inside.{WindowSize}
 
@@ -60,9 +59,9 @@ pub record WaitsAt (section families selection mem : List ℕ) (code : Code) (pl
 
 -- After the code: either the list of the part that it ends is too long, or the lists of the trees that then wait lie in memory.
 pub record After (s : Searched) (new trees : List Tree) (place : ℕ) (mem : List ℕ) (built : Built) : Type 0 where
-  pub long : built ≡ TooLong → first_too_long s new ≡ Some place
-  pub valid : (m n : ℕ) → built ≡ Made m n → first_too_long s new ≡ None
-  pub stack : (m n : ℕ) → built ≡ Made m n → Stack mem (map (all_matches s) trees)
+  pub long : built ≡ over → first_too_long s new ≡ Some place
+  pub valid : (m n : ℕ) → built ≡ made m n → first_too_long s new ≡ None
+  pub stack : (m n : ℕ) → built ≡ made m n → Stack mem (map (all_matches s) trees)
 
 abbrev pub AfterCode : Searched → Shape → State → ℕ → List ℕ → Built → Type 0
 AfterCode s shape before place mem built = After s (part_ended_by shape (read shape before).trees) (read shape before).trees place mem built

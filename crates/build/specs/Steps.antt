@@ -3,9 +3,7 @@ use Rattle.std.specs.Prelude.{ℕ, ◌+◌, ◌≤◌, ◌<◌, List, ◌∷◌,
 use Rattle.model.specs.AllStrings.{AllList}
 use Rattle.model.specs.Limits.{max_waiting, work_length}
 use Rattle.model.specs.Matches.{Str, Match}
-use Rattle.store.specs.declared.Built.{Built}
-use Rattle.store.specs.declared.Built.TheVariants.{Made}
-use Rattle.store.specs.Built.{built_of}
+use Rattle.store.specs.Built.{Built, made, built_of}
 use Rattle.store.specs.ValidStr.{ValidStr}
 use Rattle.store.specs.Layout.{scratch, slot_at}
 use Rattle.store.specs.Outcome.{Outcome}
@@ -63,4 +61,4 @@ pub record InScratch (mem : List ℕ) (at : ℕ) (built : Built) : Type 0 where
 -- a list is answered for; where it is made, it waits after the rest
 pub record Pushed (list : List Match) (rest : List (List Match)) (exit : List ℕ) (built : Built) : Type 0 where
   pub answered : built ≡ built_of list
-  pub waits : (m s : ℕ) → built ≡ Made m s → Stack exit (list ∷ rest)
+  pub waits : (m s : ℕ) → built ≡ made m s → Stack exit (list ∷ rest)

@@ -18,40 +18,37 @@ ghost use Rattle.occurs.specs.Finds.{find, FindsAt};
 ghost use Rattle.build.specs.State.{AfterCode, WaitsAt};
 ghost use Rattle.build.specs.Steps.{Pushed, InScratch, NoneTaken, OneTaken, FindsTaken, TwoTaken};
 
-use filter_rules::Rule;
-use model::{Code, Filter, Pair, Times};
-use store::Built;
+use model::{Code, Filter, Inputs, Pair, Times};
+use store::{Built, Size};
 
 // Copies a list that was built in the slot for that down to `at`, unless it is too long.
 fn move_from_scratch(mem: &mut [u32], built: Built, at: usize) -> Built
     requires { InScratch mem.old at built }
     ensures { (w : InScratch mem.old at built) → Pushed w.list w.rest mem.new result }
 {
-    let Built::Made { .. } = built else {
-        return built;
-    };
+    let size = built?;
     store::copy_slot_down(mem, store::SCRATCH, at);
-    built
+    Ok(size)
 }
 
 // A phrase's list, after those that wait.
-fn build_phrase(
-    section: &[u32],
-    families: &[u32],
-    words: &[u32],
-    rank: u32,
-    mem: &mut [u32],
-    lists: usize,
-) -> Built
-    requires accepted_section { AcceptedSection section.now }
-    requires accepted_families { AcceptedFamilies families.now }
+fn build_phrase(inputs: &Inputs, words: &[u32], rank: u32, mem: &mut [u32], lists: usize) -> Built
+    requires accepted_section { AcceptedSection inputs.now.section.now }
+    requires accepted_families { AcceptedFamilies inputs.now.families.now }
     requires words_len_bound { length words.now ≤ max_waiting }
     requires rank_le_max_phrases { rank ≤ max_phrases }
-    requires none_taken { NoneTaken (phrase_list (searched_of section.now families.now) rank words.now) mem.old lists }
-    ensures { (w : NoneTaken (phrase_list (searched_of section.now families.now) rank words.now) mem.old lists)
-        → Pushed (phrase_list (searched_of section.now families.now) rank words.now) w.rest mem.new result }
+    requires none_taken { NoneTaken (phrase_list (searched_of inputs.now.section.now inputs.now.families.now) rank words.now) mem.old lists }
+    ensures { (w : NoneTaken (phrase_list (searched_of inputs.now.section.now inputs.now.families.now) rank words.now) mem.old lists)
+        → Pushed (phrase_list (searched_of inputs.now.section.now inputs.now.families.now) rank words.now) w.rest mem.new result }
 {
-    phrase::phrase_list(section, families, words, rank, mem, lists * store::SLOT)
+    phrase::phrase_list(
+        inputs.section,
+        inputs.families,
+        words,
+        rank,
+        mem,
+        lists * store::SLOT,
+    )
 }
 
 // Or, of the last two lists.
@@ -106,20 +103,6 @@ fn build_not(mem: &mut [u32], lists: usize) -> Built
     move_from_scratch(mem, built, src)
 }
 
-// What a filter makes of the list in the slot at src, in the slot to build in.
-fn filtered(section: &[u32], filter: Filter, mem: &mut [u32], src: usize) -> Built
-    requires by_index { (n : ℕ) → filter ≡ Window n → WindowSize n }
-    requires slot_at { SlotAt mem.old src }
-    requires slot_below { SlotBelow (length mem.old) src scratch }
-    ensures { (w : SlotAt mem.old src)
-        → Outcome (filter_list (section_of section.now) filter w.list) mem.old mem.new scratch result }
-{
-    match filter_rules::rule_of(filter) {
-        Rule::Window(n) => window::window_list(mem, n, src, store::SCRATCH),
-        Rule::Keep(keeper) => filters::filter_list(section, keeper, mem, src, store::SCRATCH),
-    }
-}
-
 // A filter, of the last list.
 fn build_filter(section: &[u32], filter: Filter, mem: &mut [u32], lists: usize) -> Built
     requires by_index { (n : ℕ) → filter ≡ Window n → WindowSize n }
@@ -128,7 +111,7 @@ fn build_filter(section: &[u32], filter: Filter, mem: &mut [u32], lists: usize) 
         → Pushed (filter_list (section_of section.now) filter w.list) w.rest mem.new result }
 {
     let src = (lists - 1) * store::SLOT;
-    let built = filtered(section, filter, mem, src);
+    let built = filters::filter_list(section, filter, mem, src, store::SCRATCH);
     move_from_scratch(mem, built, src)
 }
 
@@ -162,31 +145,29 @@ fn build_occurs(times: Times, mem: &mut [u32], lists: usize) -> Built
 
 // The list of the code at a place, from the lists that wait before it. A word has none.
 pub fn build_code(
-    section: &[u32],
-    families: &[u32],
-    selection: &[u32],
+    inputs: &Inputs,
     code: Code,
     place: u32,
     rank: u32,
     mem: &mut [u32],
     lists: usize,
 ) -> Built
-    requires { WaitsAt section.now families.now selection.now mem.old code place rank lists }
-    ensures { (w : WaitsAt section.now families.now selection.now mem.old code place rank lists)
-        → AfterCode (searched_of section.now families.now) (shape_of code) w.state place mem.new result }
+    requires { WaitsAt inputs.now.section.now inputs.now.families.now inputs.now.selection.now mem.old code place rank lists }
+    ensures { (w : WaitsAt inputs.now.section.now inputs.now.families.now inputs.now.selection.now mem.old code place rank lists)
+        → AfterCode (searched_of inputs.now.section.now inputs.now.families.now) (shape_of code) w.state place mem.new result }
 {
     match code {
-        Code::Word(_) => Built::Made {
+        Code::Word(_) => Ok(Size {
             matches: 0,
             strings: 0,
-        },
+        }),
         Code::Phrase(_) => {
-            let words = selection::parts::phrase_words(selection, place);
-            build_phrase(section, families, words, rank, mem, lists)
+            let words = selection::parts::phrase_words(inputs.selection, place);
+            build_phrase(inputs, words, rank, mem, lists)
         }
         Code::Combine(pair) => build_pair(pair, mem, lists),
         Code::Not => build_not(mem, lists),
-        Code::Filter(filter) => build_filter(section, filter, mem, lists),
+        Code::Filter(filter) => build_filter(inputs.section, filter, mem, lists),
         Code::Occurs(times) => build_occurs(times, mem, lists),
     }
 }

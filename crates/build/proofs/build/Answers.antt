@@ -7,36 +7,36 @@ use native.Mathlib.Omega.{arith}
 use Prim.Native.Nat.{ℕ, ◌+◌}
 use Rattle.build.proofs.build.Goals as goal
 
-pub loop-place-init : goal.loop-place-init
-loop-place-init c = (lo_le c.requires, refl, λ w. start w)
+pub loop-before-init : goal.loop-before-init
+loop-before-init c = (lo_le c.requires, refl, λ w. start w)
 
 pub build_code-built-requires : goal.build_code-built-requires
 build_code-built-requires c =
-    waits-next c.requires (c.loop-place.invariant.2 c.requires) c.loop-place-test.true refl c.code_at-code.ensures
+    waits-next c.requires (c.loop-before.invariant.2 c.requires) c.loop-before-test.true refl c.code_at-code.ensures
 
 pub returns-in_default : goal.returns-in_default
 returns-in_default c w =
-    part-long (refuse w (c.loop-place.invariant.2 w) c.loop-place-test.true refl c.code_at-code.ensures c.build_code-built.ensures c.in_default.is)
+    part-long (refuse w (c.loop-before.invariant.2 w) c.loop-before-test.true refl c.code_at-code.ensures c.build_code-built.ensures c.in_default.is)
 
 pub lists_after-lists-requires : goal.lists_after-lists-requires
 lists_after-lists-requires c =
-    let g = c.loop-place.invariant.2 c.requires in
-    record { code_bound = lists-found c.requires g c.loop-place-test.true refl c.code_at-code.ensures; lists_bound = omega (arith, lists-few c.requires g c.loop-place-test.true) }
+    let g = c.loop-before.invariant.2 c.requires in
+    record { code_bound = lists-found c.requires g c.loop-before-test.true refl c.code_at-code.ensures; lists_bound = omega (arith, lists-few c.requires g c.loop-before-test.true) }
 
 pub overflow_add-next : goal.overflow_add-next
 overflow_add-next c =
-    omega (arith, c.phrases_ended-next.ensures, phrases_ended-le (shape_of c.code_at-code.result), rank-few c.requires (c.loop-place.invariant.2 c.requires), c.requires.in_selection.few)
+    omega (arith, c.phrases_ended-next.ensures, phrases_ended-le (shape_of c.code_at-code.result), rank-few c.requires (c.loop-before.invariant.2 c.requires), c.requires.in_selection.few)
 
-pub loop-place-preserved : goal.loop-place-preserved
-loop-place-preserved c = (
+pub loop-before-preserved : goal.loop-before-preserved
+loop-before-preserved c = (
   search rules,
-  omega (arith, c.build_code-built.auto.mem, c.loop-place.invariant.1),
+  omega (arith, c.build_code-built.auto.mem, c.loop-before.invariant.1),
   λ w.
-      go_on w (c.loop-place.invariant.2 w) c.loop-place-test.true refl c.code_at-code.ensures c.build_code-built.ensures c.in-Made.is c.build_code-built.auto.mem
-      c.lists_after-lists.ensures (ap (λ (k : ℕ). c.loop-place.next + k) c.phrases_ended-next.ensures),
+      go_on w (c.loop-before.invariant.2 w) c.loop-before-test.true refl c.code_at-code.ensures c.build_code-built.ensures c.in-Ok.is c.build_code-built.auto.mem
+      c.lists_after-lists.ensures (ap (λ (k : ℕ). c.loop-before.next + k) c.phrases_ended-next.ensures),
 )
 
 pub returns : goal.returns
 returns c w =
-    let g = c.loop-place.invariant.2 w in
-    part_built (end-slot w g c.loop-place-test.false) (end_fine w g c.loop-place-test.false)
+    let g = c.loop-before.invariant.2 w in
+    part_built (end-slot w g c.loop-before-test.false) (end_fine w g c.loop-before-test.false)
