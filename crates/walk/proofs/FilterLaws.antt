@@ -5,14 +5,13 @@ use mathlib.Core.Path.{◌≡◌, refl, sym, ap, ◌∙◌}
 use mathlib.Core.Bool.{Bool}
 use mathlib.Core.List.{List}
 use lib.ListN.{length}
-use Rattle.model.specs.declared.Reason.TheVariants.{LongList}
 use Rattle.model.specs.declared.Code.TheVariants.{Filter as Filtered}
 use Rattle.model.specs.declared.Filter.{Filter}
 use Rattle.model.specs.declared.Filter.TheVariants.{Window}
-use Rattle.model.specs.declared.Quick.TheVariants.{Answered, Refused}
+use Rattle.std.specs.Prelude.{Ok, Err}
+use Rattle.model.specs.Walk.{answered}
 use Rattle.model.specs.declared.Refusal.{Refusal}
 use Rattle.model.specs.AllMatches.{all_matches}
-use Rattle.model.specs.Checks.{refusal}
 use Rattle.model.specs.Kinds.{filtered, shape_of, shape_at}
 use Rattle.model.specs.Lists.{any_of}
 use Rattle.model.specs.Parts.{parts_ended, part_count, part_start}
@@ -26,8 +25,7 @@ use Rattle.model.proofs.PartsLaws.{ChangeAt, change-at}
 use Rattle.store.specs.Slot.{SlotAt}
 use Rattle.window.specs.Inside.{WindowSize}
 use Rattle.build.specs.PartList.{PartList}
-use Rattle.build.specs.declared.Part.{Part}
-use Rattle.build.specs.declared.Part.TheVariants.{Built, Refused as PartRefused}
+use Rattle.std.specs.Prelude.{Result}
 use Rattle.build.proofs.WordsLaws.{window-size}
 use Rattle.walk.specs.Walkable.{Walkable}
 use Rattle.walk.proofs.PartsLaws.{part_count-more, part-long, part-answers}
@@ -57,13 +55,13 @@ module _ {section families sel mem : List ℕ} {hi : ℕ} (w : Walkable section 
       let more = part_count-more at (hi - 1) 0 (part_count (up_to at (hi - 1))) 1 (shape_at sel hi) (ap at (sym last)) (omega arith) (ap parts_ended (sym (ap shape_of e))) in
       omega (arith, part_count_lem at (hi - 1) lo under.operand l, more, ap (λ (k : ℕ). part_count (up_to at k)) last)
 
-  module _ {mem' : List ℕ} {part : Part} (b : PartList (searched_of section families) operand mem' part) where
-    pub filter-long : {r : Refusal} → part ≡ PartRefused r → Refused (refusal LongList r.place) ≡ walk (searched_of section families) w.part.tree
+  module _ {mem' : List ℕ} {part : Result (Unit {0}) Refusal} (b : PartList (searched_of section families) operand mem' part) where
+    pub filter-long : {r : Refusal} → part ≡ Err r → Err r ≡ walk (searched_of section families) w.part.tree
     unfolding filter_walk
     filter-long q = part-long b q (any_of (gives_yes (section_of section) f) (all_matches (searched_of section families) operand)) (length (parts operand) + 1) ∙ walks
 
-    pub filter-answers : {lo n : ℕ} {answer : Bool} → part ≡ Built → lo ≡ part_start (shape_at sel) (hi - 1) → ((s : SlotAt mem' 0) → answer ≡ any_of (gives_yes (section_of section) f) s.list)
+    pub filter-answers : {lo n : ℕ} {answer : Bool} → part ≡ Ok tt → lo ≡ part_start (shape_at sel) (hi - 1) → ((s : SlotAt mem' 0) → answer ≡ any_of (gives_yes (section_of section) f) s.list)
         → part_count (up_to (shape_at sel) lo) + n ≡ part_count (up_to (shape_at sel) hi)
-        → Answered answer n ≡ walk (searched_of section families) w.part.tree
+        → answered answer n ≡ walk (searched_of section families) w.part.tree
     unfolding filter_walk
     filter-answers q l y h = part-answers b q (any_of (gives_yes (section_of section) f)) y (counts l h) ∙ walks

@@ -1,4 +1,3 @@
 pub mod PartsLaws
-pub mod AnswersLaws
 pub mod WalkLaws
 pub mod FilterLaws

@@ -8,7 +8,8 @@ use Rattle.std.specs.Prelude.{Option, Some, None, option_map}
 use Rattle.model.specs.declared.Reason.TheVariants.{LongList}
 use Rattle.model.proofs.OptionLaws.{none-ne-some}
 use lib.ListN.{length}
-use Rattle.model.specs.declared.Quick.TheVariants.{Answered, Refused}
+use Rattle.std.specs.Prelude.{Ok, Err}
+use Rattle.model.specs.Walk.{answered}
 use Rattle.model.specs.declared.Refusal.{Refusal}
 use Rattle.model.specs.AllMatches.{all_matches}
 use Rattle.model.specs.Checks.{refusal}
@@ -28,8 +29,7 @@ use Rattle.selection.proofs.PhrasesLaws.{phrases_ended-le, phrases_in-append}
 use Rattle.store.specs.Slot.{SlotAt}
 use Rattle.build.specs.State.{Buildable}
 use Rattle.build.specs.PartList.{PartList}
-use Rattle.build.specs.declared.Part.{Part}
-use Rattle.build.specs.declared.Part.TheVariants.{Built, Refused as PartRefused}
+use Rattle.std.specs.Prelude.{Result}
 use Rattle.walk.specs.Walkable.{Walkable}
 
 -- ---- part_count
@@ -101,29 +101,29 @@ module _ {section families sel mem : List ℕ} {hi : ℕ} (w : Walkable section 
 
 -- ---- a part that is built: its list is too long, or answers
 
-nine-at : (r : Refusal) (o : Option ℕ) → option_map (refusal LongList) o ≡ Some r → o ≡ Some r.place
-nine-at r None f = absurd (none-ne-some r f)
-nine-at r (Some place) f = let same : refusal LongList place ≡ r = cc in ap (λ (q : Refusal). Some q.place) same
+nine-at : (r : Refusal) (o : Option ℕ) (answer : Bool) (n : ℕ) → option_map (refusal LongList) o ≡ Some r → Err r ≡ unless_too_long o answer n
+nine-at r None answer n f = absurd (none-ne-some r f)
+nine-at r (Some place) answer n f = let same : refusal LongList place ≡ r = cc in ap Err (sym same)
 
-module _ {s : Searched} {t : Tree} {mem : List ℕ} {part : Part} (b : PartList s t mem part) where
+module _ {s : Searched} {t : Tree} {mem : List ℕ} {part : Result (Unit {0}) Refusal} (b : PartList s t mem part) where
   -- where it is too long
-  pub part-long : {r : Refusal} → part ≡ PartRefused r → (answer : Bool) (n : ℕ) → Refused (refusal LongList r.place) ≡ unless_too_long (first_too_long s (parts t)) answer n
-  part-long {r} e answer n = rw (nine-at r (first_too_long s (parts t)) (b.refused r e))
+  pub part-long : {r : Refusal} → part ≡ Err r → (answer : Bool) (n : ℕ) → Err r ≡ unless_too_long (first_too_long s (parts t)) answer n
+  part-long {r} e answer n = nine-at r (first_too_long s (parts t)) answer n (b.refused r e)
 
   -- and where not, what is asked of its list and its count
-  pub part-answers : part ≡ Built → (f : List Match → Bool) {answer : Bool} {n k : ℕ} → ((w : SlotAt mem 0) → answer ≡ f w.list) → n ≡ k
-      → Answered answer n ≡ unless_too_long (first_too_long s (parts t)) (f (all_matches s t)) k
+  pub part-answers : part ≡ Ok tt → (f : List Match → Bool) {answer : Bool} {n k : ℕ} → ((w : SlotAt mem 0) → answer ≡ f w.list) → n ≡ k
+      → answered answer n ≡ unless_too_long (first_too_long s (parts t)) (f (all_matches s t)) k
   part-answers e f y h = rw (b.valid e, y (record { list = all_matches s t; slot = b.slot e }), h)
 
 -- ---- where the whole part is built
 
-module _ {section families sel mem : List ℕ} {hi : ℕ} (w : Walkable section families sel mem hi) {mem' : List ℕ} {part : Part} (b : PartList (searched_of section families) w.part.tree mem' part) where
-  pub build-long : {r : Refusal} → part ≡ PartRefused r → Refused (refusal LongList r.place) ≡ build (searched_of section families) w.part.tree
+module _ {section families sel mem : List ℕ} {hi : ℕ} (w : Walkable section families sel mem hi) {mem' : List ℕ} {part : Result (Unit {0}) Refusal} (b : PartList (searched_of section families) w.part.tree mem' part) where
+  pub build-long : {r : Refusal} → part ≡ Err r → Err r ≡ build (searched_of section families) w.part.tree
   unfolding build
   build-long e = part-long b e (is_yes (all_matches (searched_of section families) w.part.tree)) (length (parts w.part.tree))
 
-  pub build-answers : {lo n : ℕ} {answer : Bool} → part ≡ Built → lo ≡ part_start (shape_at sel) hi → ((s : SlotAt mem' 0) → answer ≡ is_yes s.list)
+  pub build-answers : {lo n : ℕ} {answer : Bool} → part ≡ Ok tt → lo ≡ part_start (shape_at sel) hi → ((s : SlotAt mem' 0) → answer ≡ is_yes s.list)
       → part_count (up_to (shape_at sel) lo) + n ≡ part_count (up_to (shape_at sel) hi)
-      → Answered answer n ≡ build (searched_of section families) w.part.tree
+      → answered answer n ≡ build (searched_of section families) w.part.tree
   unfolding build
   build-answers {lo} e l y h = part-answers b e is_yes y (omega (arith, part_count_lem (shape_at sel) hi lo w.part l))

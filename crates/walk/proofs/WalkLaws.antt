@@ -2,7 +2,7 @@
 use Prim.Native.Nat.{ℕ, ◌+◌, ◌-◌, ◌≤◌, ◌<◌}
 use native.Mathlib.Omega.{arith}
 use mathlib.Core.Path.{◌≡◌, refl, sym, ap, ◌∙◌, subst}
-use mathlib.Core.Bool.{Bool, true, false, not, cond}
+use mathlib.Core.Bool.{Bool, true, false, not, cond, beq, true≢false}
 use mathlib.Core.List.{List, [], ◌∷◌, ◌++◌, map, append-nil}
 use Rattle.std.specs.Prelude.{Option, Some, None}
 use lib.ListN.{length, length-append}
@@ -13,8 +13,10 @@ use Rattle.model.specs.declared.Code.TheVariants.{Word, Phrase, Combine, Not, Fi
 use Rattle.model.specs.declared.Filter.{Filter}
 use Rattle.model.specs.declared.Pair.{Pair}
 use Rattle.model.specs.declared.Pair.TheVariants.{Or, And, MildNot}
-use Rattle.model.specs.declared.Quick.{Quick}
-use Rattle.model.specs.declared.Quick.TheVariants.{Answered, Refused}
+use Rattle.model.specs.Walk.{Quick}
+use Rattle.std.specs.Prelude.{Result, Ok, Err, IsErr, IsErrAnd}
+use Rattle.model.specs.declared.Refusal.{Refusal}
+use Rattle.model.specs.Walk.{answered}
 use Rattle.model.specs.declared.Times.{Times}
 use Rattle.model.specs.Accepted.{AcceptedSelection}
 use Rattle.model.specs.Kinds.{negated, occurring, Shape, a_word, a_pair, a_change, shape_of, shape_at}
@@ -50,45 +52,77 @@ codes-few s t =
     let counts = codes_unless (first_too_long s (walk_builds s t)) (walk_answer s t) (length (walk_reaches s t)) in
     omega (arith, ap codes_in (walk_is s t), counts, length-walk_reaches s t, length-parts t, part_count-le (postfix t))
 
+-- ---- an error passed on
+
+pub error-is : {A E : Type 0} (r : Result A E) (e : E) → IsErr r × IsErrAnd r (λ y. y ≡ e) → r ≡ Err e
+error-is (Ok x) e h = absurd (true≢false (sym h.0))
+error-is (Err y) e h = ap Err h.1
+
+pub error-decides : (k : Pair) (r : Refusal) → decides k (Err r) ≡ true
+error-decides Or r = refl
+error-decides And r = refl
+error-decides MildNot r = refl
+
 -- ---- passed_up
 
 pub passed_whole : (q : Quick) → passed_up false 0 q ≡ q
-passed_whole (Answered true n) = ap (Answered true) (omega arith)
-passed_whole (Answered false n) = ap (Answered false) (omega arith)
-passed_whole (Refused q) = refl
+passed_whole (Ok a) = ap (answered a.yes) (omega arith)
+passed_whole (Err r) = refl
 
 -- through a not
 passed-turned : (b : Bool) (n : ℕ) (q : Quick) → passed_up b n (turned q) ≡ passed_up (not b) (n + 1) q
-passed-turned true n (Answered true k) = ap (Answered true) (omega arith)
-passed-turned true n (Answered false k) = ap (Answered false) (omega arith)
-passed-turned false n (Answered true k) = ap (Answered false) (omega arith)
-passed-turned false n (Answered false k) = ap (Answered true) (omega arith)
-passed-turned b n (Refused q) = refl
+passed-turned b n (Ok a) = at b a.yes a.codes
+  where
+    at : (b y : Bool) (k : ℕ) → passed_up b n (turned (answered y k)) ≡ passed_up (not b) (n + 1) (answered y k)
+    at true true k = ap (answered true) (omega arith)
+    at true false k = ap (answered false) (omega arith)
+    at false true k = ap (answered false) (omega arith)
+    at false false k = ap (answered true) (omega arith)
+passed-turned b n (Err r) = refl
+
+-- an answer passed up, as the loop makes it
+pub answered-up : (turned yes : Bool) (more codes all : ℕ) → all ≡ codes + more → answered (not (beq yes turned)) all ≡ passed_up turned more (answered yes codes)
+answered-up true true more codes all e = ap (answered false) e
+answered-up true false more codes all e = ap (answered true) e
+answered-up false true more codes all e = ap (answered true) e
+answered-up false false more codes all e = ap (answered false) e
 
 -- ---- a combination
 
 module _ (b : Bool) (n : ℕ) where
   or_decided : (l r : Quick) → decides Or l ≡ true → passed_up b n (or_walk l r) ≡ passed_up b (n + 1) l
-  or_decided (Answered true k) r e = ap (Answered (cond b false true)) (omega arith)
-  or_decided (Answered false k) r e = false-true e
-  or_decided (Refused q) r e = refl
+  or_decided (Ok a) r e = at a.yes a.codes e
+    where
+      at : (y : Bool) (k : ℕ) → y ≡ true → passed_up b n (or_walk (answered y k) r) ≡ passed_up b (n + 1) (answered y k)
+      at true k e = ap (answered (cond b false true)) (omega arith)
+      at false k e = false-true e
+  or_decided (Err q) r e = refl
 
   and_decided : (l r : Quick) → decides And l ≡ true → passed_up b n (and_walk l r) ≡ passed_up b (n + 1) l
-  and_decided (Answered false k) r e = ap (Answered (cond b true false)) (omega arith)
-  and_decided (Answered true k) r e = false-true e
-  and_decided (Refused q) r e = refl
+  and_decided (Ok a) r e = at a.yes a.codes e
+    where
+      at : (y : Bool) (k : ℕ) → not y ≡ true → passed_up b n (and_walk (answered y k) r) ≡ passed_up b (n + 1) (answered y k)
+      at false k e = ap (answered (cond b true false)) (omega arith)
+      at true k e = false-true e
+  and_decided (Err q) r e = refl
 
   or_undecided : (l r : Quick) → decides Or l ≡ false → passed_up b n (or_walk l r) ≡ passed_up b (n + 1 + codes_in l) r
-  or_undecided (Answered false k) (Answered y j) e = ap (Answered (cond b (not y) y)) (omega arith)
-  or_undecided (Answered false k) (Refused q) e = refl
-  or_undecided (Answered true k) r e = false-true (sym e)
-  or_undecided (Refused q) r e = false-true (sym e)
+  or_undecided (Ok a) r e = at a.yes a.codes r e
+    where
+      at : (y : Bool) (k : ℕ) (r : Quick) → y ≡ false → passed_up b n (or_walk (answered y k) r) ≡ passed_up b (n + 1 + k) r
+      at false k (Ok c) e = ap (answered (cond b (not c.yes) c.yes)) (omega arith)
+      at false k (Err q) e = refl
+      at true k r e = false-true (sym e)
+  or_undecided (Err q) r e = false-true (sym e)
 
   and_undecided : (l r : Quick) → decides And l ≡ false → passed_up b n (and_walk l r) ≡ passed_up b (n + 1 + codes_in l) r
-  and_undecided (Answered true k) (Answered y j) e = ap (Answered (cond b (not y) y)) (omega arith)
-  and_undecided (Answered true k) (Refused q) e = refl
-  and_undecided (Answered false k) r e = false-true (sym e)
-  and_undecided (Refused q) r e = false-true (sym e)
+  and_undecided (Ok a) r e = at a.yes a.codes r e
+    where
+      at : (y : Bool) (k : ℕ) (r : Quick) → not y ≡ false → passed_up b n (and_walk (answered y k) r) ≡ passed_up b (n + 1 + k) r
+      at true k (Ok c) e = ap (answered (cond b (not c.yes) c.yes)) (omega arith)
+      at true k (Err q) e = refl
+      at false k r e = false-true (sym e)
+  and_undecided (Err q) r e = false-true (sym e)
 
   module _ (s : Searched) (c : ℕ) (t u : Tree) where
     -- the left side decides: its answer, and one code more
@@ -169,7 +203,7 @@ module _ {section families sel mem : List ℕ} {hi : ℕ} (w : Walkable section 
   phrase-few {code} {k} e c = phrase-short sel w.in_selection hi some-codes w.up_to k (sym e ∙ c)
 
   pub phrase_walks : {code : Code} {k : ℕ} {words : List ℕ} {r : Quick} → code ≡ code_at sel hi → code ≡ Phrase k → words ≡ phrase_words sel hi
-      → ((rank : ℕ) → r ≡ Answered (not (is_empty (phrase_list (searched_of section families) rank words))) 1)
+      → ((rank : ℕ) → r ≡ answered (not (is_empty (phrase_list (searched_of section families) rank words))) 1)
       → r ≡ walk (searched_of section families) w.part.tree
   unfolding walk
   phrase_walks {code} {k} {words} {r} e c ws a =
@@ -182,7 +216,7 @@ module _ {section families sel mem : List ℕ} {hi : ℕ} (w : Walkable section 
       let last : hi - 1 + 1 ≡ hi = omega (arith, some-codes) in
       let found = phrase_words_lem sel w.in_selection hi some-codes w.up_to k p.words (sym e ∙ c) p.long (subst (λ (j : ℕ). Loose sel j p.words) last loose) in
       a (rank_after w.part.below)
-      ∙ ap (λ (l : List ℕ). Answered (not (is_empty (phrase_list (searched_of section families) (rank_after w.part.below) l))) 1) (ws ∙ found)
+      ∙ ap (λ (l : List ℕ). answered (not (is_empty (phrase_list (searched_of section families) (rank_after w.part.below) l))) 1) (ws ∙ found)
       ∙ ap (walk (searched_of section families)) (sym p.is)
 
   -- an occurs

@@ -10,7 +10,7 @@ use Rattle.walk.proofs.build_part.Goals as goal
 
 pub overflow_add-before : goal.overflow_add-before
 overflow_add-before c =
-    omega (arith, rank-few c.requires.walkable, c.rank_at-before.ensures, ap (λ (l : ℕ). phrases_in (up_to (shape_at c.args.selection.now) l)) c.requires.lo_value, c.requires.walkable.up_to, c.requires.walkable.in_selection.few)
+    omega (arith, rank-few c.requires.walkable, c.rank_at-before.ensures, ap (λ (l : ℕ). phrases_in (up_to (shape_at c.args.inputs.now.selection.now) l)) c.requires.lo_value, c.requires.walkable.up_to, c.requires.walkable.in_selection.few)
 
 pub build-requires : goal.build-requires
 build-requires c = buildable c.requires.walkable c.requires.lo_value c.rank_at-before.ensures

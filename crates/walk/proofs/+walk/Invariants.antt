@@ -4,15 +4,15 @@ use mathlib.Core.Path.{◌≡◌}
 use lib.ListN.{length}
 use Rattle.walk.specs.Walkable.{Walkable}
 use Rattle.walk.proofs.WalkLaws.{Going}
-use Rattle.walk.proofs.+walk_part.Given as goal
+use Rattle.walk.proofs.+walk.Given as goal
 
-abbrev pub decreases-walk_part : goal.decreases-walk_part
-decreases-walk_part l = l.hi
+abbrev pub decreases-walk : goal.decreases-walk
+decreases-walk l = l.hi
 
 abbrev pub invariant-loop-turned : goal.invariant-loop-turned
 invariant-loop-turned l =
     (length l.work ≡ length l.initial.work)
-    × ((w : Walkable l.section l.families l.selection l.initial.work l.hi) → Going l.section l.families l.selection l.hi w.part.tree l.work l.place l.turned l.codes)
+    × ((w : Walkable l.inputs.section.now l.inputs.families.now l.inputs.selection.now l.initial.work l.hi) → Going l.inputs.section.now l.inputs.families.now l.inputs.selection.now l.hi w.part.tree l.work l.place l.turned l.codes)
 
 abbrev pub decreases-loop-turned : goal.decreases-loop-turned
 decreases-loop-turned l = l.place
