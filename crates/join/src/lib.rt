@@ -34,8 +34,8 @@ fn joins_contiguous(strs: &[u32], run: Run) -> bool
     all_contiguous(strs) && run_covered(strs, run, Chosen::All)
 }
 
-#[tactic(auto, unfolding(model::specs::Rules::join))]
 // "no includes give none. Otherwise one include from least start to greatest end, with the first include's query position"
+#[tactic(auto, unfolding(model::specs::Rules::join))]
 pub fn join(strs: &[u32]) -> Option<Packed>
     ensures { MatchOption result (join (strs_at strs.now) ≡ []) (λ s. strs_of 0 (join (strs_at strs.now)) ≡ s.span ∷ s.tag ∷ []) }
 {

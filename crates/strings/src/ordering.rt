@@ -26,8 +26,8 @@ pub fn agrees_with_all(s: Packed, strs: &[u32]) -> bool
     strings_in(strs).all(|other| agree(s, other))
 }
 
-#[tactic(auto, unfolding(model::specs::Lists::all_pairs))]
 // "all pairs of includes agree": each with those after it
+#[tactic(auto, unfolding(model::specs::Lists::all_pairs))]
 pub fn all_agree(strs: &[u32]) -> bool
     ensures { result ≡ ordered.keeps (strs_at strs.now) }
 {
