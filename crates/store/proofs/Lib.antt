@@ -8,4 +8,4 @@ pub mod SlotsLaws
 pub mod StackLaws
 pub mod RowsLaws
 pub mod EachLaws
-pub mod IsYesLaws
+pub mod LentLaws

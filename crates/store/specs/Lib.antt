@@ -9,4 +9,5 @@ pub mod Put
 pub mod Built
 pub mod Outcome
 pub mod Each
+pub mod Lent
 pub mod Indices

@@ -5,6 +5,7 @@
 
 mod bounds;
 mod each;
+mod lent;
 mod matches;
 mod slots;
 
@@ -13,11 +14,10 @@ ghost use Rattle.store.specs.Built.{sized_as};
 
 pub use bounds::Bounds;
 pub use each::each_match;
+pub use lent::{Lent, Matches, is_yes, matches_of};
 pub use matches::{Header, bounds_at, close_match, match_end, put_string, string_at};
 use model::{MAX_MATCHES, MAX_STRINGS};
-pub use slots::{
-    close_slot, copy_slot_down, count_one, is_yes, put_slot_header, size_at, slot_end,
-};
+pub use slots::{close_slot, copy_slot_down, count_one, put_slot_header, size_at, slot_end};
 
 // How many numbers a slot takes at most: 2 + 256 + 2 × 512.
 pub const SLOT: usize = 1282;

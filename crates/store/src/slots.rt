@@ -2,13 +2,11 @@
 ghost use Rattle.std.specs.Prelude.{cond, [], ◌∷◌, ◌≡◌, ◌+◌, ◌≤◌, ltb, length};
 ghost use Rattle.std.proofs.lemmas.List.Edits.{sets};
 ghost use Rattle.model.specs.Limits.{max_matches};
-ghost use Rattle.model.specs.Matches.{is_yes};
 ghost use Rattle.store.specs.Indices.{Closing};
 ghost use Rattle.store.specs.Layout.{matches_at, slot_length, slot_numbers, slot_size, strings_at};
 ghost use Rattle.store.specs.Outcome.{Closed};
 ghost use Rattle.store.specs.Slot.{SlotHeader, SlotAt};
 
-use super::matches::Header;
 use super::{FIRST_MATCH, Size};
 
 // The size of the list in a slot, by its header.
@@ -68,21 +66,4 @@ pub fn close_slot(mem: &mut [u32], at: usize, next: usize, matches: u32) -> Size
     let size = Size { matches, strings };
     put_slot_header(mem, at, size);
     size
-}
-
-// "a match without excludes": does the list in a slot have one?
-pub fn is_yes(mem: &[u32], src: usize) -> bool
-    requires { SlotAt mem.now src }
-    ensures { (w : SlotAt mem.now src) → result ≡ is_yes w.list }
-{
-    let end = slot_end(mem, src);
-    let mut at = src + FIRST_MATCH;
-    while at < end {
-        let header = Header(mem[at]);
-        if header.excludes() == 0 {
-            return true;
-        }
-        at += header.length();
-    }
-    false
 }
