@@ -1,27 +1,24 @@
 -- The number of choices, counted with a ceiling by a walk over the list: a ceiling on the way is as good as one at the end, for a 0 to come makes 0 of
 -- either. What is counted so far times the choices of the matches left stays the same.
-use Prim.Native.Nat.{ℕ, zero, suc, ◌+◌, ◌*◌, ◌≤◌, ◌<◌}
+use Prim.Native.Nat.{ℕ, zero, suc, ◌*◌, ◌≤◌, ◌<◌}
 use native.Mathlib.Omega.{arith}
 use native.Mathlib.Nat.{mul-zero, mul-suc, mul_assoc, mul-one, mul_comm}
 use mathlib.Core.Path.{◌≡◌, refl, sym, ap, ap₂, ◌∙◌}
 use mathlib.Core.Bool.{Bool, true, false}
-use mathlib.Core.List.{List, ◌∷◌}
+use mathlib.Core.List.{List, [], ◌∷◌}
 use mathlib.Core.Logic.{inl}
 use borrow.Author.Tests.{leb-true, leb-false, lt-ltb}
 use lib.Dec.{leb}
-use lib.ListN.{length, get_or}
+use lib.ListN.{length}
 use Rattle.model.specs.Choices.{choices}
-use Rattle.model.specs.Limits.{max_matches}
-use Rattle.model.specs.Matches.{Match, strings}
+use Rattle.model.specs.Limits.{max_matches, max_strings}
+use Rattle.model.specs.Matches.{Match, strings, strings_in}
 use Rattle.model.specs.Rules.{not_list}
 use Rattle.model.proofs.RulesLaws.{length-not, strings-not}
 use Rattle.store.specs.Built.{built_of, sized_as}
-use Rattle.store.specs.Layout.{includes_in, excludes_in, matches_at, match_length, slot_length}
+use Rattle.store.specs.Layout.{matches_at}
 use Rattle.store.specs.Slot.{SlotAt}
-use Rattle.store.specs.Stream.{SearchInvariant}
-use Rattle.store.proofs.DecodeLaws.{strings-counted}
-use Rattle.store.proofs.SlotsLaws.{matches_held, slot-stream, built_long}
-use Rattle.store.proofs.StreamLaws.{Next, next-counted, none-counted, search_here, search_none}
+use Rattle.store.proofs.SlotsLaws.{matches_held, built_long}
 use Rattle.negation.specs.Sizes.{capped, ceiling}
 
 -- ---- capped
@@ -36,40 +33,33 @@ capped-mul a k = at (leb a ceiling) refl k
 
 -- ---- the count
 
--- before match number i of n, at p
-pub record Counting (list : List Match) (mem : List ℕ) (p end total i n : ℕ) : Type 0 where
-  pub search : SearchInvariant (capped (choices list)) (λ ms. capped (total * choices ms)) mem p end
-  pub count : i + length search.todo ≡ n
+-- what is counted times the choices of the matches left is the number of choices from all
+pub record Counting (list left : List Match) (total : ℕ) : Type 0 where
+  pub same : capped (total * choices left) ≡ capped (choices list)
+  pub few : strings left ≤ max_strings
 
-pub start : {mem : List ℕ} {src : ℕ} (w : SlotAt mem src) {n : ℕ} → n ≡ matches_at mem src → Counting w.list mem (src + 2) (src + slot_length mem src) 1 0 n
-start w e =
-    record {
-      search = record { todo = w.list; left = slot-stream w.slot _ _ refl refl; same = ap capped (omega arith) };
-      count = omega (arith, matches_held w.slot);
-    }
+pub start : {list left : List Match} → left ≡ list → strings list ≤ max_strings → Counting list left 1
+start {list} e f = record { same = ap capped (omega (arith, ap choices e)); few = omega (arith, ap strings e) }
 
-module _ {list : List Match} {mem : List ℕ} {p end total i n : ℕ} (g : Counting list mem p end total i n) where
-  pub here : i < n → Next g.search.todo mem p end
-  here h = next-counted g.search.left g.count h
+module _ {list left : List Match} {total : ℕ} (g : Counting list left total) where
+  module _ {m : Match} {rest : List Match} (e : left ≡ m ∷ rest) where
+    pub few_strings : strings_in m ≤ max_strings
+    unfolding strings
+    few_strings = omega (arith, g.few, ap strings e)
 
-  pub step : i < n → {k len total' : ℕ} → k ≡ includes_in (get_or mem p 0) + excludes_in (get_or mem p 0) → total' ≡ capped (total * k) → len ≡ match_length (get_or mem p 0)
-      → Counting list mem (p + len) end total' (i + 1) n
+    pub step : {k total' : ℕ} → k ≡ strings_in m → total' ≡ capped (total * k) → Counting list rest total'
+    unfolding choices strings
+    step {k} {total'} f t =
+        let R : ℕ = choices rest in
+        let more : capped (total * choices (m ∷ rest)) ≡ capped (total' * R) =
+        sym (ap (λ x. capped (x * R)) t ∙ capped-mul (total * k) R ∙ ap capped (mul_assoc total k R) ∙ ap (λ x. capped (total * (x * R))) f) in
+        record { same = sym more ∙ ap (λ ms. capped (total * choices ms)) (sym e) ∙ g.same; few = omega (arith, g.few, ap strings e) }
+
+  pub finish : total ≤ ceiling → left ≡ [] → total ≡ capped (choices list)
   unfolding choices
-  step h {k} {total' = total'} e t l =
-      let N = here h in
-      let R : ℕ = choices N.rest in
-      let more : capped (total * choices (N.first ∷ N.rest)) ≡ capped (total' * R) =
-      sym (ap (λ x. capped (x * R)) t ∙ capped-mul (total * k) R ∙ ap capped (mul_assoc total k R) ∙ ap (λ x. capped (total * (x * R))) (e ∙ strings-counted N.held)) in
-      record {
-        search = record { todo = N.rest; left = N.after _ (ap (λ x. p + x) l); same = sym more ∙ search_here g.search N };
-        count = omega (arith, g.count, N.one_less);
-      }
-
-  pub finish : total ≤ ceiling → n ≤ i → total ≡ capped (choices list)
-  unfolding choices
-  finish h l =
+  finish h e =
       let low : total ≡ capped (total * 1) = omega (arith, mul-one total) in
-      low ∙ search_none g.search (none-counted g.search.left g.count l)
+      low ∙ ap (λ ms. capped (total * choices ms)) (sym e) ∙ g.same
 
 -- ---- the sizes of a not
 

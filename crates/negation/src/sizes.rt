@@ -9,7 +9,7 @@ ghost use Rattle.store.specs.Slot.{SlotAt};
 ghost use Rattle.negation.specs.Sizes.{capped, ceiling};
 
 use model::MAX_MATCHES;
-use store::{Built, Header};
+use store::Built;
 
 // The first number above the limit of matches, for every product that is above the limit.
 const CEILING: u32 = MAX_MATCHES + 1;
@@ -27,13 +27,9 @@ fn count_choices(mem: &[u32], src: usize) -> u32
     requires { SlotAt mem.now src }
     ensures { (w : SlotAt mem.now src) → result ≡ capped (choices w.list) }
 {
-    let n = store::size_at(mem, src).matches;
-    let mut at = src + store::FIRST_MATCH;
     let mut total = 1;
-    for _ in 0..n {
-        let header = Header(mem[at]);
-        total = product(total, header.strings() as u32);
-        at += header.length();
+    for m in store::matches_of(mem, src) {
+        total = product(total, m.strings() as u32);
     }
     total
 }

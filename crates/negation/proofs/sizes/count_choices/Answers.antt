@@ -1,37 +1,22 @@
 use native.Mathlib.Omega.{arith}
-use Rattle.store.specs.Stream.{MatchHeader}
-use Rattle.negation.proofs.SizesLaws.{start, here, step, finish}
-use borrow.Author.Rules.{rules}
+use mathlib.Core.Path.{◌∙◌}
+use Rattle.negation.proofs.SizesLaws.{start, few_strings, step, finish}
 use Rattle.negation.proofs.sizes.count_choices.Goals as goal
-use Rattle.negation.proofs.sizes.count_choices.Goals.{In-loop}
 
--- the header of the match in hand
-one : (c : In-loop) → MatchHeader c.args.mem.now c.loop.at
-one c = (here (c.loop.invariant.1 c.requires) c.loop-test.true).held.header
-
-pub loop-init : goal.loop-init
-loop-init c = (search rules, λ w. start w c.size_at-n.ensures.matches)
-
-pub offset_bounds-mem-at : goal.offset_bounds-mem-at
-offset_bounds-mem-at c = omega (arith, one c)
-
-pub bounds-mem-at : goal.bounds-mem-at
-bounds-mem-at c = omega (arith, one (goal.at.bounds-mem-at c).In-loop)
+pub loop-m-init : goal.loop-m-init
+loop-m-init c = (omega arith, λ w. start (c.into_iter-m-iterator.ensures.into_iter_gives ∙ c.matches_of-m-items.ensures w) w.slot.strs)
 
 pub overflow_cast-strings : goal.overflow_cast-strings
-overflow_cast-strings c = omega (arith, one (goal.at.overflow_cast-strings c).In-loop, c.strings.ensures)
+overflow_cast-strings c = omega (arith, few_strings (c.loop-m.invariant.1 c.requires) c.in-Some.ensures.steps, c.strings.ensures)
 
 pub product-total-requires : goal.product-total-requires
-product-total-requires c = omega (arith, one (goal.at.product-total-requires c).In-loop, c.strings.ensures, c.loop.invariant.0)
+product-total-requires c = omega (arith, few_strings (c.loop-m.invariant.1 c.requires) c.in-Some.ensures.steps, c.strings.ensures, c.loop-m.invariant.0)
 
-pub overflow_add-at-in-loop : goal.overflow_add-at-in-loop
-overflow_add-at-in-loop c = omega (arith, one (goal.at.overflow_add-at-in-loop c).In-loop, c.length-at.ensures)
-
-pub loop-preserved : goal.loop-preserved
-loop-preserved c = (
+pub loop-m-preserved : goal.loop-m-preserved
+loop-m-preserved c = (
   omega (arith, c.product-total.ensures),
-  λ w. step (c.loop.invariant.1 w) c.loop-test.true c.strings.ensures c.product-total.ensures c.length-at.ensures,
+  λ w. step (c.loop-m.invariant.1 w) c.in-Some.ensures.steps c.strings.ensures c.product-total.ensures,
 )
 
 pub returns : goal.returns
-returns c w = finish (c.loop.invariant.1 w) c.loop.invariant.0 c.loop-test.false
+returns c w = finish (c.loop-m.invariant.1 w) c.loop-m.invariant.0 c.in-None.ensures.steps.0

@@ -1,10 +1,9 @@
 -- Invariant: the count is at most the ceiling, and times the choices from the matches left it is, capped, the number of choices from all (Counting).
-use Prim.Native.Nat.{◌+◌, ◌≤◌}
-use Rattle.store.specs.Layout.{slot_length}
+use Prim.Native.Nat.{◌≤◌}
 use Rattle.store.specs.Slot.{SlotAt}
 use Rattle.negation.specs.Sizes.{ceiling}
 use Rattle.negation.proofs.SizesLaws.{Counting}
 use Rattle.negation.proofs.sizes.count_choices.Given as goal
 
-abbrev pub invariant-loop : goal.invariant-loop
-invariant-loop l = (l.total ≤ ceiling) × ((w : SlotAt l.mem l.src) → Counting w.list l.mem l.at (l.src + slot_length l.mem l.src) l.total l.counter l.n)
+abbrev pub invariant-loop-m : goal.invariant-loop-m
+invariant-loop-m l = (l.total ≤ ceiling) × ((w : SlotAt l.fn.mem l.fn.src) → Counting w.list l.m-iterator l.total)
