@@ -54,7 +54,7 @@ fn operand_of(code: Code) -> u32
 }
 
 impl Codes {
-    pub fn none() -> Codes
+    pub(crate) fn none() -> Codes
         ensures { result ≡ no_codes }
     {
         Codes {
@@ -65,7 +65,7 @@ impl Codes {
     }
 
     // One code more. The first 64 are written, those past them are counted.
-    pub fn push(&mut self, code: Code)
+    pub(crate) fn push(&mut self, code: Code)
         requires fits { operand_of code < 2 ^ 32 }
         requires few { self.old.count < 2 ^ 32 - 1 }
         ensures { Written (code ∷ []) self.old self.new }

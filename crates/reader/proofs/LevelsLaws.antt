@@ -1,13 +1,11 @@
 -- A loop reads a level of the grammar: before each operand, the level is the codes written and then the operand, the code of its operator, and a row.
 use Rattle.std.proofs.Common.{◌≡◌, ℕ, zero, suc, ◌+◌, ◌-◌, ◌<◌, ◌≤◌, Bool, true, false, cond, eqb, List, [], ◌∷◌, ◌++◌, append-nil, length, sym, ap, ◌∙◌, refl, arith, Ok, Err}
-use Rattle.std.proofs.lemmas.Bool.{false≢true}
 use Rattle.model.specs.declared.Code.{Code}
 use Rattle.model.specs.declared.Code.TheVariants.{Combine}
 use Rattle.model.specs.declared.Pair.{Pair}
 use Rattle.model.specs.declared.Pair.TheVariants.{MildNot}
 use Rattle.model.specs.declared.Reason.{Reason}
 use Rattle.model.specs.declared.Refusal.{Refusal}
-use Rattle.model.specs.Limits.{max_text}
 use Rattle.grammar.specs.Stream.{Stream}
 use Rattle.grammar.specs.Symbols.{k_not, k_in, symbol_in}
 use Rattle.grammar.specs.Grammar.{Outcome, failed, read, Rule, prefixed, ◌then◌, writes, expect, row}
@@ -89,7 +87,6 @@ pub record Left (o : Outcome) (rest : ℕ → Outcome) (s m : State) : Type 0 wh
 pub record Turns (pair : Pair) (operand : ℕ → Rule) (s m : State) (more : Bool) : Type 0 where
   pub fewer : left m ≤ left s
   pub few : m.codes.count + length (code_if pair operand more) + left m ≤ s.codes.count + left s
-  pub room : more ≡ true → m.codes.count + left m < max_text
   pub going : (k : ℕ) → left s ≤ k → Left (level_rule pair operand k (stream_of s)) (λ f. turn pair operand more k f (stream_of m)) s m
 
 -- after that operand and its code, at q
@@ -104,7 +101,6 @@ module _ (pair : Pair) (operand : ℕ → Rule) where
   turns_start s = record {
     fewer = omega arith;
     few = omega arith;
-    room = λ e. absurd (false≢true e);
     going = λ k h. record { fuel = k; enough = h; going = going-on s s refl refl };
   }
 
@@ -114,10 +110,6 @@ module _ (pair : Pair) (operand : ℕ → Rule) where
     unfolding prefixed
     turns_fails {r = r} a = answers-failed s r (λ k h. let g = t.going k h in
         g.going.is ∙ ap (prefixed g.going.codes) (turn_failed pair operand more k g.fuel (stream_of m) (failed-is a k (omega (arith, t.fewer)))))
-
-    -- there is room for the operator's code
-    pub turns_room : {q : State} {u : Unit {0}} → Answers operand m q (Ok u) → more ≡ true → q.codes.count + left q < max_text
-    turns_room a h = omega (arith, (read_further a).few, t.room h)
 
     -- the operand is read, and the code of its operator written
     rows : {q p : State} {u : Unit {0}} → Answers operand m q (Ok u) → stream_of p ≡ stream_of q → left p ≡ left q → Written (code_if pair operand more) q.codes p.codes
@@ -173,7 +165,6 @@ module _ (pair : Pair) (operand : ℕ → Rule) where
     row_step {e} o = record {
       fewer = omega (arith, r.further.fewer, o.fewer);
       few = omega (arith, r.further.few, o.fewer, ap (λ (x : Codes). x.count) o.codes_are);
-      room = λ _. o.room;
       going = λ k l.
           let g = r.going k l in
           let step : Going (row_of pair operand k (suc g.fuel) (stream_of q)) (turn pair operand true k g.fuel (stream_of e)) q e =

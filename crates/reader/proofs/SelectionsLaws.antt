@@ -1,7 +1,7 @@
 -- Codes as a selection.
-use Rattle.std.proofs.Common.{◌≡◌, ℕ, ◌+◌, ◌-◌, ◌*◌, ◌<◌, ◌≤◌, List, [], ◌∷◌, ◌++◌, append_assoc, map, take, length, set, replicate, leb, Bool, true, false, sym, ap, ◌∙◌, refl, arith, Ok, Err}
+use Rattle.std.proofs.Common.{◌≡◌, ℕ, ◌+◌, ◌-◌, ◌*◌, ◌≤◌, List, ◌∷◌, ◌++◌, append_assoc, map, take, length, set, replicate, leb, Bool, true, false, sym, ap, ◌∙◌, refl, arith, Ok, Err}
 use Rattle.std.proofs.lemmas.List.{drop-drop, length-map}
-use borrow.Author.Tests.{leb-true, le-leb, lt-leb}
+use borrow.Author.Tests.{leb-true, le-leb}
 use borrow.Rule.Slice.PartMut.{put_mid}
 use lib.ListN.{length-replicate, length-set}
 use lib.Seq.{sets, sets-eq, length-sets}
@@ -35,9 +35,6 @@ few_put c s ks os few room e f l k =
     let down : put_down c ≡ m ∷ (ks ++ os) = rw (le-leb m max_codes few, e, f) refl in
     ap (λ r. put_mid (1 + m) (1 + 2 * m - (1 + m)) r os) first ∙ second ∙ ap (λ n. sets (sets (set s 0 m) 1 ks) n os) (ap (λ n. 1 + n) (sym l))
     ∙ sym (sets-append (set s 0 m) 1 ks os) ∙ ap (sets s 0) (sym down)
-
-pub many_put : (c : Codes) (s : List ℕ) → max_codes < c.count → set s 0 c.count ≡ sets s 0 (put_down c)
-many_put c s many = let down : put_down c ≡ c.count ∷ [] = rw (lt-leb c.count max_codes many) refl in ap (sets s 0) (sym down)
 
 -- ---- the reader's answer, and what is put down for it
 

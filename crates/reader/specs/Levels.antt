@@ -1,5 +1,5 @@
 -- A level of the grammar is an operand and a row of operators with their operands.
-use Rattle.std.specs.Prelude.{ℕ, true, false, ◌+◌, ◌≤◌, ◌<◌, ◌≡◌, eqb, []}
+use Rattle.std.specs.Prelude.{ℕ, true, false, ◌+◌, ◌<◌, ◌≡◌, eqb, []}
 use Rattle.model.specs.declared.Code.TheVariants.{Combine}
 use Rattle.model.specs.declared.Pair.{Pair}
 use Rattle.model.specs.declared.Pair.TheVariants.{Or, And, MildNot}
@@ -8,7 +8,6 @@ use Rattle.model.specs.Limits.{max_text}
 use Rattle.grammar.specs.Symbols.{k_ftor, k_ftand, k_not, symbol_in}
 use Rattle.grammar.specs.Grammar.{failed, read, Rule, ◌then◌, expect, not_in, row}
 use Rattle.lent_text.specs.State.{State, left, stream_of}
-use Rattle.flat_rules.specs.Answers.{Answer, Answers}
 
 -- the symbol that an operator begins with, and the rule that reads it
 abbrev pub begins_with : Pair → ℕ
@@ -40,7 +39,3 @@ pub record Broken (pair : Pair) (s : State) (r : Refusal) : Type 0 where
 -- the level of an operator, over the rule of its operands
 unfoldable pub level_rule : Pair → (ℕ → Rule) → ℕ → Rule
 level_rule pair operand n ts = operand n ts then row n (begins_with pair) (operator_rule pair) (Combine pair) (operand n)
-
--- calls of a closure answer as a rule does, from where at most so many bytes are left
-abbrev pub ReadsAs : ℕ → (State → Answer → State → Type 0) → (ℕ → Rule) → Type 0
-ReadsAs most calls rule = (s e : State) (r : Answer) → left s ≤ most → calls s r e → Answers rule s e r

@@ -1,5 +1,5 @@
 // The rules of the grammar that call each other "while the text left grows shorter": remaining length and rule level fall. The compiler makes one function
-// of them, and its frame is what a parenthesis costs: so each has one call of the next.
+// of them, whose frame is what a parenthesis costs.
 ghost use Rattle.std.specs.Prelude.{◌≤◌, ℕ, suc, MatchResult};
 ghost use Rattle.std.specs.Bool.{MatchBool};
 ghost use Rattle.grammar.specs.Grammar.{Rule, ft_and, ft_mild_not, ft_or, ft_primary, ft_selection, ft_unary_not};
@@ -12,7 +12,7 @@ use model::{Code, Pair, Refusal};
 use scanner::symbols::Symbol;
 
 // Passes an operator, if one begins.
-pub(crate) fn operator(reader: &mut Reader, pair: Pair) -> Result<bool, Refusal>
+fn operator(reader: &mut Reader, pair: Pair) -> Result<bool, Refusal>
     ensures { MatchResult result (λ is. MatchBool is (Operated pair reader.old reader.new) (Ended pair reader.old reader.new)) (Broken pair reader.old) }
 {
     match pair {
@@ -28,7 +28,9 @@ pub(crate) fn operator(reader: &mut Reader, pair: Pair) -> Result<bool, Refusal>
     }
 }
 
-// A level: an operand, and a row of operators with their operands.
+// A level: an operand, and a row of operators with their operands. `more` says whether an operator was read before the operand: with one call of the
+// operand before the loop and one in it, a parenthesis takes 176 bytes of stack and not the 112 that include/jullpinay.h states.
+// (`pub(crate)`, since the proofs of the rules that it is given name its parameter's type.)
 pub(crate) fn level<F: Fn(&mut Reader) -> Result<(), Refusal>>(
     reader: &mut Reader,
     pair: Pair,
