@@ -2,14 +2,14 @@
 -- windows around it and the join. The sizes of a list only grow by what comes after, so a list is too long where a first part of it is.
 use Prim.Native.Nat.{ℕ, zero, suc, ◌+◌, ◌-◌, ◌*◌, ◌≤◌, ◌<◌, min, max}
 use native.Mathlib.Omega.{arith}
-use mathlib.Core.Path.{◌≡◌, refl, sym, ap, ap₂, ◌∙◌}
+use mathlib.Core.Path.{◌≡◌, refl, sym, ap, ap₂, ◌∙◌, subst}
 use mathlib.Core.Bool.{Bool, true, false, cond, ◌&&◌, true≢false}
 use mathlib.Core.List.{List, [], ◌∷◌, ◌++◌, append_assoc, append-nil, flat_map, map}
 use borrow.Author.Tests.{leb-true, leb-false, ltb-true, ltb-false}
 use lib.Dec.{leb, ltb}
-use lib.ListN.{length, get_or, length-append, length-map}
+use lib.ListN.{length, length-append, length-map}
 use Rattle.model.specs.Limits.{max_matches, max_strings, max_window, radix}
-use Rattle.model.specs.Lists.{from_to, keep, up_from}
+use Rattle.model.specs.Lists.{Every, from_to, keep, up_from}
 use Rattle.model.specs.Matches.{Match, Str, strings, too_long}
 use Rattle.model.specs.Rules.{inside_window, join, window, window_ends, window_to}
 use Rattle.model.proofs.ListsLaws.{length-range}
@@ -22,11 +22,10 @@ use Rattle.std.specs.Prelude.{IsErr, Ok, Err}
 use Rattle.store.specs.declared.Size.{Size}
 use Rattle.store.specs.declared.TooLong.{TooLong}
 use Rattle.store.specs.Built.{Built, made, over, sized_as, built_of, Small}
-use Rattle.store.specs.Layout.{matches_at, match_length}
+use Rattle.model.specs.AllStrings.{AllList, AllMatch}
+use Rattle.store.specs.ValidStr.{ValidStr}
 use Rattle.store.specs.Slot.{SlotHolds}
-use Rattle.store.specs.Stream.{Remaining}
-use Rattle.store.proofs.SlotsLaws.{answer-long, answer_made, built_made, matches_held, not-long, slot-stream, the-error}
-use Rattle.store.proofs.StreamLaws.{Next, next-counted, none-counted}
+use Rattle.store.proofs.SlotsLaws.{answer-long, answer_made, built_made, not-long, the-error}
 use Rattle.window.specs.Inside.{WindowSize}
 use Rattle.window.specs.Sizes.{SizeAt, times_inside, windows_around}
 use Rattle.window.proofs.JoinedLaws.{ends-are, length-join-one, window_dropped}
@@ -114,21 +113,20 @@ module _ {n : ℕ} (start end : ℕ) (m : Match) (size : WindowSize n) (ends : w
 
 -- ---- size_with
 
-module _ {n : ℕ} {mem : List ℕ} {p : ℕ} {size : Size} (w : SizeAt n mem p size.matches size.strings) where
+module _ {n : ℕ} {m : Match} {size : Size} (w : SizeAt n m size.matches size.strings) where
   abbrev longer : List Match
-  longer = w.list ++ window n w.item
+  longer = w.list ++ window n m
 
-  pub size_dropped : w.item.includes ≡ [] → Ok size ≡ built_of (w.list ++ window n w.item)
+  pub size_dropped : m.includes ≡ [] → Ok size ≡ built_of (w.list ++ window n m)
   size_dropped z =
-      let same : longer ≡ w.list = ap (λ ms. w.list ++ ms) (window_dropped n w.item z) ∙ append-nil w.list in
+      let same : longer ≡ w.list = ap (λ ms. w.list ++ ms) (window_dropped n m z) ∙ append-nil w.list in
       built_made w.list w.matches_are w.strings_are (omega (arith, w.matches_are, w.strings_are, w.few_matches, w.few_strings)) ∙ ap built_of (sym same)
 
   -- what the run and the excludes tell of the windows is so
-  pub size-counted : {run : Run} → Extent w.item.includes run → {es : List Str} → es ≡ w.item.excludes → {built : Built}
-      → built ≡ sized_as (size.matches + windows_around n run.lo.0 run.hi.0) (size.strings + (windows_around n run.lo.0 run.hi.0 + times_inside n run.lo.0 run.hi.0 es))
-      → built ≡ built_of (w.list ++ window n w.item)
-  size-counted {run} x e f =
-      let m = w.item in
+  pub size-counted : {run : Run} → Extent m.includes run → {built : Built}
+      → built ≡ sized_as (size.matches + windows_around n run.lo.0 run.hi.0) (size.strings + (windows_around n run.lo.0 run.hi.0 + times_inside n run.lo.0 run.hi.0 m.excludes))
+      → built ≡ built_of (w.list ++ window n m)
+  size-counted {run} x f =
       let start = run.lo.0 in
       let end = run.hi.0 in
       let ends = ends-are x n in
@@ -139,7 +137,7 @@ module _ {n : ℕ} {mem : List ℕ} {p : ℕ} {size : Size} (w : SizeAt n mem p 
       omega (arith, length-append w.list (window n m), w.matches_are, length_windows start end m w.size ends one) in
       let strings_now : size.strings + (windows + times m.excludes) ≡ strings longer =
       omega (arith, strings-append w.list (window n m), w.strings_are, strings_windows start end m w.size ends one) in
-      f ∙ ap₂ sized_as matches_now (ap (λ ss. size.strings + (windows + times ss)) e ∙ strings_now)
+      f ∙ ap₂ sized_as matches_now strings_now
 
 -- ---- window_size
 
@@ -155,76 +153,65 @@ long-before ms ns e = at (too_long (ms ++ ns)) refl
         let first : Small ms = omega (arith, h.few, h.strs, length-append ms ns, strings-append ms ns) in
         absurd (true≢false (sym (answer-long ms e) ∙ not-long ms first))
 
--- before match number i of count, at p: the windows of the matches before it are counted
-pub record Sizing (n : ℕ) (list : List Match) (mem : List ℕ) (count p : ℕ) (size : Size) (i : ℕ) : Type 0 where
-  pub todo : List Match
-  pub end : ℕ
-  pub left : Remaining todo mem p end
-  pub count_is : i + length todo ≡ count
+-- the windows of the matches before those left are counted
+pub record Sizing (n : ℕ) (list left : List Match) (size : Size) : Type 0 where
   pub done : List Match
-  pub split : flat_map (window n) list ≡ done ++ flat_map (window n) todo
+  pub split : flat_map (window n) list ≡ done ++ flat_map (window n) left
   pub size_is : Ok size ≡ built_of done
+  pub few : strings left ≤ max_strings
+  pub valid : AllList ValidStr left
 
-pub size-start : (n : ℕ) {mem : List ℕ} {src : ℕ} {list : List Match} → SlotHolds mem src list → {count : ℕ} → count ≡ matches_at mem src → Sizing n list mem count (src + 2) (record { matches = 0; strings = 0 }) 0
+pub size-start : (n : ℕ) {mem : List ℕ} {src : ℕ} {list left : List Match} → SlotHolds mem src list → left ≡ list → Sizing n list left (record { matches = 0; strings = 0 })
 unfolding strings
-size-start n {mem} {src} {list} s e =
+size-start n s e =
     record {
-      todo = list;
-      end = _;
-      left = slot-stream s _ _ refl refl;
-      count_is = omega (arith, matches_held s);
       done = [];
-      split = refl;
+      split = ap (flat_map (window n)) (sym e);
       size_is = built_made [] refl refl (omega arith);
+      few = omega (arith, ap strings e, s.strs);
+      valid = subst (AllList ValidStr) (sym e) s.valid;
     }
 
-module _ {n : ℕ} {list : List Match} {mem : List ℕ} {count p : ℕ} {size : Size} {i : ℕ} (g : Sizing n list mem count p size i) where
-  module _ (h : i < count) where
-    here : Next g.todo mem p g.end
-    here = next-counted g.left g.count_is h
-
-    split_next : flat_map (window n) list ≡ (g.done ++ window n here.first) ++ flat_map (window n) here.rest
+module _ {n : ℕ} {list left : List Match} {size : Size} (g : Sizing n list left size) where
+  module _ {m : Match} {rest : List Match} (e : left ≡ m ∷ rest) where
+    split_next : flat_map (window n) list ≡ (g.done ++ window n m) ++ flat_map (window n) rest
     unfolding flat_map
     split_next =
-        g.split ∙ ap (λ ms. g.done ++ flat_map (window n) ms) here.is
-        ∙ sym (append_assoc g.done (window n here.first) (flat_map (window n) here.rest))
+        g.split ∙ ap (λ ms. g.done ++ flat_map (window n) ms) e
+        ∙ sym (append_assoc g.done (window n m) (flat_map (window n) rest))
 
-    module _ (width : WindowSize n) where
-      -- the match in hand
-      pub size-item : SizeAt n mem p size.matches size.strings
-      size-item =
-          let z = answer_made g.done g.size_is in
-          let few : size.matches ≤ max_matches = omega (arith, z.matches_are, z.small.few) in
-          let few' : size.strings ≤ max_strings = omega (arith, z.strings_are, z.small.strs) in
-          record {
-            item = here.first;
-            list = g.done;
-            size = width;
-            held = here.held;
-            matches_are = z.matches_are;
-            strings_are = z.strings_are;
-            few_matches = few;
-            few_strings = few';
-          }
+    valid-both : AllMatch ValidStr m × AllList ValidStr rest
+    unfolding Every
+    valid-both = subst (AllList ValidStr) e g.valid
 
-      module _ {built : Built} (e : built ≡ built_of (size-item.list ++ window n size-item.item)) where
-        pub size-next : {size' : Size} {p' : ℕ} → built ≡ Ok size' → p' ≡ p + match_length (get_or mem p 0) → Sizing n list mem count p' size' (i + 1)
-        unfolding size-item
-        size-next f l =
-            record {
-              todo = here.rest;
-              end = g.end;
-              left = here.after _ l;
-              count_is = omega (arith, g.count_is, here.one_less);
-              done = g.done ++ window n here.first;
-              split = split_next;
-              size_is = sym f ∙ e;
-            }
+    -- the match in hand
+    pub size-item : WindowSize n → SizeAt n m size.matches size.strings
+    unfolding strings
+    size-item width =
+        let z = answer_made g.done g.size_is in
+        let few : size.matches ≤ max_matches = omega (arith, z.matches_are, z.small.few) in
+        let few' : size.strings ≤ max_strings = omega (arith, z.strings_are, z.small.strs) in
+        record {
+          list = g.done;
+          size = width;
+          valid = valid-both.0;
+          few = omega (arith, g.few, ap strings e);
+          matches_are = z.matches_are;
+          strings_are = z.strings_are;
+          few_matches = few;
+          few_strings = few';
+        }
 
-        pub size-over : {error : TooLong} {result : Built} → built ≡ Err error → IsErr result → result ≡ built_of (flat_map (window n) list)
-        unfolding size-item
-        size-over f r = the-error _ r ∙ long-before (g.done ++ window n here.first) _ (sym f ∙ e) ∙ ap built_of (sym split_next)
+    module _ (width : WindowSize n) {built : Built} (made_of : built ≡ built_of ((size-item width).list ++ window n m)) where
+      pub size-next : {size' : Size} → built ≡ Ok size' → Sizing n list rest size'
+      unfolding size-item strings
+      size-next f =
+          record { done = g.done ++ window n m; split = split_next; size_is = sym f ∙ made_of; few = omega (arith, g.few, ap strings e); valid = valid-both.1 }
 
-  pub size-end : count ≤ i → Ok size ≡ built_of (flat_map (window n) list)
+      pub size-over : {error : TooLong} {result : Built} → built ≡ Err error → IsErr result → result ≡ built_of (flat_map (window n) list)
+      unfolding size-item
+      size-over f r = the-error _ r ∙ long-before (g.done ++ window n m) _ (sym f ∙ made_of) ∙ ap built_of (sym split_next)
+
+  pub size-end : left ≡ [] → Ok size ≡ built_of (flat_map (window n) list)
   unfolding flat_map
-  size-end h = g.size_is ∙ ap built_of (sym (g.split ∙ ap (λ ms. g.done ++ flat_map (window n) ms) (none-counted g.left g.count_is h) ∙ append-nil g.done))
+  size-end e = g.size_is ∙ ap built_of (sym (g.split ∙ ap (λ ms. g.done ++ flat_map (window n) ms) e ∙ append-nil g.done))

@@ -5,13 +5,14 @@ ghost use Rattle.model.specs.Limits.{max_matches, max_strings, radix};
 ghost use Rattle.model.specs.Rules.{window};
 ghost use Rattle.strings.specs.Strings.{strs_at};
 ghost use Rattle.store.specs.Built.{built_of, sized_as};
+ghost use Rattle.store.specs.Lent.{match_lent};
 ghost use Rattle.store.specs.Slot.{SlotAt};
 ghost use Rattle.window.specs.Inside.{WindowSize};
 ghost use Rattle.window.specs.Sizes.{SizeAt, times_inside, windows_around};
 
 use join::extent_of;
 use model::MAX_MATCHES;
-use store::{Built, Size, TooLong};
+use store::{Built, Lent, Size, TooLong};
 use strings::{Run, strings_in};
 
 // How many windows of n positions there are around a run: "each W from (greatest end − N + 1) up to least start".
@@ -28,7 +29,7 @@ fn count_inside(n: u32, run: Run, strs: &[u32]) -> u32
     requires window_size { WindowSize n }
     requires start_lt_radix { run.lo.0 < radix }
     requires end_bound { windows_around n run.lo.0 run.hi.0 ≤ max_matches }
-    requires strs_len_bound { length strs.now ≤ 2 * max_strings }
+    requires few_strings { length (strs_at strs.now) ≤ max_strings }
     ensures value { result ≡ times_inside n run.lo.0 run.hi.0 (strs_at strs.now) }
     ensures upper_bound { result ≤ max_matches * max_strings }
 {
@@ -44,7 +45,7 @@ fn size_around(n: u32, run: Run, excludes: &[u32], size: Size) -> Built
     requires window_size { WindowSize n }
     requires start_lt_radix { run.lo.0 < radix }
     requires matches_le_max_matches { (size.matches ≤ max_matches) × (size.strings ≤ max_strings) }
-    requires excludes_len_bound { length excludes.now ≤ 2 * max_strings }
+    requires few_excludes { length (strs_at excludes.now) ≤ max_strings }
     ensures { result ≡ sized_as (size.matches + windows_around n run.lo.0 run.hi.0)
         (size.strings + (windows_around n run.lo.0 run.hi.0 + times_inside n run.lo.0 run.hi.0 (strs_at excludes.now))) }
 {
@@ -56,14 +57,13 @@ fn size_around(n: u32, run: Run, excludes: &[u32], size: Size) -> Built
     store::sized(size.matches + windows, size.strings + more)
 }
 
-// The size after the windows of the match at `at` are added; a match without includes adds none.
-fn size_with(mem: &[u32], n: u32, at: usize, size: Size) -> Built
-    requires { SizeAt n mem.now at size.matches size.strings }
-    ensures { (w : SizeAt n mem.now at size.matches size.strings) → result ≡ built_of (w.list ++ window n w.item) }
+// The size after the windows of a match are added; a match without includes adds none.
+fn size_with(n: u32, m: Lent, size: Size) -> Built
+    requires { SizeAt n (match_lent m) size.matches size.strings }
+    ensures { (w : SizeAt n (match_lent m.entry) size.matches size.strings) → result ≡ built_of (w.list ++ window n (match_lent m.entry)) }
 {
-    let bounds = store::bounds_at(mem, at);
-    match extent_of(bounds.includes(mem)) {
-        Some(run) => size_around(n, run, bounds.excludes(mem), size),
+    match extent_of(m.includes) {
+        Some(run) => size_around(n, run, m.excludes, size),
         None => Ok(size),
     }
 }
@@ -74,15 +74,12 @@ pub fn window_size(mem: &[u32], n: u32, src: usize) -> Built
     requires slot_at { SlotAt mem.now src }
     ensures { (w : SlotAt mem.now src) → result ≡ built_of (flat_map (window n) w.list) }
 {
-    let count = store::size_at(mem, src).matches;
-    let mut at = src + store::FIRST_MATCH;
     let mut size = Size {
         matches: 0,
         strings: 0,
     };
-    for _ in 0..count {
-        size = size_with(mem, n, at, size)?;
-        at = store::match_end(mem, at);
+    for m in store::matches_of(mem, src) {
+        size = size_with(n, m, size)?;
     }
     Ok(size)
 }

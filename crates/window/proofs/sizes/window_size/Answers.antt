@@ -1,33 +1,26 @@
-use Rattle.window.specs.Sizes.{SizeAt}
+use mathlib.Core.Path.{◌∙◌}
 use Rattle.window.proofs.SizesLaws.{size-start, size-item, size-next, size-over, size-end}
 use Rattle.window.proofs.sizes.window_size.Goals as goal
-use Rattle.window.proofs.sizes.window_size.Goals.{In-loop}
 
--- the match in hand
-one : (c : In-loop) → SizeAt c.args.n c.args.mem.now c.loop.at c.loop.size.matches c.loop.size.strings
-one c = size-item (c.loop.invariant c.requires.slot_at) c.loop-test.true c.requires.window_size
-
-pub loop-init : goal.loop-init
-loop-init c = λ w. size-start _ w.slot c.size_at-count.ensures.matches
+pub loop-m-init : goal.loop-m-init
+loop-m-init c = λ w. size-start _ w.slot (c.into_iter-m-iterator.ensures.into_iter_gives ∙ c.matches_of-m-items.ensures w)
 
 pub size_with-requires : goal.size_with-requires
-size_with-requires c = one c
+size_with-requires c = size-item (c.loop-m.invariant c.requires.slot_at) c.in-Some.ensures.steps c.requires.window_size
 
 pub returns-in_err-size : goal.returns-in_err-size
 returns-in_err-size c w =
     let width = c.requires.window_size in
-    let g = c.loop.invariant w in
-    size-over g c.loop-test.true width (c.size_with.ensures (size-item g c.loop-test.true width)) c.in_err-size.was c.from_residual.ensures.0
+    let g = c.loop-m.invariant w in
+    let e = c.in-Some.ensures.steps in
+    size-over g e width (c.size_with.ensures (size-item g e width)) c.in_err-size.was c.from_residual.ensures.0
 
-pub match_end-at-requires : goal.match_end-at-requires
-match_end-at-requires c = (one (goal.at.match_end-at-requires c).In-loop).held.header
-
-pub loop-preserved : goal.loop-preserved
-loop-preserved c =
+pub loop-m-preserved : goal.loop-m-preserved
+loop-m-preserved c = λ w.
     let width = c.requires.window_size in
-    λ w.
-    let g = c.loop.invariant w in
-    size-next g c.loop-test.true width (c.size_with.ensures (size-item g c.loop-test.true width)) c.in_ok-size.was c.match_end-at.ensures
+    let g = c.loop-m.invariant w in
+    let e = c.in-Some.ensures.steps in
+    size-next g e width (c.size_with.ensures (size-item g e width)) c.in_ok-size.was
 
 pub returns : goal.returns
-returns c w = size-end (c.loop.invariant w) c.loop-test.false
+returns c w = size-end (c.loop-m.invariant w) c.in-None.ensures.steps.0
