@@ -1,23 +1,7 @@
 -- What the functions require of indices in memory, as plain numbers.
-use Rattle.std.specs.Prelude.{ℕ, ◌+◌, ◌-◌, ◌/◌, ◌≤◌, ◌<◌, ◌⊎◌}
+use Rattle.std.specs.Prelude.{ℕ, ◌+◌, ◌-◌, ◌/◌, ◌≤◌, ◌<◌}
 use Rattle.model.specs.Limits.{radix}
 use Rattle.store.specs.Layout.{slot_size}
-
--- in a memory of so many numbers, n numbers at from do not meet their new indices ..
-pub record Copy (size from n to : ℕ) : Type 0 where
-  pub apart : (to + n ≤ from) ⊎ (from + n ≤ to)
-  pub reads : from + n ≤ size
-  pub writes : to + n ≤ size
-
--- .. which is above them ..
-pub record CopyUp (size from n to : ℕ) : Type 0 where
-  pub apart : from + n ≤ to
-  pub room : to + n ≤ size
-
--- .. or below them
-pub record CopyDown (size from n to : ℕ) : Type 0 where
-  pub apart : to + n ≤ from
-  pub room : from + n ≤ size
 
 -- counts that a header can hold
 pub record Counts (includes excludes : ℕ) : Type 0 where
