@@ -7,7 +7,7 @@ use Rattle.model.specs.declared.Filter.TheVariants as filters_of
 use Rattle.model.specs.declared.Refusal.{Refusal}
 use Rattle.model.specs.declared.Reason.TheVariants.{UnexpectedToken}
 use Rattle.grammar.specs.Stream.{Stream, place_in}
-use Rattle.grammar.specs.Symbols.{k_ordered, k_entire, k_start, k_end, k_sentence, k_paragraph, k_content, k_words, symbol_in}
+use Rattle.grammar.specs.Symbols.{k_ordered, k_window, k_distance, k_same, k_different, k_at, k_entire, k_start, k_end, k_sentence, k_paragraph, k_content, k_words, symbol_in}
 use Rattle.grammar.specs.Grammar.{read, prefixed, ◌then◌, refused, coded, measured, distance, either, starts_filter, filter, filters}
 use Rattle.scanner.specs.declared.symbols.Symbol.{Symbol}
 use Rattle.scanner.specs.declared.symbols.Symbol.TheVariants as symbols
@@ -66,15 +66,6 @@ outside n a b c d e f g = at (leb k_ordered n) (leb n k_entire) refl refl where
   at true true h k = absurd (omega (arith, leb-true k_ordered n h, leb-true n k_entire k))
 
 module _ (ts : Stream) {r : Symbol} (is : r ≡ named (symbol_in ts)) where
-  -- a symbol that isn't the one of a number
-  other : (s : Symbol) → is_asked s ≡ true → ¬ (r ≡ s) → eqb (symbol_in ts) (number_of s) ≡ false
-  other s known apart = ne_eqb _ _ (λ e. apart (is ∙ ap named e ∙ number-named s known))
-
-  filter_other : ¬ (r ≡ symbols.Ordered) → ¬ (r ≡ symbols.Window) → ¬ (r ≡ symbols.Distance) → ¬ (r ≡ symbols.Same) → ¬ (r ≡ symbols.Different) → ¬ (r ≡ symbols.At) → ¬ (r ≡ symbols.Entire) → filter ts ≡ refused ts
-  unfolding filter ◌then◌
-  filter_other a b c d e f g =
-      rw (other symbols.Ordered refl a, other symbols.Window refl b, other symbols.Distance refl c, other symbols.Same refl d, other symbols.Different refl e, other symbols.At refl f, other symbols.Entire refl g) refl
-
   -- is it between those that begin a filter?
   pub starts-here : {b : Bool} → b ≡ (leb k_ordered (number_of r) && leb (number_of r) k_entire) → starts_filter ts ≡ b
   unfolding starts_filter
@@ -86,9 +77,51 @@ module _ (ts : Stream) {r : Symbol} (is : r ≡ named (symbol_in ts)) where
         let apart : (s : Symbol) → is_asked s ≡ true → ¬ (symbol_in ts ≡ number_of s) = λ s known e. false≢true (sym h ∙ ap is_asked (is ∙ ap named e ∙ number-named s known) ∙ known) in
         rw none (sym (outside (symbol_in ts) (apart symbols.Ordered refl) (apart symbols.Window refl) (apart symbols.Distance refl) (apart symbols.Same refl) (apart symbols.Different refl) (apart symbols.At refl) (apart symbols.Entire refl)))
 
-pub filter_none : (s : State) {e : State} {r : Symbol} (x : Refusal) → r ≡ named (symbol_in (stream_of s)) → ¬ (r ≡ symbols.Ordered) → ¬ (r ≡ symbols.Window) → ¬ (r ≡ symbols.Distance) → ¬ (r ≡ symbols.Same) → ¬ (r ≡ symbols.Different) → ¬ (r ≡ symbols.At) → ¬ (r ≡ symbols.Entire)
+-- a symbol that begins a filter, and isn't one of the six others
+pub entire_left : (s : Symbol) → (leb k_ordered (number_of s) && leb (number_of s) k_entire) ≡ true → ¬ (s ≡ symbols.Ordered) → ¬ (s ≡ symbols.Window) → ¬ (s ≡ symbols.Distance) → ¬ (s ≡ symbols.Same) → ¬ (s ≡ symbols.Different) → ¬ (s ≡ symbols.At) → s ≡ symbols.Entire
+entire_left symbols.Ftor h a b c d e f = absurd (false≢true h)
+entire_left symbols.Ftand h a b c d e f = absurd (false≢true h)
+entire_left symbols.Ftnot h a b c d e f = absurd (false≢true h)
+entire_left symbols.Not h a b c d e f = absurd (false≢true h)
+entire_left symbols.In h a b c d e f = absurd (false≢true h)
+entire_left symbols.Ordered h a b c d e f = absurd (a refl)
+entire_left symbols.Window h a b c d e f = absurd (b refl)
+entire_left symbols.Distance h a b c d e f = absurd (c refl)
+entire_left symbols.Same h a b c d e f = absurd (d refl)
+entire_left symbols.Different h a b c d e f = absurd (e refl)
+entire_left symbols.At h a b c d e f = absurd (f refl)
+entire_left symbols.Entire h a b c d e f = refl
+entire_left symbols.Start h a b c d e f = absurd (false≢true h)
+entire_left symbols.End h a b c d e f = absurd (false≢true h)
+entire_left symbols.Sentence h a b c d e f = absurd (false≢true h)
+entire_left symbols.Paragraph h a b c d e f = absurd (false≢true h)
+entire_left symbols.Content h a b c d e f = absurd (false≢true h)
+entire_left symbols.Occurs h a b c d e f = absurd (false≢true h)
+entire_left symbols.Exactly h a b c d e f = absurd (false≢true h)
+entire_left symbols.From h a b c d e f = absurd (false≢true h)
+entire_left symbols.To h a b c d e f = absurd (false≢true h)
+entire_left symbols.Least h a b c d e f = absurd (false≢true h)
+entire_left symbols.Most h a b c d e f = absurd (false≢true h)
+entire_left symbols.Words h a b c d e f = absurd (false≢true h)
+entire_left symbols.Times h a b c d e f = absurd (false≢true h)
+entire_left symbols.OtherWord h a b c d e f = absurd (false≢true h)
+entire_left symbols.NoMore h a b c d e f = absurd (false≢true h)
+entire_left symbols.Quote h a b c d e f = absurd (false≢true h)
+entire_left symbols.Opening h a b c d e f = absurd (false≢true h)
+entire_left symbols.Closing h a b c d e f = absurd (false≢true h)
+entire_left symbols.Number h a b c d e f = absurd (false≢true h)
+entire_left symbols.OtherSign h a b c d e f = absurd (false≢true h)
+
+filter_other : (ts : Stream) → starts_filter ts ≡ false → filter ts ≡ refused ts
+unfolding starts_filter filter ◌then◌
+filter_other ts h =
+    let apart : (k : ℕ) → (leb k_ordered k && leb k k_entire) ≡ true → eqb (symbol_in ts) k ≡ false
+    = λ k t. ne_eqb _ _ (λ e. false≢true (sym h ∙ ap (λ n. leb k_ordered n && leb n k_entire) e ∙ t)) in
+    rw (apart k_ordered refl, apart k_window refl, apart k_distance refl, apart k_same refl, apart k_different refl, apart k_at refl, apart k_entire refl) refl
+
+pub filter_none : (s : State) {e : State} {r : Symbol} (x : Refusal) → r ≡ named (symbol_in (stream_of s)) → {b : Bool} → b ≡ (leb k_ordered (number_of r) && leb (number_of r) k_entire) → b ≡ false
     → x ≡ record { reason = UnexpectedToken; place = place_in (stream_of s) } → Answers (λ _. filter) s e (Err x)
-filter_none s x is a b c d e f g q = answers-refused s x q (λ _. filter_other (stream_of s) is a b c d e f g)
+filter_none s x is t none q = answers-refused s x q (λ _. filter_other (stream_of s) (starts-here (stream_of s) is t ∙ none))
 
 -- ---- filters: a loop, from where it begins to where it is
 

@@ -4,7 +4,7 @@
 #![tactic(auto)]
 
 ghost use Rattle.std.specs.Prelude.{◌≡◌, ℕ, ◌^◌, ◌<◌, ◌&&◌, leb, true};
-ghost use Rattle.grammar.specs.Symbols.{k_entire, k_ordered};
+ghost use Rattle.grammar.specs.Symbols.{k_entire, k_ordered, k_paragraph, k_sentence};
 ghost use Rattle.model.specs.declared.Code.{Code};
 ghost use Rattle.model.specs.Limits.{max_words};
 ghost use Rattle.model.specs.Selection.{operand_of};
@@ -185,65 +185,57 @@ fn distance(least: u32, most: u32) -> Code
     Code::Filter(Filter::Distance { least, most })
 }
 
+// One of two filters, by the unit.
+fn by_unit(reader: &mut Reader, sentence: Filter, paragraph: Filter) -> Result<(), Refusal>
+    requires sentence_fits { operand_of (Code.Filter sentence) < 2 ^ 32 }
+    requires paragraph_fits { operand_of (Code.Filter paragraph) < 2 ^ 32 }
+    ensures { Answers (λ _. either_rule k_sentence (Code.Filter sentence) k_paragraph (Code.Filter paragraph)) reader.old reader.new result }
+{
+    either(
+        reader,
+        Symbol::Sentence,
+        Code::Filter(sentence),
+        Symbol::Paragraph,
+        Code::Filter(paragraph),
+    )
+}
+
 // FTPosFilter, by its first word.
 fn filter(reader: &mut Reader) -> Result<(), Refusal>
     ensures { Answers (λ _. filter_rule) reader.old reader.new result }
 {
-    match reader.symbol() {
+    let symbol = reader.symbol();
+    if !starts_filter(symbol) {
+        return Err(reader.unexpected());
+    }
+    reader.pass();
+    match symbol {
         Symbol::Ordered => {
-            reader.pass();
             reader.push(Code::Filter(Filter::Ordered));
             Ok(())
         }
-        Symbol::Window => {
-            reader.pass();
-            measured(reader, Symbol::Words, |n| Code::Filter(Filter::Window(n)))
-        }
+        Symbol::Window => measured(reader, Symbol::Words, |n| Code::Filter(Filter::Window(n))),
         // "`at least` (to 4,095)"
-        Symbol::Distance => {
-            reader.pass();
-            range(
-                reader,
-                Symbol::Words,
-                |least| distance(least, MAX_DISTANCE),
-                distance,
-            )
-        }
-        Symbol::Same => {
-            reader.pass();
-            either(
-                reader,
-                Symbol::Sentence,
-                Code::Filter(Filter::SameSentence),
-                Symbol::Paragraph,
-                Code::Filter(Filter::SameParagraph),
-            )
-        }
-        Symbol::Different => {
-            reader.pass();
-            either(
-                reader,
-                Symbol::Sentence,
-                Code::Filter(Filter::DifferentSentence),
-                Symbol::Paragraph,
-                Code::Filter(Filter::DifferentParagraph),
-            )
-        }
-        Symbol::At => {
-            reader.pass();
-            either(
-                reader,
-                Symbol::Start,
-                Code::Filter(Filter::AtStart),
-                Symbol::End,
-                Code::Filter(Filter::AtEnd),
-            )
-        }
-        Symbol::Entire => {
-            reader.pass();
-            coded(reader, Symbol::Content, Code::Filter(Filter::EntireContent))
-        }
-        _ => Err(reader.unexpected()),
+        Symbol::Distance => range(
+            reader,
+            Symbol::Words,
+            |least| distance(least, MAX_DISTANCE),
+            distance,
+        ),
+        Symbol::Same => by_unit(reader, Filter::SameSentence, Filter::SameParagraph),
+        Symbol::Different => by_unit(
+            reader,
+            Filter::DifferentSentence,
+            Filter::DifferentParagraph,
+        ),
+        Symbol::At => either(
+            reader,
+            Symbol::Start,
+            Code::Filter(Filter::AtStart),
+            Symbol::End,
+            Code::Filter(Filter::AtEnd),
+        ),
+        _ => coded(reader, Symbol::Content, Code::Filter(Filter::EntireContent)),
     }
 }
 
