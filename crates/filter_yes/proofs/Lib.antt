@@ -1,2 +1,1 @@
 pub mod WindowsLaws
-pub mod GivesLaws

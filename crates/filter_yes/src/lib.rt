@@ -7,14 +7,11 @@ mod windows; // the windows around a match, and those that no exclude is inside
 
 ghost use Rattle.std.specs.Prelude.{List, ℕ, ◌≡◌};
 ghost use Rattle.model.specs.declared.Filter.TheVariants.{Window};
-ghost use Rattle.model.specs.AllStrings.{AllStrs};
 ghost use Rattle.model.specs.Lists.{any_of};
 ghost use Rattle.model.specs.Matches.{Match, is_yes};
 ghost use Rattle.model.specs.Section.{section_of};
 ghost use Rattle.model.specs.Walk.{gives_yes};
-ghost use Rattle.strings.specs.Strings.{strs_at};
 ghost use Rattle.store.specs.Slot.{SlotAt};
-ghost use Rattle.store.specs.ValidStr.{ValidStr};
 ghost use Rattle.window.specs.Inside.{WindowSize};
 ghost use Rattle.filter_yes.specs.Gives.{match_at};
 
@@ -31,7 +28,6 @@ pub trait Asked: Copy {
 
     // Does it give a match without excludes of the match with these includes and excludes?
     fn gives_yes(self, includes: &[u32], excludes: &[u32]) -> bool
-        requires { AllStrs ValidStr (strs_at includes.now) }
         ensures { result ≡ is_yes (gives self (match_at includes.now excludes.now)) };
 }
 
@@ -40,18 +36,7 @@ fn any_yes<A: Asked>(asked: A, mem: &[u32], src: usize) -> bool
     requires { SlotAt mem.now src }
     ensures { (w : SlotAt mem.now src) → result ≡ any_of (λ m. is_yes (A.gives asked m)) w.list }
 {
-    let last = store::slot_end(mem, src);
-    let mut at = src + store::FIRST_MATCH;
-    while at < last {
-        // the match's `end`, known before the match is tested
-        let next = store::match_end(mem, at);
-        let bounds = store::bounds_at(mem, at);
-        if asked.gives_yes(bounds.includes(mem), bounds.excludes(mem)) {
-            return true;
-        }
-        at = next;
-    }
-    false
+    store::matches_of(mem, src).any(|m| asked.gives_yes(m.includes, m.excludes))
 }
 
 // The same, by the filter of a code.
