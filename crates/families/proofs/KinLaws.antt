@@ -9,7 +9,7 @@ use mathlib.Core.Logic.{⊎_elim, ◌⊎◌, inl, inr}
 use borrow.Author.Tests.{eqb-true, eq-eqb, ne_eqb}
 use lib.Dec.{eqb}
 use Rattle.model.proofs.TestsLaws.{lt-or-le}
-use Rattle.std.specs.Prelude.{Option, Some, None, IfSome}
+use Rattle.std.specs.Prelude.{Option, Some, None}
 use Rattle.model.specs.Accepted.{AcceptedFamilies}
 use Rattle.model.specs.Families.{family_of, same_family, word_fits}
 use Rattle.model.specs.Lists.{any_of}
@@ -104,13 +104,9 @@ module _ {families : List ℕ} (a : AcceptedFamilies families) (word family : �
           let b = family_some families token x f in
           rw (f, e, other_word, ne_eqb x family (λ q. no_entry b.at b.from_one b.up_to b.has_word (b.has_family ∙ q)))
 
-  kin_gathered : {kin : List ℕ} → Gathered families family kin (size families + 1) → KinOf families word kin
+  pub kin_gathered : {kin : List ℕ} → Gathered families family kin (size families + 1) → KinOf families word kin
   kin_gathered {kin} g token = at (any_of (eqb token) kin) refl
     where
       at : (t : Bool) → any_of (eqb token) kin ≡ t → word_fits families token word ≡ t
       at true t = gathered_fits g token t
       at false t = by_family g token t (family_of families token) refl
-
-  pub kin_told : (told : Option (List ℕ)) → IfSome told (λ kin. Gathered families family kin (size families + 1)) → IfSome told (KinOf families word)
-  kin_told (Some kin) g = kin_gathered g
-  kin_told None g = tt

@@ -31,6 +31,12 @@ impl Kin {
         }
     }
 
+    pub fn clear(&mut self)
+        ensures { self.new ≡ [] }
+    {
+        self.count = 0;
+    }
+
     // Is there room for one more?
     pub fn has_room(&self) -> bool
         ensures { result ≡ true → length self.now < most_kin }

@@ -1,5 +1,5 @@
 // An accepted family table: the words rise, so that one is looked for by halving.
-ghost use Rattle.std.specs.Prelude.{◌≡◌, ◌+◌, ◌≤◌, List, ℕ, IfSome};
+ghost use Rattle.std.specs.Prelude.{true, ◌≡◌, ◌+◌, ◌≤◌};
 ghost use Rattle.model.specs.Accepted.{AcceptedFamilies};
 ghost use Rattle.model.specs.Families.{family_of, word_fits};
 ghost use Rattle.model.specs.Limits.{max_entries};
@@ -52,33 +52,33 @@ impl<'a> Table<'a> {
         (begin..m + 1).find(|i| self.lent[m + *i] == family)
     }
 
-    // The words of a family, where they are few enough to be told.
-    fn gather(&self, family: u32) -> Option<Kin>
-        ensures { IfSome result (λ kin. Gathered self.now.lent.now family kin (size self.now.lent.now + 1)) }
+    // Tells the words of a family, where they are few enough: are they told?
+    fn gather(&self, family: u32, kin: &mut Kin) -> bool
+        ensures { result ≡ true → Gathered self.now.lent.now family kin.new (size self.now.lent.now + 1) }
     {
-        let mut kin = Kin::new();
+        kin.clear();
         let mut from = 1;
         while let Some(i) = self.next_member(family, from) {
             if !kin.has_room() {
-                return None;
+                return false;
             }
             kin.push(self.lent[i]);
             from = i + 1;
         }
-        Some(kin)
+        true
     }
 
-    // The kin of a word whose family is known: those of its family, or the word alone. None are told where they are over 32.
-    pub fn kin_of(&self, word: u32, family: Option<u32>) -> Option<Kin>
+    // Tells the kin of a word whose family is known: those of its family, or the word alone. None are told where they are over 32.
+    pub fn tell_kin(&self, word: u32, family: Option<u32>, kin: &mut Kin) -> bool
         requires { family ≡ family_of self.now.lent.now word }
-        ensures { IfSome result (λ kin. KinOf self.now.lent.now word kin) }
+        ensures { result ≡ true → KinOf self.now.lent.now word kin.new }
     {
         match family {
-            Some(family) => self.gather(family),
+            Some(family) => self.gather(family, kin),
             None => {
-                let mut kin = Kin::new();
+                kin.clear();
                 kin.push(word);
-                Some(kin)
+                true
             }
         }
     }

@@ -4,17 +4,15 @@ use native.Mathlib.Nat.{zero-add}
 use native.Mathlib.Numerals.{add-one}
 use native.Mathlib.Omega.{arith}
 use mathlib.Core.Path.{◌≡◌, refl, sym, ap, ◌∙◌}
-use mathlib.Core.Bool.{Bool, true, false, ◌&&◌, and-false}
+use mathlib.Core.Bool.{Bool, true, false, ◌&&◌, and-false, and-true}
 use mathlib.Core.List.{List, [], ◌∷◌}
 use borrow.Author.Tests.{leb-true, le-leb, eq-eqb, ne_eqb, eqb-true, eqb-false}
 use lib.Dec.{leb, eqb}
-use lib.ListN.{length, take, drop, get_or}
+use lib.ListN.{length, drop, get_or}
 use lib.Seq.{drop-cons}
 use Rattle.model.specs.Rules.{stand_from}
-use Rattle.model.specs.Families.{Searched, equal_words}
-use Rattle.model.specs.Section.{size}
+use Rattle.model.specs.Families.{Searched}
 use Rattle.std.specs.Bool.{MatchBool}
-use Rattle.std.specs.Cmp.Lexicographic.{pointwise}
 use Rattle.std.specs.List.{AllWithin, HoldsAt, range_with_len}
 use Rattle.std.proofs.lemmas.List.FromFn.{get_or-range_with_len, length-range_with_len}
 
@@ -60,6 +58,13 @@ unfolding stand_from
 stands-empty s [] p e = refl
 stands-empty s (w ∷ ws) p e = absurd (omega arith)
 
+-- one word
+pub stands_one : (s : Searched) (words : List ℕ) (p : ℕ) → length words ≡ 1 → p ≤ s.section.tokens → s.fits (s.section.word p) (get_or words 0 0) ≡ stand_from s words p
+unfolding stand_from
+stands_one s [] p e h = absurd (omega arith)
+stands_one s (w ∷ []) p e h = rw (le-leb p s.section.tokens h) (sym (and-true (s.fits (s.section.word p) w)))
+stands_one s (w ∷ v ∷ ws) p e h = absurd (omega arith)
+
 -- each word fits in its place
 pub stands_each : (s : Searched) (words : List ℕ) (p : ℕ) → p + length words ≤ s.section.tokens + 1
     → ((i : ℕ) → i < length words → s.fits (s.section.word (p + i)) (get_or words i 0) ≡ true) → stand_from s words p ≡ true
@@ -77,15 +82,6 @@ eqb-sym a b = at (eqb b a) refl
     at : (t : Bool) → eqb b a ≡ t → eqb a b ≡ t
     at true e = eq-eqb a b (sym (eqb-true b a e))
     at false e = ne_eqb a b (λ f. eqb-false b a e (sym f))
-
--- each word equals its token where the section goes on with the words
-pub stands_equal : (section words : List ℕ) (p : ℕ) → size section < length section → p + length words ≤ size section + 1
-    → pointwise eqb words (take (length words) (drop p section)) ≡ stand_from (equal_words section) words p
-unfolding stand_from
-stands_equal section [] p s h = refl
-stands_equal section (w ∷ ws) p s h =
-    let next : suc p ≡ p + 1 = omega arith in
-    rw (drop-cons section p 0 (omega arith), le-leb p (size section) (omega arith), eqb-sym w (get_or section p 0), next, stands_equal section ws (p + 1) s (omega arith))
 
 -- as told of all words by their numbers
 pub stands_all : (s : Searched) (words : List ℕ) (p : ℕ) (r : Bool) → p + length words ≤ s.section.tokens + 1

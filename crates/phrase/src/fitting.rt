@@ -16,25 +16,25 @@ use families::{Kin, Table};
 use slices::blocks::{has_number, pass_blocks};
 
 // The most words that a phrase has.
-const MAX_WORDS: usize = 8;
+pub const MAX_WORDS: usize = 8;
 
-#[derive(Drop)]
-pub struct Fitting<'a> {
-    section: &'a [u32],
-    table: Table<'a>,
-    words: &'a [u32],
+#[derive(Clone, Copy)]
+pub struct Fitting<'a, 'b> {
+    pub section: &'a [u32],
+    pub table: Table<'a>,
+    pub words: &'a [u32],
     // the family of each word
-    families: [Option<u32>; MAX_WORDS],
+    pub families: &'b [Option<u32>],
     // the word that is tried first, and its kin
-    first: usize,
-    kin: Option<Kin>,
+    pub first: usize,
+    pub kin: Option<&'b [u32]>,
 
     ghost sized: { length section.now ≡ 1 + 2 * size section.now },
     ghost few_tokens: { size section.now ≤ max_tokens },
     ghost few_words: { length words.now ≤ max_waiting },
-    ghost families_of: { FamiliesOf table.lent.now words.now families },
+    ghost families_of: { FamiliesOf table.lent.now words.now families.now },
     ghost a_word: { first < length words.now },
-    ghost kin_of: { IfSome kin (KinOf table.lent.now (get_or words.now first 0)) } by { Prim.hlevel props },
+    ghost kin_of: { IfSome kin (λ told. KinOf table.lent.now (get_or words.now first 0) told.now) } by { Prim.hlevel props },
 }
 
 // Does any of the kin stand anywhere in the block at an index?
@@ -42,71 +42,56 @@ fn has_kin(section: &[u32], at: usize, kin: &[u32]) -> bool
     requires { at + block_size ≤ length section.now }
     ensures { result ≡ false → LacksKin section.now at kin.now block_size }
 {
-    kin.iter().any(|number| has_number(section, at, *number))
+    let mut found = false;
+    for number in kin {
+        found = found | has_number(section, at, *number);
+    }
+    found
 }
 
-// The family of each word.
-fn families_of(table: &Table, words: &[u32]) -> [Option<u32>; MAX_WORDS]
+// Looks the words up in the table, and puts the family of each down. Is any there?
+pub fn look_up(table: &Table, words: &[u32], families: &mut [Option<u32>; MAX_WORDS]) -> bool
     requires { length words.now ≤ max_waiting }
-    ensures { FamiliesOf table.now.lent.now words.now result }
+    ensures none { result ≡ false → OutOfTable table.now.lent.now words.now }
+    ensures some { result ≡ true → 1 ≤ length words.now }
+    ensures families_of { FamiliesOf table.now.lent.now words.now families.new }
 {
-    let mut families = [None; MAX_WORDS];
+    let mut any = false;
     for (i, word) in words.iter().enumerate() {
-        families[i] = table.family_of(*word);
+        let family = table.family_of(*word);
+        families[i] = family;
+        any = any | family.is_some();
     }
-    families
+    any
 }
 
-// The first word whose kin are few enough to be told, with them; else the first word alone.
-fn first_told(table: &Table, words: &[u32], families: &[Option<u32>]) -> (usize, Option<Kin>)
-    requires a_word { 1 ≤ length words.now }
-    requires families_of { FamiliesOf table.now.lent.now words.now families.now }
-    ensures a_word { result.0 < length words.now }
-    ensures kin_of { IfSome result.1 (KinOf table.now.lent.now (get_or words.now result.0 0)) }
+// Tells the kin of the first word that has few enough of them: which it is.
+pub fn first_told(
+    table: &Table,
+    words: &[u32],
+    families: &[Option<u32>],
+    kin: &mut Kin,
+) -> Option<usize>
+    requires { FamiliesOf table.now.lent.now words.now families.now }
+    ensures { IfSome result (λ i. (i < length words.now) × KinOf table.now.lent.now (get_or words.now i 0) kin.new) }
 {
     for (i, word) in words.iter().enumerate() {
-        let kin = table.kin_of(*word, families[i]);
-        if kin.is_some() {
-            return (i, kin);
+        if table.tell_kin(*word, families[i], kin) {
+            return Some(i);
         }
     }
-    (0, None)
+    None
 }
 
-impl<'a> Fitting<'a> {
-    // None where no word is in the table: then none fits a token but by equality.
-    pub fn new(section: &'a [u32], table: Table<'a>, words: &'a [u32]) -> Option<Fitting<'a>>
-        requires accepted_section { AcceptedSection section.now }
-        requires few { length words.now ≤ max_waiting }
-        ensures none { IfNone result (OutOfTable table.entry.lent.now words.now) }
-        ensures some { IfSome result (λ rows. (rows.section.now ≡ section.now) × (rows.table.lent.now ≡ table.entry.lent.now) × (rows.words.now ≡ words.now)) }
-    {
-        let families = families_of(&table, words);
-        if families[..words.len()]
-            .iter()
-            .all(|family| family.is_none())
-        {
-            return None;
-        }
-        let (first, kin) = first_told(&table, words, &families);
-        Some(Fitting {
-            section,
-            table,
-            words,
-            families,
-            first,
-            kin,
-        })
-    }
-
+impl<'a, 'b> Fitting<'a, 'b> {
     // Does the word that is tried first fit its token in a row?
     fn first_fits(&self, p: usize) -> bool
         requires { p + self.now.first < length self.now.section.now }
         ensures { result ≡ fits_at self.now.section.now self.now.table.lent.now self.now.words.now p self.now.first }
     {
         let token = self.section[p + self.first];
-        match &self.kin {
-            Some(kin) => kin.as_slice().contains(&token),
+        match self.kin {
+            Some(kin) => kin.contains(&token),
             None => self
                 .table
                 .fits(token, self.words[self.first], self.families[self.first]),
@@ -127,7 +112,7 @@ impl<'a> Fitting<'a> {
     }
 }
 
-impl<'a> Rows for Fitting<'a> {
+impl<'a, 'b> Rows for Fitting<'a, 'b> {
     ghost searched = { λ rows. searched_of rows.section.now rows.table.lent.now };
 
     ghost words = { λ rows. rows.words.now };
@@ -141,14 +126,14 @@ impl<'a> Rows for Fitting<'a> {
     }
 
     fn pass(&self, _by: usize, from: usize, to: usize) -> usize {
-        match &self.kin {
-            Some(kin) => pass_blocks(
-                from,
-                to,
-                |p| has_kin(self.section, p + self.first, kin.as_slice()),
-            ),
+        match self.kin {
+            Some(kin) => pass_blocks(from, to, |p| has_kin(self.section, p + self.first, kin)),
             None => from,
         }
+    }
+
+    fn stands_first(&self, _p: usize) -> bool {
+        false
     }
 
     fn stands(&self, _by: usize, p: usize) -> bool {

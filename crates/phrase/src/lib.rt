@@ -18,26 +18,45 @@ ghost use Rattle.store.specs.Outcome.{Outcome};
 ghost use Rattle.store.specs.Put.{Put};
 ghost use Rattle.phrase.specs.Starts.{Findable};
 
-use equal::Equal;
-use families::Table;
-use fitting::Fitting;
+use equal::{Equal, OneEqual};
+use families::{Kin, Table};
+use fitting::{Fitting, MAX_WORDS, first_told, look_up};
 use model::{MAX_MATCHES, Position};
 use rows::{Rows, next_start};
 use store::{Built, Size, TooLong};
 use strings::{Packed, Run, Sort};
 
 // Is there any start? Stops at the first.
-pub fn is_found(section: &[u32], families: &[u32], words: &[u32]) -> bool
+pub fn is_found<'a>(section: &'a [u32], families: &'a [u32], words: &'a [u32]) -> bool
     requires accepted_section { AcceptedSection section.now }
     requires accepted_families { AcceptedFamilies families.now }
     requires words_len_bound { length words.now ≤ max_waiting }
     ensures { (rank : ℕ) → result ≡ not (is_empty (phrase_list (searched_of section.now families.now) rank words.now)) }
 {
     let table = Table { lent: families };
-    match Fitting::new(section, table, words) {
-        Some(rows) => next_start(&rows, 1).is_some(),
-        None => next_start(&Equal { section, words }, 1).is_some(),
+    let mut known = [None; MAX_WORDS];
+    if !look_up(&table, words, &mut known) {
+        let rows = Equal { section, words };
+        return if words.len() == 1 {
+            next_start(&OneEqual { rows }, 1).is_some()
+        } else {
+            next_start(&rows, 1).is_some()
+        };
     }
+    let mut kin = Kin::new();
+    let told = first_told(&table, words, &known, &mut kin);
+    let first = told.unwrap_or(0);
+    let kin = told.map(|_| kin.as_slice());
+    let families = known.as_slice();
+    let rows = Fitting {
+        section,
+        table,
+        words,
+        families,
+        first,
+        kin,
+    };
+    next_start(&rows, 1).is_some()
 }
 
 // Puts the find of k words at position p: a match with one contiguous include.
@@ -82,10 +101,10 @@ fn list_of<R: Rows>(rows: &R, rank: u32, mem: &mut [u32], at: usize) -> Built
 }
 
 // The list of a phrase, in the slot at `at`.
-pub fn phrase_list(
-    section: &[u32],
-    families: &[u32],
-    words: &[u32],
+pub fn phrase_list<'a>(
+    section: &'a [u32],
+    families: &'a [u32],
+    words: &'a [u32],
     rank: u32,
     mem: &mut [u32],
     at: usize,
@@ -98,8 +117,27 @@ pub fn phrase_list(
     ensures { Outcome (phrase_list (searched_of section.now families.now) rank words.now) mem.old mem.new at result }
 {
     let table = Table { lent: families };
-    match Fitting::new(section, table, words) {
-        Some(rows) => list_of(&rows, rank, mem, at),
-        None => list_of(&Equal { section, words }, rank, mem, at),
+    let mut known = [None; MAX_WORDS];
+    if !look_up(&table, words, &mut known) {
+        let rows = Equal { section, words };
+        return if words.len() == 1 {
+            list_of(&OneEqual { rows }, rank, mem, at)
+        } else {
+            list_of(&rows, rank, mem, at)
+        };
     }
+    let mut kin = Kin::new();
+    let told = first_told(&table, words, &known, &mut kin);
+    let first = told.unwrap_or(0);
+    let kin = told.map(|_| kin.as_slice());
+    let families = known.as_slice();
+    let rows = Fitting {
+        section,
+        table,
+        words,
+        families,
+        first,
+        kin,
+    };
+    list_of(&rows, rank, mem, at)
 }

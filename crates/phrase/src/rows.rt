@@ -1,5 +1,5 @@
 // The rows of a section in which a phrase may stand, and the first of them in which it does.
-ghost use Rattle.std.specs.Prelude.{ℕ, List, ◌≡◌, ◌+◌, ◌≤◌, ◌<◌, IfSome, length};
+ghost use Rattle.std.specs.Prelude.{true, ℕ, List, ◌≡◌, ◌+◌, ◌≤◌, ◌<◌, IfSome, length};
 ghost use Rattle.model.specs.Families.{Searched};
 ghost use Rattle.model.specs.Limits.{max_tokens, max_waiting};
 ghost use Rattle.model.specs.Rules.{stand_from};
@@ -31,6 +31,11 @@ pub trait Rows {
         requires a_word { by < length (words self.now) }
         ensures { Skipped (searched self.now) (words self.now) from to result };
 
+    // Does the phrase stand in the first row, as far as it is worth to try that by itself?
+    fn stands_first(&self, p: usize) -> bool
+        requires { p + length (words self.now) ≤ (searched self.now).section.tokens + 1 }
+        ensures { result ≡ true → stand_from (searched self.now) (words self.now) p ≡ true };
+
     // Does the phrase stand in a row? The word number `by` is tried first.
     fn stands(&self, by: usize, p: usize) -> bool
         requires within { p + length (words self.now) ≤ (searched self.now).section.tokens + 1 }
@@ -43,8 +48,8 @@ pub trait Rows {
         ensures { result < length (words self.now) };
 }
 
-// The first row from `from` on in which the phrase stands. That at `from` is tried by itself, since finds may follow each other; then blocks of rows are
-// passed, at first by the last word.
+// The first row from `from` on in which the phrase stands: blocks of rows are passed, at first by the last word, and the rows of one that couldn't be passed are
+// tried one by one.
 pub fn next_start<R: Rows>(rows: &R, from: usize) -> Option<usize>
     requires { from ≤ (R.searched rows.now).section.tokens + 1 }
     ensures next { NextStart (R.searched rows.now) (R.words rows.now) from result }
@@ -55,15 +60,15 @@ pub fn next_start<R: Rows>(rows: &R, from: usize) -> Option<usize>
     if after < from + k {
         return None;
     }
-    let Some(last) = k.checked_sub(1) else {
+    if k == 0 {
         // a phrase of no words stands in every row
         return if from < after { Some(from) } else { None };
-    };
-    let mut by = last;
-    if rows.stands(by, from) {
+    }
+    if rows.stands_first(from) {
         return Some(from);
     }
     let to = after + 1 - k;
+    let mut by = k - 1;
     let mut p = from;
     while p < to {
         let begin = rows.pass(by, p, to);

@@ -4,7 +4,7 @@ use Rattle.slices.specs.Blocks.{BlocksPassed, block_size}
 use native.Mathlib.Nat.{eq-or-lt_of_le}
 
 module _ {Lacking : ℕ → Type 0} {from to : ℕ} where
-  pub passed_more : {p : ℕ} → BlocksPassed Lacking from to p → block_size ≤ to - p → Lacking p → BlocksPassed Lacking from to (p + block_size)
+  pub passed_more : {p : ℕ} → BlocksPassed Lacking from to p → p + block_size ≤ to → Lacking p → BlocksPassed Lacking from to (p + block_size)
   passed_more {p} g h lacking = record { blocks = g.blocks + 1; p_is = omega (arith, g.p_is); up_to = omega (arith, g.up_to); each = each }
     where
       each : (k : ℕ) → k < g.blocks + 1 → Lacking (from + block_size * k)

@@ -1,6 +1,6 @@
 // Blocks of sixteen numbers, each looked at as a whole: no turn of the loop over a block depends on what the turns before it found, so that it becomes vector
 // instructions.
-ghost use Rattle.std.specs.Prelude.{ℕ, false, ◌≡◌, ◌+◌, ◌<◌, ◌≤◌, length};
+ghost use Rattle.std.specs.Prelude.{ℕ, false, ◌≡◌, ◌+◌, ◌^◌, ◌<◌, ◌≤◌, length};
 ghost use Rattle.slices.specs.Blocks.{BlocksPassed, Lacks, block_size};
 
 // The numbers of a block.
@@ -30,11 +30,12 @@ pub fn has_number(lent: &[u32], at: usize, number: u32) -> bool
 #[tactic(auto, using(crate::proofs::BlocksLaws::passed_more))]
 pub fn pass_blocks<F: Fn(usize) -> bool>(from: usize, to: usize, test: F) -> usize
     requires in_order { from ≤ to }
+    requires fits { to + block_size < 2 ^ 64 }
     requires callable { (p : ℕ) → from ≤ p → p + block_size ≤ to → F.pre test p }
     ensures { BlocksPassed (λ p. F.post test p false) from to result }
 {
     let mut p = from;
-    while BLOCK_SIZE <= to - p && !test(p) {
+    while p + BLOCK_SIZE <= to && !test(p) {
         p += BLOCK_SIZE;
     }
     p

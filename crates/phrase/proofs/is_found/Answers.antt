@@ -1,4 +1,4 @@
--- Looked for by families where a word is in the table; by equality where none is (KinLaws).
+-- Looked for by equality where no word is in the table (KinLaws), else by families: there is a find exactly where there is a next start (starts-some).
 use Rattle.std.proofs.Common.{not, ap, ◌∙◌}
 use Rattle.model.specs.Families.{searched_of, equal_words}
 use Rattle.model.specs.Lists.{is_empty}
@@ -6,14 +6,18 @@ use Rattle.phrase.proofs.KinLaws.{equal_list}
 use Rattle.phrase.proofs.StartsLaws.{starts-some}
 use Rattle.phrase.proofs.is_found.Goals as goal
 
-pub returns-in-Some : goal.returns-in-Some
-returns-in-Some c rank =
-    let rows = c.in-Some.ensures.some in
-    let next = rw (rows.0, rows.1, rows.2) at c.next_start.ensures.next in
-    c.is_some.ensures ∙ starts-some (searched_of c.args.section.now c.args.families.now) c.args.words.now c.next_start.result rank next
+pub returns-then-words-eq1 : goal.returns-then-words-eq1
+returns-then-words-eq1 c rank =
+    c.is_some.ensures
+    ∙ starts-some (equal_words c.args.section.now) c.args.words.now c.next_start.result rank c.next_start.ensures.next
+    ∙ ap (λ ms. not (is_empty ms)) (equal_list c.args.section.now c.args.families.now c.args.words.now (c.look_up.ensures.none c.if-not-look_up.true) rank)
 
-pub returns-in-None : goal.returns-in-None
-returns-in-None c rank =
-    c.is_some-in-None.ensures
-    ∙ starts-some (equal_words c.args.section.now) c.args.words.now c.next_start-in-None.result rank c.next_start-in-None.ensures.next
-    ∙ ap (λ ms. not (is_empty ms)) (equal_list c.args.section.now c.args.families.now c.args.words.now c.in-None.ensures.none rank)
+pub returns-else-words-eq1 : goal.returns-else-words-eq1
+returns-else-words-eq1 c rank =
+    c.is_some-else-words-eq1.ensures
+    ∙ starts-some (equal_words c.args.section.now) c.args.words.now c.next_start-else-words-eq1.result rank c.next_start-else-words-eq1.ensures.next
+    ∙ ap (λ ms. not (is_empty ms)) (equal_list c.args.section.now c.args.families.now c.args.words.now (c.look_up.ensures.none c.if-not-look_up.true) rank)
+
+pub returns : goal.returns
+returns c rank =
+    c.is_some-2.ensures ∙ starts-some (searched_of c.args.section.now c.args.families.now) c.args.words.now c.next_start-2.result rank c.next_start-2.ensures.next

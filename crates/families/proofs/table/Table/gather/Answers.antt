@@ -5,7 +5,7 @@ use Rattle.families.proofs.table.Table.gather.Goals as goal
 
 pub loop-i-init : goal.loop-i-init
 loop-i-init c =
-    (omega arith, omega arith, subst (λ kin. Gathered c.args.self.now.lent.now c.args.family kin 1) (sym c.new-kin.ensures) gather_none)
+    (omega arith, omega arith, subst (λ kin. Gathered c.args.self.now.lent.now c.args.family kin 1) (sym c.clear.ensures) gather_none)
 
 pub loop-i-preserved : goal.loop-i-preserved
 loop-i-preserved c =
@@ -14,4 +14,4 @@ loop-i-preserved c =
     (omega arith, omega (arith, n.in_table), subst (λ kin. Gathered c.args.self.now.lent.now c.args.family kin (c.in-Some.i + 1)) (sym c.push.ensures) more)
 
 pub returns : goal.returns
-returns c = gather_on c.loop-i.invariant.2 c.in_default.ensures
+returns c = λ e. gather_on c.loop-i.invariant.2 c.in_default.ensures

@@ -2,18 +2,12 @@ use Rattle.std.proofs.Common.{rules}
 use Rattle.slices.proofs.BlocksLaws.{passed_all}
 use Rattle.model.specs.Families.{equal_words}
 use Rattle.phrase.specs.Starts.{Skipped}
-use Rattle.phrase.proofs.BlocksLaws.{skip_without_word, skip_without_pair}
+use Rattle.phrase.proofs.BlocksLaws.{skip_without_pair}
 use Rattle.phrase.proofs.StartsLaws.{skipped-none}
 use Rattle.phrase.proofs.equal.EqualRows.pass.Goals as goal
-
-pub returns-then-next-by : goal.returns-then-next-by
-returns-then-next-by c =
-    let rows = c.args.self.now in
-    passed_all (Skipped (equal_words rows.section.now) rows.words.now c.args.from c.args.to) (skipped-none c.requires.in_order)
-    (λ p a b no g. skip_without_word rows.section.now rows.words.now c.requires.within g b c.args.by c.requires.a_word (search rules)) c.pass_blocks.ensures
 
 pub returns : goal.returns
 returns c =
     let rows = c.args.self.now in
     passed_all (Skipped (equal_words rows.section.now) rows.words.now c.args.from c.args.to) (skipped-none c.requires.in_order)
-    (λ p a b no g. skip_without_pair rows.section.now rows.words.now c.requires.within g b c.args.by c.after-next.result c.requires.a_word c.after-next.ensures (search rules)) c.pass_blocks-2.ensures
+    (λ p a b no g. skip_without_pair rows.section.now rows.words.now c.requires.within g b c.args.by c.after-next.result c.requires.a_word c.after-next.ensures (search rules)) c.pass_blocks.ensures

@@ -1,13 +1,8 @@
 -- Where another word stands in its place, the row doesn't stand (stands_without).
 use Rattle.std.proofs.Common.{sym, ◌∙◌, ne_eqb, arith}
-use Rattle.std.proofs.lemmas.List.{take_rest}
 use Rattle.model.specs.Families.{equal_words}
-use Rattle.phrase.proofs.RowsLaws.{stands_without, stands_equal}
+use Rattle.phrase.proofs.RowsLaws.{stands_without}
 use Rattle.phrase.proofs.equal.EqualRows.stands.Goals as goal
-
-pub returns-then-self-p : goal.returns-then-self-p
-returns-then-self-p c =
-    rw take_rest at c.starts_with.ensures.value ∙ stands_equal c.args.self.now.section.now c.args.self.now.words.now c.args.p (omega arith) (omega arith)
 
 pub returns-else-self-p : goal.returns-else-self-p
 returns-else-self-p c =

@@ -7,4 +7,4 @@ pub returns-in-Some : goal.returns-in-Some
 returns-in-Some c =
     let token = get_or c.args.self.now.section.now (c.args.p + c.args.self.now.first) 0 in
     let kin_of = rw c.in-Some.is at c.args.self.now.kin_of in
-    rw c.as_slice.ensures at c.contains.ensures.value ∙ among token c.in-Some.kin ∙ sym (kin_of token)
+    c.contains.ensures.value ∙ among token c.in-Some.kin.now ∙ sym (kin_of token)
