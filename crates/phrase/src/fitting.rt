@@ -24,7 +24,7 @@ pub struct Fitting<'a, 'b> {
     pub table: Table<'a>,
     pub words: &'a [u32],
     // the family of each word
-    pub families: &'b [Option<u32>],
+    pub families: &'a [Option<u32>],
     // the word that is tried first, and its kin
     pub first: usize,
     pub kin: Option<&'b [u32]>,

@@ -16,15 +16,46 @@ ghost use Rattle.model.specs.Rules.{found, phrase_list};
 ghost use Rattle.store.specs.Layout.{match_numbers, slot_size};
 ghost use Rattle.store.specs.Outcome.{Outcome};
 ghost use Rattle.store.specs.Put.{Put};
+ghost use Rattle.phrase.specs.Searches.{FamiliesOf};
 ghost use Rattle.phrase.specs.Starts.{Findable};
 
 use equal::{Equal, OneEqual};
 use families::{Kin, Table};
 use fitting::{Fitting, MAX_WORDS, first_told, look_up};
 use model::{MAX_MATCHES, Position};
-use rows::{Rows, next_start};
+use rows::{Rows, next_start, start_from};
 use store::{Built, Size, TooLong};
 use strings::{Packed, Run, Sort};
+
+// Is there any start, where some words are in the table?
+fn is_found_by_families<'a>(
+    section: &'a [u32],
+    families: &'a [u32],
+    words: &'a [u32],
+    known: &'a [Option<u32>],
+) -> bool
+    requires accepted_section { AcceptedSection section.now }
+    requires a_word { 1 ≤ length words.now }
+    requires few_words { length words.now ≤ max_waiting }
+    requires accepted_families { AcceptedFamilies families.now }
+    requires known { FamiliesOf families.now words.now known.now }
+    ensures { (rank : ℕ) → result ≡ not (is_empty (phrase_list (searched_of section.now families.now) rank words.now)) }
+{
+    let table = Table { lent: families };
+    let mut kin = Kin::new();
+    let told = first_told(&table, words, known, &mut kin);
+    let first = told.unwrap_or(0);
+    let kin = told.map(|_| kin.as_slice());
+    let rows = Fitting {
+        section,
+        table,
+        words,
+        families: known,
+        first,
+        kin,
+    };
+    next_start(&rows, 1).is_some()
+}
 
 // Is there any start? Stops at the first.
 pub fn is_found<'a>(section: &'a [u32], families: &'a [u32], words: &'a [u32]) -> bool
@@ -38,25 +69,12 @@ pub fn is_found<'a>(section: &'a [u32], families: &'a [u32], words: &'a [u32]) -
     if !look_up(&table, words, &mut known) {
         let rows = Equal { section, words };
         return if words.len() == 1 {
-            next_start(&OneEqual { rows }, 1).is_some()
+            start_from(&OneEqual { rows }, 1).is_some()
         } else {
-            next_start(&rows, 1).is_some()
+            start_from(&rows, 1).is_some()
         };
     }
-    let mut kin = Kin::new();
-    let told = first_told(&table, words, &known, &mut kin);
-    let first = told.unwrap_or(0);
-    let kin = told.map(|_| kin.as_slice());
-    let families = known.as_slice();
-    let rows = Fitting {
-        section,
-        table,
-        words,
-        families,
-        first,
-        kin,
-    };
-    next_start(&rows, 1).is_some()
+    is_found_by_families(section, families, words, &known)
 }
 
 // Puts the find of k words at position p: a match with one contiguous include.
@@ -100,6 +118,41 @@ fn list_of<R: Rows>(rows: &R, rank: u32, mem: &mut [u32], at: usize) -> Built
     Ok(size)
 }
 
+// The list of a phrase of which some words are in the table.
+fn list_by_families<'a>(
+    section: &'a [u32],
+    families: &'a [u32],
+    words: &'a [u32],
+    known: &'a [Option<u32>],
+    rank: u32,
+    mem: &mut [u32],
+    at: usize,
+) -> Built
+    requires accepted_section { AcceptedSection section.now }
+    requires a_word { 1 ≤ length words.now }
+    requires few_words { length words.now ≤ max_waiting }
+    requires accepted_families { AcceptedFamilies families.now }
+    requires known { FamiliesOf families.now words.now known.now }
+    requires rank_le_max_phrases { rank ≤ max_phrases }
+    requires slot_size_in_bounds { at + slot_size ≤ length mem.old }
+    ensures { Outcome (phrase_list (searched_of section.now families.now) rank words.now) mem.old mem.new at result }
+{
+    let table = Table { lent: families };
+    let mut kin = Kin::new();
+    let told = first_told(&table, words, known, &mut kin);
+    let first = told.unwrap_or(0);
+    let kin = told.map(|_| kin.as_slice());
+    let rows = Fitting {
+        section,
+        table,
+        words,
+        families: known,
+        first,
+        kin,
+    };
+    list_of(&rows, rank, mem, at)
+}
+
 // The list of a phrase, in the slot at `at`.
 pub fn phrase_list<'a>(
     section: &'a [u32],
@@ -126,18 +179,5 @@ pub fn phrase_list<'a>(
             list_of(&rows, rank, mem, at)
         };
     }
-    let mut kin = Kin::new();
-    let told = first_told(&table, words, &known, &mut kin);
-    let first = told.unwrap_or(0);
-    let kin = told.map(|_| kin.as_slice());
-    let families = known.as_slice();
-    let rows = Fitting {
-        section,
-        table,
-        words,
-        families,
-        first,
-        kin,
-    };
-    list_of(&rows, rank, mem, at)
+    list_by_families(section, families, words, &known, rank, mem, at)
 }

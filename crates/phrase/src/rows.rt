@@ -50,7 +50,8 @@ pub trait Rows {
 
 // The first row from `from` on in which the phrase stands: blocks of rows are passed, at first by the last word, and the rows of one that couldn't be passed are
 // tried one by one.
-pub fn next_start<R: Rows>(rows: &R, from: usize) -> Option<usize>
+#[inline(always)]
+pub fn start_from<R: Rows>(rows: &R, from: usize) -> Option<usize>
     requires { from ≤ (R.searched rows.now).section.tokens + 1 }
     ensures next { NextStart (R.searched rows.now) (R.words rows.now) from result }
     ensures few { IfSome result (λ p. p ≤ max_tokens) }
@@ -80,4 +81,13 @@ pub fn next_start<R: Rows>(rows: &R, from: usize) -> Option<usize>
         by = rows.after(by);
     }
     None
+}
+
+// The same for a list's loop: a function of its own, so that the compiler makes it a part of that loop where nothing else calls it.
+pub fn next_start<R: Rows>(rows: &R, from: usize) -> Option<usize>
+    requires { from ≤ (R.searched rows.now).section.tokens + 1 }
+    ensures next { NextStart (R.searched rows.now) (R.words rows.now) from result }
+    ensures few { IfSome result (λ p. p ≤ max_tokens) }
+{
+    start_from(rows, from)
 }

@@ -3,7 +3,7 @@ use Rattle.std.proofs.lemmas.Iterator.{first_from_Range}
 use Rattle.model.specs.Rules.{stand_from}
 use Rattle.phrase.proofs.RowsLaws.{stands-empty}
 use Rattle.phrase.proofs.StartsLaws.{skipped-none, skipped-on, skipped_between, skipped_beyond}
-use Rattle.phrase.proofs.rows.next_start.Goals as goal
+use Rattle.phrase.proofs.rows.start_from.Goals as goal
 
 pub returns-then-after-from-clause-next : goal.returns-then-after-from-clause-next
 returns-then-after-from-clause-next g c =
