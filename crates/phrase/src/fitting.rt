@@ -16,7 +16,7 @@ use families::{Kin, Table};
 use slices::blocks::{has_number, pass_blocks};
 
 // The most words that a phrase has.
-pub const MAX_WORDS: usize = 8;
+pub const MAX_WORDS: usize = model::MAX_WORDS as usize;
 
 #[derive(Clone, Copy)]
 pub struct Fitting<'a, 'b> {
@@ -37,7 +37,7 @@ pub struct Fitting<'a, 'b> {
     ghost kin_of: { IfSome kin (λ told. KinOf table.lent.now (get_or words.now first 0) told.now) } by { Prim.hlevel props },
 }
 
-// Does any of the kin stand anywhere in the block at an index?
+// Does any of the kin stand anywhere in the block at an index? All are looked for, without an exit in between, so that several are at once.
 fn has_kin(section: &[u32], at: usize, kin: &[u32]) -> bool
     requires { at + block_size ≤ length section.now }
     ensures { result ≡ false → LacksKin section.now at kin.now block_size }
@@ -49,7 +49,7 @@ fn has_kin(section: &[u32], at: usize, kin: &[u32]) -> bool
     found
 }
 
-// Looks the words up in the table, and puts the family of each down. Is any there?
+// Looks the words up in the table, and puts the family of each down in an array that the caller lends: an array in the answer would be copied. Is any there?
 pub fn look_up(table: &Table, words: &[u32], families: &mut [Option<u32>; MAX_WORDS]) -> bool
     requires { length words.now ≤ max_waiting }
     ensures none { result ≡ false → OutOfTable table.now.lent.now words.now }

@@ -1,5 +1,5 @@
 -- Blocks passed one after another: one more, and what holds at the start and is kept by each holds at the end.
-use Rattle.std.proofs.Common.{◌≡◌, ℕ, zero, suc, ◌+◌, ◌-◌, ◌*◌, ◌<◌, ◌≤◌, ⊎_elim, sym, subst, arith}
+use Rattle.std.proofs.Common.{◌≡◌, ℕ, zero, suc, ◌+◌, ◌*◌, ◌<◌, ◌≤◌, ⊎_elim, sym, subst, arith}
 use Rattle.slices.specs.Blocks.{BlocksPassed, block_size}
 use native.Mathlib.Nat.{eq-or-lt_of_le}
 
