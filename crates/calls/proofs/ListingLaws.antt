@@ -4,14 +4,12 @@ use native.Mathlib.Omega.{arith}
 use mathlib.Core.Path.{◌≡◌, sym, ap, subst, ◌∙◌}
 use mathlib.Core.Bool.{Bool, ◌&&◌}
 use mathlib.Core.List.{List}
-use Rattle.std.specs.Prelude.{Some, None, option_map}
+use Rattle.std.specs.Prelude.{Some, None, option_map, Result, Ok, Err}
 use lib.ListN.{length}
 use lib.Seq.{sets}
 use lib.Dec.{leb}
 use borrow.Author.Tests.{leb-true}
 use Rattle.model.specs.declared.Reason.TheVariants.{LongList, ShortMemory}
-use Rattle.model.specs.declared.Checked.{Checked}
-use Rattle.model.specs.declared.Checked.TheVariants.{Accepted, Refused as CheckedRefused}
 use Rattle.model.specs.declared.Listing.{Listing}
 use Rattle.model.specs.declared.Listing.TheVariants.{Listed, Refused}
 use Rattle.model.specs.declared.Refusal.{Refusal}
@@ -34,8 +32,6 @@ use Rattle.store.proofs.SlotsLaws.{matches_held, strings-held}
 use Rattle.listing_buffer.proofs.ListingLaws.{listing_rest}
 use Rattle.build.specs.State.{Buildable}
 use Rattle.build.specs.PartList.{PartList}
-use Rattle.build.specs.declared.Part.{Part}
-use Rattle.build.specs.declared.Part.TheVariants.{Built, Refused as PartRefused}
 use Rattle.calls.proofs.WholeLaws.{whole_built, whole_tree}
 
 -- the numbers of a list in the first slot, and its answer
@@ -61,15 +57,14 @@ module _ (section families selection : List ℕ) (work : ℕ) (buffer : List ℕ
       (rw e ea, rw e (eb ∙ listing_rest (complete_list section families selection) buffer (omega (arith, fits.0, fits.1, room))))
 
   -- a refusal of the checks is the call's
-  pub checks_refuse : {checked : Checked} {r q : Refusal} → checked ≡ checked_of (size selection) (listing_checks section families selection work (length buffer))
-      → checked ≡ CheckedRefused q
-      → r ≡ q
+  pub checks_refuse : {checked : Result ℕ Refusal} {r : Refusal} → checked ≡ checked_of (size selection) (listing_checks section families selection work (length buffer))
+      → checked ≡ Err r
       → (Refused r ≡ listing_answer section families selection work (length buffer)) × (buffer ≡ listing_buffer section families selection work buffer)
   unfolding listing_refusal
-  checks_refuse told e a = refuses (rw (checked_refused (size selection) (listing_checks section families selection work (length buffer)) (sym told ∙ e ∙ sym (ap CheckedRefused a))))
+  checks_refuse told e = refuses (rw (checked_refused (size selection) (listing_checks section families selection work (length buffer)) (sym told ∙ e)))
 
-  module _ {checked : Checked} {codes : ℕ} (told : checked ≡ checked_of (size selection) (listing_checks section families selection work (length buffer)))
-      (accepted : checked ≡ Accepted codes) where
+  module _ {checked : Result ℕ Refusal} {codes : ℕ} (told : checked ≡ checked_of (size selection) (listing_checks section families selection work (length buffer)))
+      (accepted : checked ≡ Ok codes) where
     all_codes : codes ≡ size selection
     all_codes = (checked_accepted (size selection) (listing_checks section families selection work (length buffer)) (sym told ∙ accepted)).1
 
@@ -91,20 +86,20 @@ module _ (section families selection : List ℕ) (work : ℕ) (buffer : List ℕ
     ready mem long = rw all_codes (whole_built section families selection passes.0.checks mem (omega (arith, passes.0.enough, long)))
 
     -- and what building it comes to decides
-    module _ {mem mem' : List ℕ} {part : Part} (w : Buildable section families selection mem 0 codes 1) (built : PartList (searched_of section families) w.part.tree mem' part) where
+    module _ {mem mem' : List ℕ} {part : Result (Unit {0}) Refusal} (w : Buildable section families selection mem 0 codes 1) (built : PartList (searched_of section families) w.part.tree mem' part) where
       refusal_is : listing_refusal section families selection work (length buffer) ≡ option_map (refusal LongList) (first_too_long (searched_of section families) (parts w.part.tree))
       refusal_is =
           listing_refusal-passes section families selection work (length buffer) passes.0 passes.1
           ∙ ap (λ (t : Tree). option_map (refusal LongList) (first_too_long (searched_of section families) (parts t))) (sym (whole_tree selection w.part all_codes))
 
-      pub building_refuses : {r : Refusal} → part ≡ PartRefused r
+      pub building_refuses : {r : Refusal} → part ≡ Err r
           → (Refused r ≡ listing_answer section families selection work (length buffer)) × (buffer ≡ listing_buffer section families selection work buffer)
       building_refuses t = refuses (refusal_is ∙ built.refused _ t)
 
-      pub slot : part ≡ Built → SlotHolds mem' 0 (complete_list section families selection)
+      pub slot : part ≡ Ok tt → SlotHolds mem' 0 (complete_list section families selection)
       slot t = subst (λ (u : Tree). SlotHolds mem' 0 (all_matches (searched_of section families) u)) (whole_tree selection w.part all_codes) (built.slot t)
 
-      pub built_lists : {answer : Listing} {buffer' : List ℕ} → part ≡ Built
+      pub built_lists : {answer : Listing} {buffer' : List ℕ} → part ≡ Ok tt
           → ((s : SlotAt mem' 0) → answer ≡ listed s.list)
           → ((s : SlotAt mem' 0) → buffer' ≡ sets buffer 0 (listing_numbers s.list))
           → (answer ≡ listing_answer section families selection work (length buffer)) × (buffer' ≡ listing_buffer section families selection work buffer)

@@ -3,15 +3,12 @@ use Prim.Native.Nat.{ℕ}
 use native.Mathlib.Omega.{arith}
 use mathlib.Core.Path.{◌≡◌, sym, ap, ◌∙◌}
 use mathlib.Core.List.{List}
-use Rattle.std.specs.Prelude.{None}
+use Rattle.std.specs.Prelude.{None, Result, Ok, Err}
 use lib.Dec.{leb}
 use lib.ListN.{length}
 use borrow.Author.Tests.{leb-true}
 use Rattle.model.specs.declared.Reason.TheVariants.{ShortMemory}
-use Rattle.model.specs.declared.Checked.{Checked}
-use Rattle.model.specs.declared.Checked.TheVariants.{Accepted, Refused as CheckedRefused}
-use Rattle.model.specs.declared.Quick.{Quick}
-use Rattle.model.specs.declared.Quick.TheVariants.{Refused}
+use Rattle.model.specs.Walk.{Quick}
 use Rattle.model.specs.declared.Refusal.{Refusal}
 use Rattle.model.specs.Answers.{checked_of, quick_answer}
 use Rattle.model.specs.Checks.{refusal, input_refusal, quick_checks, room_refusal}
@@ -28,14 +25,13 @@ use Rattle.calls.proofs.WholeLaws.{whole_walked, whole_tree}
 
 module _ (section families selection : List ℕ) (work : ℕ) where
   -- a refusal of the checks is the call's
-  pub checks_refuse : {checked : Checked} {r q : Refusal} → checked ≡ checked_of (size selection) (quick_checks section families selection work)
-      → checked ≡ CheckedRefused q
-      → r ≡ q
-      → Refused r ≡ quick_answer section families selection work
+  pub checks_refuse : {checked : Result ℕ Refusal} {r : Refusal} → checked ≡ checked_of (size selection) (quick_checks section families selection work)
+      → checked ≡ Err r
+      → Err r ≡ quick_answer section families selection work
   unfolding quick_answer
-  checks_refuse told e a = rw (a, checked_refused (size selection) (quick_checks section families selection work) (sym told ∙ e))
+  checks_refuse told e = rw (checked_refused (size selection) (quick_checks section families selection work) (sym told ∙ e))
 
-  module _ {checked : Checked} {codes : ℕ} (told : checked ≡ checked_of (size selection) (quick_checks section families selection work)) (accepted : checked ≡ Accepted codes) where
+  module _ {checked : Result ℕ Refusal} {codes : ℕ} (told : checked ≡ checked_of (size selection) (quick_checks section families selection work)) (accepted : checked ≡ Ok codes) where
     none_refuses : quick_checks section families selection work ≡ None
     none_refuses = (checked_accepted (size selection) (quick_checks section families selection work) (sym told ∙ accepted)).0
 

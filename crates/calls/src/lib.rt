@@ -8,8 +8,7 @@ ghost use Rattle.model.specs.Answers.{listed as listed_of, listing_answer, listi
 ghost use Rattle.model.specs.Limits.{buffer_length};
 ghost use Rattle.store.specs.Slot.{SlotAt};
 
-use build::Part;
-use model::{Checked, Listing, Position, Quick};
+use model::{Inputs, Listing, Position, Quick};
 
 // The list in the first slot, put in the buffer and answered for.
 fn listed(work: &[u32], buffer: &mut [u32]) -> Listing
@@ -19,13 +18,11 @@ fn listed(work: &[u32], buffer: &mut [u32]) -> Listing
     ensures buffer_after { (w : SlotAt work.now 0) → buffer.new ≡ sets buffer.old 0 (listing_numbers w.list) }
 {
     listing_buffer::put_listing(work, 0, buffer);
-    let yes = store::is_yes(work, 0);
-    let matches = store::slot_matches(work, 0);
-    let strings = store::slot_strings(work, 0);
+    let size = store::size_at(work, 0);
     Listing::Listed {
-        matches,
-        strings,
-        yes,
+        matches: size.matches,
+        strings: size.strings,
+        yes: store::is_yes(work, 0),
     }
 }
 
@@ -42,15 +39,19 @@ pub fn listing(
     ensures result_value { listing_values result ≡ listing_values (listing_answer section.now families.now selection.now (length work.old) (length buffer.old)) }
     ensures buffer_after { buffer.new ≡ listing_buffer section.now families.now selection.now (length work.old) buffer.old }
 {
-    let checked = checks::check_listing(section, families, selection, work.len(), buffer.len());
-    let Checked::Accepted { size: codes } = checked else {
-        return Listing::Refused(checks::refusal_of(checked));
+    let inputs = Inputs {
+        section,
+        families,
+        selection,
     };
-    let part = build::build(section, families, selection, work, 0, codes, 1);
-    if let Part::Refused(refusal) = part {
-        return Listing::Refused(refusal);
+    let checked = checks::check_listing(&inputs, work.len(), buffer.len());
+    let Ok(codes) = checked else {
+        return Listing::Refused(checked.unwrap_err());
+    };
+    match build::build(&inputs, work, 0, codes, 1) {
+        Ok(()) => listed(work, buffer),
+        Err(refusal) => Listing::Refused(refusal),
     }
-    listed(work, buffer)
 }
 
 // The quick answer: "It reports how many codes of kind 1 to 15 it walked or built", and since F-3 of kinds 16 and 17. Working memory may end holding
@@ -59,11 +60,16 @@ pub fn quick(section: &[u32], families: &[u32], selection: &[u32], work: &mut [u
     ensures value { result ≡ quick_answer section.now families.now selection.now (length work.old) }
     ensures result_value { quick_values result ≡ quick_values (quick_answer section.now families.now selection.now (length work.old)) }
 {
-    let checked = checks::check_quick(section, families, selection, work.len());
-    let Checked::Accepted { size: codes } = checked else {
-        return Quick::Refused(checks::refusal_of(checked));
+    let inputs = Inputs {
+        section,
+        families,
+        selection,
     };
-    walk::walk(section, families, selection, work, codes)
+    let checked = checks::check_quick(&inputs, work.len());
+    let Ok(codes) = checked else {
+        return Err(checked.unwrap_err());
+    };
+    walk::walk(&inputs, work, codes)
 }
 
 // The snippet: "the word numbers of those positions, as a part of the lent section".

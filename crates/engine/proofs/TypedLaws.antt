@@ -3,7 +3,7 @@ use Prim.Native.Nat.{ℕ, ◌+◌, ◌*◌, ◌≤◌, ◌<◌}
 use native.Mathlib.Omega.{arith}
 use mathlib.Core.Bool.{Bool, true, false, cond}
 use mathlib.Core.List.{List, [], ◌∷◌, ◌++◌}
-use Rattle.std.specs.Prelude.{Option, Some, None}
+use Rattle.std.specs.Prelude.{Option, Some, None, Ok, Err}
 use mathlib.Core.Path.{◌≡◌, refl, sym, ap, ◌∙◌}
 use borrow.Author.Tests.{le-leb, lt-leb, leb-true, leb-false}
 use lib.Dec.{leb}
@@ -11,11 +11,10 @@ use lib.ListN.{length, take, drop}
 use lib.Seq.{sets, sets-eq, length-sets}
 use Rattle.model.specs.declared.Code.{Code}
 use Rattle.model.specs.declared.Listing.{Listing}
-use Rattle.model.specs.declared.Listing.TheVariants.{Refused as ListingRefused}
-use Rattle.model.specs.declared.Quick.{Quick}
-use Rattle.model.specs.declared.Quick.TheVariants.{Refused as QuickRefused}
-use Rattle.model.specs.declared.Reading.{Reading}
-use Rattle.model.specs.declared.Reading.TheVariants.{Read, Refused}
+use Rattle.model.specs.declared.Listing.TheVariants.{Refused}
+use Rattle.model.specs.declared.Reason.TheVariants.{ShortMemory, WrongSelection}
+use Rattle.model.specs.Walk.{Quick}
+use Rattle.model.specs.Typed.{Reading}
 use Rattle.model.specs.declared.Refusal.{Refusal}
 use Rattle.model.specs.Answers.{listing_refusal, listing_answer, listing_buffer, listing_values, quick_answer, quick_values}
 use Rattle.model.specs.Checks.{refusal, otherwise, tried, wrong_selection, section_refusal, families_refusal, selection_refusal, input_refusal, listing_checks, quick_checks}
@@ -92,7 +91,7 @@ typed_room m = at (leb m max_codes) refl where
   at false h = omega arith
 
 -- "3, place 0" is the first of a selection's refusals
-three_refused : (s : List ℕ) → wrong_selection s ≡ Some 0 → selection_refusal s ≡ Some (refusal 3 0)
+three_refused : (s : List ℕ) → wrong_selection s ≡ Some 0 → selection_refusal s ≡ Some (refusal WrongSelection 0)
 unfolding selection_refusal tried
 three_refused s e = rw e
 
@@ -108,7 +107,7 @@ put-few cs entry exit m l e f few =
 
 -- of more their number is, on which refusal 3 falls as on their selection
 put_many : (cs : List Code) (entry exit : List ℕ) (m : ℕ) → length entry ≡ 129 → exit ≡ sets entry 0 (typed_numbers (codes cs)) → m ≡ length cs → max_codes < length cs
-    → selection_refusal (take (typed_size m) exit) ≡ Some (refusal 3 0)
+    → selection_refusal (take (typed_size m) exit) ≡ Some (refusal WrongSelection 0)
 put_many cs entry exit m l e f many =
     let h : leb (length cs) max_codes ≡ false = lt-leb (length cs) max_codes many in
     let one : typed_size m ≡ 1 = rw (f, h) in
@@ -123,27 +122,27 @@ put_down cs entry exit m l e f = at (leb (length cs) max_codes) refl where
   at true h = same (put-few cs entry exit m l e f (leb-true (length cs) max_codes h))
   at false h =
       let many = leb-false (length cs) max_codes h in
-      both-refused (refusal 3 0) (put_many cs entry exit m l e f many) (three_refused (selection_of cs) (selection-over cs many))
+      both-refused (refusal WrongSelection 0) (put_many cs entry exit m l e f many) (three_refused (selection_of cs) (selection-over cs many))
 
 -- ---- the reader alone
 
 module _ (cs : List Code) (m : ℕ) (f : m ≡ length cs) (lent : List ℕ) where
-  pub read_many : max_codes < m → (Refused (refusal 3 0) ≡ read_answer (codes cs) (length lent)) × (lent ≡ read_selection (codes cs) lent)
+  pub read_many : max_codes < m → (Err (refusal WrongSelection 0) ≡ read_answer (codes cs) (length lent)) × (lent ≡ read_selection (codes cs) lent)
   read_many h = let e = lt-leb (length cs) max_codes (omega arith) in (rw e, rw e)
 
   module _ (few : m ≤ max_codes) where
     abbrev within : leb (length cs) max_codes ≡ true
     within = le-leb (length cs) max_codes (omega arith)
 
-    pub read_short : length lent < selection_length → (Refused (refusal 8 0) ≡ read_answer (codes cs) (length lent)) × (lent ≡ read_selection (codes cs) lent)
+    pub read_short : length lent < selection_length → (Err (refusal ShortMemory 0) ≡ read_answer (codes cs) (length lent)) × (lent ≡ read_selection (codes cs) lent)
     read_short h = let e = lt-leb selection_length (length lent) h in (rw (within, e), rw (within, e))
 
     pub read_given : (exit : List ℕ) → selection_length ≤ length lent → exit ≡ sets lent 0 (selection_of cs)
-        → (Read m ≡ read_answer (codes cs) (length lent)) × (exit ≡ read_selection (codes cs) lent)
+        → (Ok m ≡ read_answer (codes cs) (length lent)) × (exit ≡ read_selection (codes cs) lent)
     read_given exit h e =
         let room = le-leb selection_length (length lent) h in
         let zero : 0 + length (selection_of cs) ≡ length (selection_of cs) = omega arith in
-        (rw (within, room) (ap Read f), e ∙ sets-eq (selection_of cs) lent 0 (omega (arith, length-selection cs)) ∙ rw (within, room) (ap (λ k. selection_of cs ++ drop k lent) zero))
+        (rw (within, room) (ap Ok f), e ∙ sets-eq (selection_of cs) lent 0 (omega (arith, length-selection cs)) ∙ rw (within, room) (ap (λ k. selection_of cs ++ drop k lent) zero))
 
 -- the same for a text that has these codes
 pub text-put_down : (text : List ℕ) (cs : List Code) (entry exit : List ℕ) (m : ℕ) (size : ℕ) → length entry ≡ 129 → exit ≡ sets entry 0 (typed_numbers (read_text text)) → read_text text ≡ codes cs
@@ -170,7 +169,7 @@ module _ (text section families : List ℕ) (work : ℕ) where
     )
 
     pub listing_error : {r : Refusal} → read_text text ≡ error r
-        → (ListingRefused r ≡ typed_listing section families (read_text text) work (length buffer)) × (buffer ≡ typed_buffer section families (read_text text) work buffer)
+        → (Refused r ≡ typed_listing section families (read_text text) work (length buffer)) × (buffer ≡ typed_buffer section families (read_text text) work buffer)
     listing_error h = rw h (refl, refl)
 
     pub listing_codes : (cs : List Code) {s : List ℕ} → read_text text ≡ codes cs → SameToCalls s (selection_of cs)
@@ -186,7 +185,7 @@ module _ (text section families : List ℕ) (work : ℕ) where
     for_answer text (λ a. quick_values r ≡ quick_values (typed_quick section families a work)) (ap quick_values p),
   )
 
-  pub quick_error : {r : Refusal} → read_text text ≡ error r → QuickRefused r ≡ typed_quick section families (read_text text) work
+  pub quick_error : {r : Refusal} → read_text text ≡ error r → Err r ≡ typed_quick section families (read_text text) work
   quick_error h = rw h
 
   pub quick_codes : (cs : List Code) {s : List ℕ} → read_text text ≡ codes cs → SameToCalls s (selection_of cs)
@@ -203,9 +202,8 @@ module _ (text lent : List ℕ) where
     (for_answer text (λ a. reading_values r ≡ reading_values (read_answer a (length lent))) (ap reading_values p.0), for_answer text (λ a. exit ≡ read_selection a lent) p.1),
   )
 
-  pub read-error : {r : Refusal} {reading : Reading} → reading ≡ Refused r → read_text text ≡ error r
-      → (reading ≡ read_answer (read_text text) (length lent)) × (lent ≡ read_selection (read_text text) lent)
-  read-error e h = rw h (e, refl)
+  pub read-error : {r : Refusal} → read_text text ≡ error r → (Err r ≡ read_answer (read_text text) (length lent)) × (lent ≡ read_selection (read_text text) lent)
+  read-error h = rw h (refl, refl)
 
   pub read-codes : (cs : List Code) {r : Reading} {exit : List ℕ} → read_text text ≡ codes cs
       → (r ≡ read_answer (codes cs) (length lent)) × (exit ≡ read_selection (codes cs) lent) → (r ≡ read_answer (read_text text) (length lent)) × (exit ≡ read_selection (read_text text) lent)

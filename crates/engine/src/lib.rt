@@ -10,16 +10,17 @@ ghost use Rattle.model.specs.Typed.{read_answer, read_selection, reading_values,
 ghost use Rattle.reader.specs.Selections.{typed_size};
 
 pub use calls::{listing, quick, snippet};
-use model::{Listing, MAX_CODES, Quick, Reading, Refusal, SELECTION_LENGTH};
+use model::{Listing, MAX_CODES, Quick, Reading, Reason, SELECTION_LENGTH};
 
 // How many numbers the reader puts down of so many codes: a selection's, or where they are over 64 their number alone, on which refusal 3 falls.
 fn typed_size(codes: u32) -> usize
     ensures { result ≡ typed_size codes }
 {
     if codes <= MAX_CODES {
-        return 1 + 2 * codes as usize;
+        1 + 2 * codes as usize
+    } else {
+        1
     }
-    1
 }
 
 // The reader alone. The selection then holds the codes; the rest of it is unchanged, and all of it by a refusal.
@@ -29,25 +30,11 @@ pub fn read(text: &[u8], selection: &mut [u32]) -> Reading
     ensures for_answer_3 { ForAnswer text.now (λ a. selection.new ≡ read_selection a selection.old) }
 {
     let mut own = [0; 129];
-    let reading = reader::read(text, &mut own);
-    let Reading::Read { codes } = reading else {
-        return reading;
-    };
-    if codes > MAX_CODES {
-        return Reading::Refused(Refusal {
-            number: 3,
-            place: 0,
-        });
-    }
-    if selection.len() < SELECTION_LENGTH {
-        return Reading::Refused(Refusal {
-            number: 8,
-            place: 0,
-        });
-    }
-    let size = typed_size(codes);
-    slices::copy(&own[..size], selection);
-    reading
+    let codes = reader::read(text, &mut own)?;
+    Reason::WrongSelection.refuse_unless(codes <= MAX_CODES)?;
+    Reason::ShortMemory.refuse_unless(SELECTION_LENGTH <= selection.len())?;
+    slices::copy(&own[..typed_size(codes)], selection);
+    Ok(codes)
 }
 
 // The full listing of a typed search: the text's error, or what the listing answers for its codes.
@@ -63,13 +50,15 @@ pub fn typed_listing(
     ensures for_answer_3 { ForAnswer text.now (λ a. buffer.new ≡ typed_buffer section.now families.now a (length work.old) buffer.old) }
 {
     let mut selection = [0; 129];
-    let reading = reader::read(text, &mut selection);
-    match reading {
-        Reading::Refused(refusal) => Listing::Refused(refusal),
-        Reading::Read { codes } => {
-            let size = typed_size(codes);
-            listing(section, families, &selection[..size], work, buffer)
-        }
+    match reader::read(text, &mut selection) {
+        Ok(codes) => listing(
+            section,
+            families,
+            &selection[..typed_size(codes)],
+            work,
+            buffer,
+        ),
+        Err(refusal) => Listing::Refused(refusal),
     }
 }
 
@@ -79,12 +68,6 @@ pub fn typed_quick(section: &[u32], families: &[u32], text: &[u8], work: &mut [u
     ensures for_answer_2 { ForAnswer text.now (λ a. quick_values result ≡ quick_values (typed_quick section.now families.now a (length work.old))) }
 {
     let mut selection = [0; 129];
-    let reading = reader::read(text, &mut selection);
-    match reading {
-        Reading::Refused(refusal) => Quick::Refused(refusal),
-        Reading::Read { codes } => {
-            let size = typed_size(codes);
-            quick(section, families, &selection[..size], work)
-        }
-    }
+    let codes = reader::read(text, &mut selection)?;
+    quick(section, families, &selection[..typed_size(codes)], work)
 }

@@ -8,7 +8,7 @@ ghost use Rattle.text.specs.Printable.{text_length};
 ghost use Rattle.text.specs.Printed.{listing_text};
 ghost use Rattle.ftlist.specs.Lent.{Lent};
 
-use model::{Listing, Refusal};
+use model::{Listing, Reason, Refusal};
 
 // "prints `refused 1 0`"
 fn print_refusal(buffer: &[u32], text: &mut [u8]) -> usize
@@ -17,7 +17,7 @@ fn print_refusal(buffer: &[u32], text: &mut [u8]) -> usize
     ensures upper_bound { result ≤ length text.new }
 {
     let answer = Listing::Refused(Refusal {
-        number: 1,
+        reason: Reason::WrongSection,
         place: 0,
     });
     text::put_listing_text(answer, buffer, text)

@@ -2,13 +2,26 @@
 
 #![tactic(auto)]
 
-ghost use Rattle.std.specs.Prelude.{◌≡◌, drop, get_or, length, take};
+ghost use Rattle.std.specs.Prelude.{◌≡◌, ◌≤◌, drop, get_or, length, take};
 ghost use Rattle.std.proofs.lemmas.List.Edits.{sets};
 ghost use Rattle.model.specs.Answers.{listing_answer, listing_buffer, listing_values, quick_answer, quick_values, snippet_of};
+ghost use Rattle.model.specs.Checks.{number_of, refusal_values};
 ghost use Rattle.model.specs.TextAnswer.{ForAnswer};
 ghost use Rattle.model.specs.Typed.{read_answer, read_selection, reading_values, typed_buffer, typed_listing, typed_quick};
 
-use model::{Listing, Position, Quick, Reading};
+use model::{Listing, Position, Quick, Reading, Refusal};
+
+// A refusal put down in the papers' numbers, its number first, which is returned too. What is after them is unchanged.
+fn put_refusal(refusal: Refusal, answer: &mut [u32]) -> u32
+    requires { 2 ≤ length answer.old }
+    ensures value { result ≡ number_of refusal.reason }
+    ensures answer_after { answer.new ≡ sets answer.old 0 (refusal_values refusal) }
+{
+    let number = u32::from(refusal.reason);
+    answer[0] = number;
+    answer[1] = refusal.place;
+    number
+}
 
 // A listing's answer put down in the papers' numbers. Returned is the first of them: 0, or the refusal's number.
 fn put_listing(listing: Listing, answer: &mut [u32; 4]) -> u32
@@ -21,17 +34,10 @@ fn put_listing(listing: Listing, answer: &mut [u32; 4]) -> u32
             strings,
             yes,
         } => {
-            answer[0] = 0;
-            answer[1] = matches;
-            answer[2] = strings;
-            answer[3] = yes as u32;
+            *answer = [0, matches, strings, u32::from(yes)];
             0
         }
-        Listing::Refused(refusal) => {
-            answer[0] = refusal.number;
-            answer[1] = refusal.place;
-            refusal.number
-        }
+        Listing::Refused(refusal) => put_refusal(refusal, answer),
     }
 }
 
@@ -58,17 +64,11 @@ fn put_quick(quick: Quick, answer: &mut [u32; 3]) -> u32
     ensures answer_after { answer.new ≡ sets answer.old 0 (quick_values quick) }
 {
     match quick {
-        Quick::Answered { yes, codes } => {
-            answer[0] = 0;
-            answer[1] = yes as u32;
-            answer[2] = codes;
+        Ok(answered) => {
+            *answer = [0, u32::from(answered.yes), answered.codes];
             0
         }
-        Quick::Refused(refusal) => {
-            answer[0] = refusal.number;
-            answer[1] = refusal.place;
-            refusal.number
-        }
+        Err(refusal) => put_refusal(refusal, answer),
     }
 }
 
@@ -134,16 +134,11 @@ fn put_reading(reading: Reading, answer: &mut [u32; 2]) -> u32
     ensures answer_after { answer.new ≡ sets answer.old 0 (reading_values reading) }
 {
     match reading {
-        Reading::Read { codes } => {
-            answer[0] = 0;
-            answer[1] = codes;
+        Ok(codes) => {
+            *answer = [0, codes];
             0
         }
-        Reading::Refused(refusal) => {
-            answer[0] = refusal.number;
-            answer[1] = refusal.place;
-            refusal.number
-        }
+        Err(refusal) => put_refusal(refusal, answer),
     }
 }
 

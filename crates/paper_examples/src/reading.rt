@@ -15,14 +15,10 @@ pub fn line_end(text: &[u8], from: usize) -> usize
     ensures lower_bound { (from ≤ result) × (result ≤ length text.now) }
     ensures lower_bound_2 { from < length text.now → from < result }
 {
-    let mut i = from;
-    while i < text.len() {
-        i += 1;
-        if text[i - 1] == b'\n' {
-            return i;
-        }
+    match text[from..].iter().position(|byte| *byte == b'\n') {
+        Some(i) => from + i + 1,
+        None => text.len(),
     }
-    i
 }
 
 // A digit more, as long as the number stays below 1,000,000,000.
@@ -35,16 +31,6 @@ fn with_digit(value: u32, digit: u8) -> u32
     value * 10 + (digit - b'0') as u32
 }
 
-fn fill(numbers: &mut [u32], from: usize, to: usize, value: u32)
-    requires { to ≤ length numbers.old }
-{
-    let mut i = from;
-    while i < to {
-        numbers[i] = value;
-        i += 1;
-    }
-}
-
 // Puts a number so many times, if there is room for that, and answers how many numbers there are then.
 fn put_times(numbers: &mut [u32], put: usize, times: usize, value: u32) -> usize
     requires { put ≤ length numbers.old }
@@ -54,7 +40,7 @@ fn put_times(numbers: &mut [u32], put: usize, times: usize, value: u32) -> usize
         return put;
     }
     let end = put + times;
-    fill(numbers, put, end, value);
+    numbers[put..end].fill(value);
     end
 }
 
@@ -91,10 +77,8 @@ pub fn read_numbers(text: &[u8], from: usize, to: usize, numbers: &mut [u32]) ->
         times: 1,
         value: 0,
     };
-    let mut i = from;
-    while i < to {
+    for i in from..to {
         read = read_byte(read, text[i], numbers);
-        i += 1;
     }
     read.put
 }

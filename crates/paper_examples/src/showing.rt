@@ -1,18 +1,15 @@
 // What is printed of an example after its name: its listing as `ftlist` prints it, and its quick answer.
 use super::reading::line_end;
-use model::{BUFFER_LENGTH, Listing, Quick, Refusal, WORK_LENGTH};
+use model::{BUFFER_LENGTH, Listing, Refusal, WORK_LENGTH};
 use std::io;
 use text::TEXT_LENGTH;
 
 // The text of a listing, or only its first line if it has over 20 matches.
 fn show_text(rt: &impl Print, answer: Listing, text: &[u8]) -> io::Result<()> {
-    if let Listing::Listed { matches, .. } = answer {
-        if 20 < matches {
-            let end = line_end(text, 0);
-            return rt.write_all(&text[..end]);
-        }
+    match answer {
+        Listing::Listed { matches, .. } if 20 < matches => rt.write_all(&text[..line_end(text, 0)]),
+        _ => rt.write_all(text),
     }
-    rt.write_all(text)
 }
 
 fn show_listing(rt: &impl Print, section: &[u32], selection: &[u32]) -> io::Result<()> {
@@ -39,7 +36,7 @@ fn show_answer(rt: &impl Print, yes: bool, codes: u32) -> io::Result<()> {
 }
 
 fn show_refusal(rt: &impl Print, refusal: Refusal) -> io::Result<()> {
-    let number = refusal.number;
+    let number = u32::from(refusal.reason);
     let place = refusal.place;
     println!(rt; "refused {number} {place}")
 }
@@ -49,8 +46,8 @@ fn show_quick(rt: &impl Print, section: &[u32], selection: &[u32]) -> io::Result
     let quick = calls::quick(section, &[0], selection, &mut work);
     print!(rt; "quick: ")?;
     match quick {
-        Quick::Answered { yes, codes } => show_answer(rt, yes, codes),
-        Quick::Refused(refusal) => show_refusal(rt, refusal),
+        Ok(answer) => show_answer(rt, answer.yes, answer.codes),
+        Err(refusal) => show_refusal(rt, refusal),
     }
 }
 

@@ -6,5 +6,5 @@ use Rattle.jullpinay.proofs.put_listing.Goals as goal
 pub returns-in-Listed : goal.returns-in-Listed
 returns-in-Listed c = rw c.in-Listed.is (record { value = refl; answer_after = rw (yes_number c.in-Listed.yes) refl })
 
-pub returns-in-Refused : goal.returns-in-Refused
-returns-in-Refused c = rw c.in-Refused.is (record { value = refl; answer_after = refl })
+pub returns-in-Err : goal.returns-in-Err
+returns-in-Err c = rw c.in-Err.is (record { value = refl; answer_after = refl })

@@ -5,5 +5,5 @@ use Rattle.jullpinay.proofs.put_reading.Goals as goal
 pub returns-in-Read : goal.returns-in-Read
 returns-in-Read c = rw c.in-Read.is (record { value = refl; answer_after = refl })
 
-pub returns-in-Refused : goal.returns-in-Refused
-returns-in-Refused c = rw c.in-Refused.is (record { value = refl; answer_after = refl })
+pub returns-in-Err : goal.returns-in-Err
+returns-in-Err c = rw c.in-Err.is (record { value = refl; answer_after = refl })
