@@ -1,18 +1,13 @@
--- What passes the boundary: a yes as a number, and a part of the section as its length.
+-- What passes the boundary: a part of the section as its length.
 use mathlib.Core.Path.{◌≡◌, refl, ap}
 use mathlib.Core.Bool.{Bool, true, false, ◌&&◌, cond}
 use mathlib.Core.List.{List, [], ◌∷◌}
 use Prim.Native.Nat.{ℕ, suc, zero, ◌+◌, ◌-◌}
 use lib.Dec.{leb}
 use lib.ListN.{length, take, drop}
-use mir.Val.{bool_byte}
 use Rattle.model.specs.Answers.{is_accepted, snippet_of}
 use Rattle.model.specs.Checks.{section_refusal}
 use Rattle.model.specs.Section.{size}
-
-pub yes_number : (yes : Bool) → bool_byte yes ≡ cond yes 1 0
-yes_number true = refl
-yes_number false = refl
 
 -- what is taken by a taken part's own length is that part
 take-taken : (k : ℕ) (xs : List ℕ) → take (length (take k xs)) xs ≡ take k xs
