@@ -8,7 +8,7 @@ use lib.Seq.{take_all}
 use Rattle.model.specs.Answers.{complete_list, listing_answer}
 use Rattle.model.specs.Families.{empty_table}
 use Rattle.model.specs.Limits.{buffer_length, work_length}
-use Rattle.model.specs.Answers.{Listing}
+use Rattle.model.specs.declared.Listing.{Listing}
 use Rattle.text.specs.Input.{max_input, listing_of, numbers_of, program_text, section_part, selection_part}
 use Rattle.text.specs.Printed.{listing_text}
 use Rattle.text.proofs.InputLaws.{take-section, drop-section}

@@ -25,8 +25,8 @@ fn run(
     let second = line_end(text, name);
     let third = line_end(text, second);
     let end = line_end(text, third);
-    let n = read_numbers(text, second, third, section);
-    let m = read_numbers(text, third, end, selection);
+    let n = read_numbers(&text[second..third], section);
+    let m = read_numbers(&text[third..end], selection);
     rt.write_all(&text[name..second])?;
     showing::show(rt, &section[..n], &selection[..m])?;
     Ok(end)

@@ -67,9 +67,8 @@ fn read_byte(read: Read, byte: u8, numbers: &mut [u32]) -> Read
     }
 }
 
-// Puts the numbers of a part of the text at the front of `numbers`, and answers how many they are.
-pub fn read_numbers(text: &[u8], from: usize, to: usize, numbers: &mut [u32]) -> usize
-    requires { to ≤ length text.now }
+// Puts the numbers of a line at the front of `numbers`, and answers how many they are.
+pub fn read_numbers(line: &[u8], numbers: &mut [u32]) -> usize
     ensures { result ≤ length numbers.new }
 {
     let mut read = Read {
@@ -77,8 +76,8 @@ pub fn read_numbers(text: &[u8], from: usize, to: usize, numbers: &mut [u32]) ->
         times: 1,
         value: 0,
     };
-    for i in from..to {
-        read = read_byte(read, text[i], numbers);
+    for byte in line {
+        read = read_byte(read, *byte, numbers);
     }
     read.put
 }
