@@ -36,9 +36,9 @@ extern "C" {
 #define JULLPINAY_SNIPPET_STACK 128
 
 /* The same of the typed calls, for the deepest text, one of opening parentheses; and the most that each nested parenthesis takes of it. */
-#define JULLPINAY_READ_STACK 235520
-#define JULLPINAY_TYPED_LISTING_STACK 235520
-#define JULLPINAY_TYPED_QUICK_STACK 235520
+#define JULLPINAY_READ_STACK 231424
+#define JULLPINAY_TYPED_LISTING_STACK 231424
+#define JULLPINAY_TYPED_QUICK_STACK 231424
 #define JULLPINAY_PARENTHESIS_STACK 112
 
 /* The full listing. Returns 0 and answers {0, matches, strings, yes}, with the listing in the buffer; or returns a refusal's number and answers
