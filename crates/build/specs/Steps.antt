@@ -36,6 +36,7 @@ pub record FindsTaken (rule : List Match → List Match) (mem : List ℕ) (lists
   pub finds_are : taken.list ≡ map find finds
 
 -- so many lists wait, and a rule takes the last two
+-- A clause, not a type: memory is lent to be written between the steps.
 pub record TwoTaken (rule : List Match → List Match → List Match) (mem : List ℕ) (lists : ℕ) : Type 0 where
   pub lefts : List Match
   pub rights : List Match

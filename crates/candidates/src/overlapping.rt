@@ -21,6 +21,7 @@ pub fn first_overlapping(mem: &[u32], from: usize, end: usize, ranges: Ranges) -
     ensures { (w : RemainingAt mem.now from end) → Remaining (from_first (overlap_both ranges) w.list) mem.now result end }
 {
     let mut at = from;
+    // by where each match lies: that is what is answered
     while at < end {
         let bounds = store::bounds_at(mem, at);
         if overlap_both(bounds.includes(mem), ranges) {
@@ -38,6 +39,7 @@ pub fn end_of_overlapping(mem: &[u32], from: usize, end: usize, ranges: Ranges) 
 {
     let mut stop = from;
     let mut at = from;
+    // by where each match lies: that is what is answered
     while at < end {
         let bounds = store::bounds_at(mem, at);
         if overlap_both(bounds.includes(mem), ranges) {

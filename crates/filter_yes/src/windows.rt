@@ -49,6 +49,7 @@ impl Windows {
     {
         let before = Position(run.lo.0 + self.n);
         let mut last = run.hi;
+        // not a position at a time: from one window to the next that these excludes allow
         while last < before {
             let next = self.advance(last, excludes);
             if next == last {

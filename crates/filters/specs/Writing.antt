@@ -27,6 +27,7 @@ abbrev pub stay_numbers : Keeping → List ℕ → Bounds → ℕ → List ℕ
 stay_numbers f mem b k = let span = get_or mem k 0 in let tag = get_or mem (k + 1) 0 in cond (f.stays (strs_in mem b.includes b.excludes) (str_of span tag)) (span ∷ tag ∷ []) []
 
 -- a match within the bounds, below q, and room there for the numbers that N makes of it
+-- A clause, not a type: memory is lent to be written.
 pub record RoomAt (N : Match → List ℕ) (mem : List ℕ) (b : Bounds) (q : ℕ) : Type 0 where
   pub item : Match
   pub at : ℕ

@@ -3,6 +3,7 @@ use Rattle.std.specs.Prelude.{ℕ, ◌≤◌, List, ◌≡◌, length}
 use Rattle.model.specs.Limits.{buffer_length, work_length}
 use Rattle.text.specs.Printable.{text_length}
 
+-- A clause, not a type: the three are lent to be written, one after the other.
 pub record Lent (work buffer text : List ℕ) : Type 0 where
   pub work_is : length work ≡ work_length
   pub buffer_is : length buffer ≡ buffer_length

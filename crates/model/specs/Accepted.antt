@@ -35,6 +35,7 @@ pub record Reported (unit : ℕ → ℕ) (n : ℕ) : Type 0 where
 abbrev pub ReportedOrNot : (ℕ → ℕ) → ℕ → Type 0
 ReportedOrNot unit n = NotReported unit n ⊎ Reported unit n
 
+-- A clause where the section alone is lent, not a type: the calls take any slice.
 pub record AcceptedSection (section : List ℕ) : Type 0 where
   pub sized : length section ≡ 1 + 2 * size section
   pub few : size section ≤ max_tokens
@@ -45,6 +46,7 @@ pub record AcceptedSection (section : List ℕ) : Type 0 where
 abbrev pub RisingStrictly : (ℕ → ℕ) → ℕ → Type 0
 RisingStrictly number n = (i j : ℕ) → 1 ≤ i → i < j → j ≤ n → number i < number j
 
+-- A clause of what builds the type `families::Table`, which has it after that.
 pub record AcceptedFamilies (families : List ℕ) : Type 0 where
   pub sized : length families ≡ 1 + 2 * size families
   pub few : size families ≤ max_entries

@@ -16,6 +16,7 @@ finds_of s rank ws =
     map (λ p. record { start = p; end = p + length ws - 1; query = rank; contiguous = true }) (keep (stand_from s ws) (from_to 1 s.section.tokens))
 
 -- the finds of a phrase lie in the slot at src
+-- A clause, not a type: memory is lent to be written.
 pub record FindsAt (mem : List ℕ) (src : ℕ) : Type 0 where
   pub finds : List Str
   pub slot : SlotHolds mem src (map find finds)

@@ -47,6 +47,7 @@ impl OfSize {
         let mut left = self.k;
         let mut rest = c;
         let mut weight = self.total;
+        // as many finds as it takes until k of them are chosen
         while 0 < left {
             let with_next = weight * left / n;
             if rest < with_next {

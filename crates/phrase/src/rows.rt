@@ -71,6 +71,7 @@ pub fn start_from<R: Rows>(rows: &R, from: usize) -> Option<usize>
     let to = after + 1 - k;
     let mut by = k - 1;
     let mut p = from;
+    // by as many blocks as are passed at once
     while p < to {
         let begin = rows.pass(by, p, to);
         let end = begin + BLOCK_SIZE.min(to - begin);

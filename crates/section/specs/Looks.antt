@@ -7,6 +7,7 @@ use Rattle.model.specs.Lists.{first, from_to}
 use Rattle.model.specs.Section.{size, sentence_at}
 
 -- what is known before it: the positions are the section's own, and `last` is the last nonzero sentence up to `from`
+-- A clause, not a type: `last` changes with each block.
 pub record LookGiven (section : List ℕ) (from to last : ℕ) : Type 0 where
   pub from_one : 1 ≤ from
   pub in_order : from ≤ to

@@ -51,6 +51,7 @@ impl<'a> Places<'a> {
     {
         let mut last = before;
         let mut p = from;
+        // a block at a time
         while p < to {
             let end = p + BLOCK.min(to - p);
             last = if self.is_faultless(p, end, last) {

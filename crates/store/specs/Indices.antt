@@ -9,6 +9,7 @@ pub record Counts (includes excludes : ℕ) : Type 0 where
   pub few_excludes : excludes < radix
 
 -- the slot at src lies below the slot at `at`, and that within memory
+-- A clause of each call, not a type: it speaks of where two slots lie in memory that is lent to be written.
 pub record SlotBelow (size src at : ℕ) : Type 0 where
   pub below : src + slot_size ≤ at
   pub room : at + slot_size ≤ size

@@ -20,6 +20,7 @@ pub record SlotHolds (mem : List ℕ) (at : ℕ) (ms : List Match) : Type 0 wher
   pub valid : AllList ValidStr ms
   pub header : SlotHeader mem at
 
+-- A clause of each call, not a type: memory is lent to be written, and other slots lie in it.
 pub record SlotAt (mem : List ℕ) (at : ℕ) : Type 0 where
   pub list : List Match
   pub slot : SlotHolds mem at list

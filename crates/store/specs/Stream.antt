@@ -26,6 +26,7 @@ pub record Remaining (todo : List Match) (mem : List ℕ) (from end : ℕ) : Typ
   pub few : strings todo ≤ max_strings
   pub valid : AllList ValidStr todo
 
+-- A clause of each call, not a type: the loops that ask it answer where a match lies.
 pub record RemainingAt (mem : List ℕ) (from end : ℕ) : Type 0 where
   pub list : List Match
   pub stream : Remaining list mem from end

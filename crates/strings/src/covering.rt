@@ -77,6 +77,7 @@ pub fn run_end(strs: &[u32], run: Run, which: Chosen) -> Position
     ensures { RunEnd (chosen which (strs_at strs.now)) run.lo.0 run.hi.0 result.0 }
 {
     let mut p = run.lo;
+    // not a position at a time: past each string that covers it
     while p <= run.hi {
         let next = advance(strs, p, which);
         if next == p {

@@ -32,6 +32,7 @@ pub fn all_agree(strs: &[u32]) -> bool
     ensures { result ≡ ordered.keeps (strs_at strs.now) }
 {
     let mut rest = strings_in(strs);
+    // not a `for`, which would hold the strings after s
     while let Some(s) = rest.next() {
         if !agrees_with_all(s, rest.as_slice()) {
             return false;

@@ -24,6 +24,7 @@ pub fn all_differ<U: Unit>(section: &[u32], strs: &[u32]) -> bool
         return false;
     }
     let mut rest = strings_in(strs);
+    // not a `for`, which would hold the strings after s
     while let Some(s) = rest.next() {
         if !differs::<U>(section, rest.as_slice(), s) {
             return false;

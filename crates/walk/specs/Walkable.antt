@@ -7,6 +7,7 @@ use Rattle.model.specs.Parts.{PartAt}
 use Rattle.model.specs.Section.{size}
 
 -- the part of an accepted selection that ends at hi, and memory enough to build what is to be built of it
+-- A clause, not a type: it speaks of the inputs and of memory that is lent to be written.
 pub record Walkable (section families selection mem : List ℕ) (hi : ℕ) : Type 0 where
   pub in_section : AcceptedSection section
   pub in_families : AcceptedFamilies families

@@ -10,6 +10,7 @@ use Rattle.store.specs.ValidStr.{ValidStr}
 use Rattle.store.specs.Layout.{Holds}
 
 -- "N, 1 to 4,096"
+-- A clause, not a type: the number is a code's operand, passed on as it is.
 pub record WindowSize (n : ℕ) : Type 0 where
   pub from_one : 1 ≤ n
   pub up_to : n ≤ max_window
