@@ -59,7 +59,7 @@ fn build_or(mem: &mut [u32], lists: usize) -> Built
     or_and::or::or_list(mem, (lists - 2) * store::SLOT, (lists - 1) * store::SLOT)
 }
 
-// And, of the last two lists.
+// And, of the last two lists. (It and mild not stay apart, as do not, filter and occurs: one function over a closure would say the rule's contract again.)
 fn build_and(mem: &mut [u32], lists: usize) -> Built
     requires { TwoTaken and_list mem.old lists }
     ensures { (w : TwoTaken and_list mem.old lists) → Pushed (and_list w.lefts w.rights) w.rest mem.new result }

@@ -1,4 +1,5 @@
-// Document 01's calls. None has a requires: any slices of any lengths may come in, and each gets a result or one refusal.
+// Document 01's calls. They take the check's answer apart by `let .. else`, the form that it names. None has a requires: any
+// slices of any lengths may come in, and each gets a result or one refusal.
 
 #![tactic(auto)]
 

@@ -5,7 +5,7 @@ ghost use Rattle.model.specs.Checks.{filter_operand_fits, operand_fits, range_fi
 use super::places::first_failing;
 use model::{MAX_DISTANCE, MAX_TIMES, MAX_WAITING, MAX_WINDOW, RADIX};
 
-// F-3: "18 and up are unknown"
+// F-3: "18 and up are unknown". By ranges of the number, the form that document 01 names.
 fn is_unknown(kind: u32) -> bool
     ensures { result ≡ leb 18 kind }
 {

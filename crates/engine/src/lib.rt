@@ -37,7 +37,7 @@ pub fn read(text: &[u8], selection: &mut [u32]) -> Reading
     Ok(codes)
 }
 
-// The full listing of a typed search: the text's error, or what the listing answers for its codes.
+// The full listing of a typed search: the text's error, or what the listing answers for its codes. Not by `?`, since a listing's answer is an enum.
 pub fn typed_listing(
     section: &[u32],
     families: &[u32],

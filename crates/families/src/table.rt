@@ -69,6 +69,7 @@ impl<'a> Table<'a> {
     }
 
     // Tells the kin of a word whose family is known: those of its family, or the word alone. None are told where they are over 32.
+    // Into kin that the caller lends: an answer would be copied, and take its stack twice.
     pub fn tell_kin(&self, word: u32, family: Option<u32>, kin: &mut Kin) -> bool
         requires { family ≡ family_of self.now.lent.now word }
         ensures { result ≡ true → KinOf self.now.lent.now word kin.new }

@@ -23,7 +23,8 @@ fn put_refusal(refusal: Refusal, answer: &mut [u32]) -> u32
     number
 }
 
-// A listing's answer put down in the papers' numbers. Returned is the first of them: 0, or the refusal's number.
+// A listing's answer put down in the papers' numbers; each call's answer has an array of its own length in C. Returned is the first
+// of them: 0, or the refusal's number.
 fn put_listing(listing: Listing, answer: &mut [u32; 4]) -> u32
     ensures value { result ≡ get_or (listing_values listing) 0 0 }
     ensures answer_after { answer.new ≡ sets answer.old 0 (listing_values listing) }

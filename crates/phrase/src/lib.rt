@@ -27,7 +27,7 @@ use rows::{Rows, next_start, start_from};
 use store::{Built, Size, TooLong};
 use strings::{Packed, Run, Sort};
 
-// Is there any start, where some words are in the table?
+// Is there any start, where some words are in the table? (It builds what the list's function below builds: a trait to share that is longer.)
 fn is_found_by_families<'a>(
     section: &'a [u32],
     families: &'a [u32],

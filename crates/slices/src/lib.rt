@@ -33,7 +33,7 @@ pub fn well_sized(lent: &[u32], least: u32, most: u32) -> bool
     least <= size && size <= most && lent.len() == 1 + 2 * (size as usize)
 }
 
-// Copies every second of the numbers from `from` on, n of them, to the buffer from q on.
+// Copies every second of the numbers from `from` on, n of them, to the buffer from q on. By index: what `iter_mut` writes isn't known to a proof.
 pub fn copy_every_second(mem: &[u32], from: usize, n: usize, buffer: &mut [u32], q: usize)
     requires { (from + 2 * n ≤ length mem.now + 1) × (q + n ≤ length buffer.old) }
     ensures { buffer.new ≡ sets buffer.old q (every_second mem.now from n) }

@@ -21,6 +21,7 @@ pub fn put_word(word: &[u8], text: &mut [u8], at: usize) -> usize
 }
 
 // A number in base ten: the digits of its tenth, if it is not below ten, and then its last digit. At most ten calls deep.
+// By hand, since the library's text of fixed length doesn't promise that a number that fits isn't cut.
 pub fn put_decimal(n: u32, text: &mut [u8], at: usize) -> usize
     requires { at + length (decimal n) ≤ length text.old }
     ensures { Put text.old text.new at (decimal n) result }
