@@ -94,8 +94,9 @@ fn next_within(span: u32, strs: &[u32], distances: Distances) -> bool
     for s in strings_in(strs) {
         if s.span == span {
             copies += 1;
+        } else {
+            above = nearer(span, s.span, above);
         }
-        above = nearer(span, s.span, above);
     }
     followed_within(span, copies, above, distances)
 }
