@@ -30,7 +30,7 @@ pub fn mild_not_list(mem: &mut [u32], l: usize, r: usize, at: usize) -> Built
     for i in 0..n {
         let end = store::match_end(mem, left);
         if is_kept(mem, left, n - i, r, &mut known) {
-            mem.copy_within(left..end, q);
+            store::copy_up(mem, left..end, q);
             q += end - left;
             matches += 1;
         }

@@ -19,8 +19,8 @@ fn copy_both(mem: &mut [u32], left: Range<usize>, right: Range<usize>, to: usize
 {
     let middle = to + (left.end - left.start);
     let end = middle + (right.end - right.start);
-    mem.copy_within(left, to);
-    mem.copy_within(right, middle);
+    store::copy_up(mem, left, to);
+    store::copy_up(mem, right, middle);
     end
 }
 

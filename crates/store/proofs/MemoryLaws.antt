@@ -2,12 +2,13 @@
 -- whatever lies apart from it is held as before.
 use Prim.Native.Nat.{ℕ, suc, ◌+◌, ◌-◌, ◌≤◌, ◌<◌}
 use native.Mathlib.Omega.{arith}
+use native.Mathlib.Numerals.{add-one}
 use mathlib.Core.Path.{◌≡◌, refl, sym, ap, ◌∙◌}
 use mathlib.Core.List.{List, [], ◌∷◌, ◌++◌, append_assoc}
-use mathlib.Core.Logic.{◌⊎◌, inl, inr}
-use lib.ListN.{length, take, drop, get_or, set, length-append, take-append-drop}
+use mathlib.Core.Logic.{◌⊎◌, inl, inr, ⊎_elim}
+use lib.ListN.{length, take, drop, get_or, set, length-append, length-drop, take-append-drop}
 use lib.Seq.{sets, length-sets, sets-eq, set_comm, drop_at, take-add, drop-drop, take-set-le, drop-set-add, drop-set-lt}
-use lib.Seq.{get_or-set_other, get_or-take, get_or-drop, length-take-le, take-take, take-append_seam, drop-append_seam}
+use lib.Seq.{get_or-set_other, get_or-take, get_or-drop, length-take-le, take-take, take-suc, take-append_seam, drop-append_seam}
 use Rattle.model.proofs.SetsLaws.{sets-append}
 use Rattle.store.specs.Layout.{Holds}
 
@@ -105,3 +106,27 @@ sets-held {l} {a} xs r =
     ∙ ap (λ t. take a l ++ t ++ drop (a + length xs) l) (sym r.part)
     ∙ ap (λ t. t ++ drop (a + length xs) l) (sym (take-add a (length xs) l))
     ∙ take-append-drop (a + length xs) l
+
+-- ---- a copy within memory
+
+module _ (l : List ℕ) (from to n : ℕ) (fits : from + n ≤ length l) (apart : (to + n ≤ from) ⊎ (from + n ≤ to)) where
+  -- a turn of the loop that copies
+  pub copy_more : (i : ℕ) → i < n
+      → set (sets l to (take i (drop from l))) (to + i) (get_or (sets l to (take i (drop from l))) (from + i) 0) ≡ sets l to (take (i + 1) (drop from l))
+  copy_more i h =
+      let X : List ℕ = drop from l in
+      let d : length X ≡ length l - from = length-drop from l in
+      let len : length (take i X) ≡ i = length-take-le i X (omega arith) in
+      let outside : (from + i < to) ⊎ (to + length (take i X) ≤ from + i) = ⊎_elim (λ a. inr (omega arith)) (λ a. inl (omega arith)) apart in
+      let read : get_or (sets l to (take i X)) (from + i) 0 ≡ get_or X i 0 = get_d_apart l to (take i X) (from + i) outside ∙ sym (get_or-drop from l i 0) in
+      let one : take (i + 1) X ≡ take i X ++ get_or X i 0 ∷ [] = rw add-one (take-suc X i 0 (omega arith)) in
+      ap (set (sets l to (take i X)) (to + i)) read
+      ∙ sym (ap (sets l to) one ∙ sets-append l to (take i X) (get_or X i 0 ∷ []) ∙ ap (λ k. set (sets l to (take i X)) (to + k) (get_or X i 0)) len)
+
+  -- all of it
+  pub copy_all : (i : ℕ) → i ≡ n → to + n ≤ length l → sets l to (take i (drop from l)) ≡ take to l ++ take n (drop from l) ++ drop (to + n) l
+  copy_all i e room =
+      let X : List ℕ = drop from l in
+      let d : length X ≡ length l - from = length-drop from l in
+      let len : length (take n X) ≡ n = length-take-le n X (omega arith) in
+      ap (λ k. sets l to (take k X)) e ∙ sets-eq (take n X) l to (omega arith) ∙ ap (λ k. take to l ++ take n X ++ drop (to + k) l) len

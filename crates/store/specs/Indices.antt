@@ -3,6 +3,12 @@ use Rattle.std.specs.Prelude.{ℕ, ◌+◌, ◌-◌, ◌/◌, ◌≤◌, ◌<◌
 use Rattle.model.specs.Limits.{radix}
 use Rattle.store.specs.Layout.{slot_size}
 
+-- in a memory of so many numbers, those from `from` up to `end` end before `to`, and there is room there for as many
+pub record CopyUp (size from end to : ℕ) : Type 0 where
+  pub in_order : from ≤ end
+  pub below : end ≤ to
+  pub room : to + (end - from) ≤ size
+
 -- counts that a header can hold
 pub record Counts (includes excludes : ℕ) : Type 0 where
   pub few_includes : includes < radix

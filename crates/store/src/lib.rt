@@ -4,6 +4,7 @@
 #![tactic(auto)]
 
 mod bounds;
+mod copying;
 mod each;
 mod lent;
 mod matches;
@@ -13,6 +14,7 @@ ghost use Rattle.std.specs.Prelude.{◌≡◌};
 ghost use Rattle.store.specs.Built.{sized_as};
 
 pub use bounds::Bounds;
+pub use copying::copy_up;
 pub use each::each_match;
 pub use lent::{Lent, Matches, is_yes, matches_of};
 pub use matches::{Header, bounds_at, close_match, match_end, put_string, string_at};

@@ -1,4 +1,5 @@
-use Rattle.std.proofs.Common.{◌≡◌, ◌+◌, ◌-◌, ◌≤◌, false, cond, length, true, refl, sym, ap, ◌∙◌, arith, rules}
+use Rattle.std.proofs.Common.{◌≡◌, ◌+◌, ◌-◌, ◌≤◌, false, cond, get_or, length, true, refl, sym, ap, ◌∙◌, arith, rules}
+use Rattle.store.specs.Layout.{match_length}
 use Rattle.store.specs.Slot.{TwoSlots}
 use Rattle.store.proofs.EachLaws.{item, slot-each, count-start, count_most, count_finish}
 use Rattle.store.proofs.SlotsLaws.{closing}
@@ -30,6 +31,10 @@ match_end-end-requires c = (one c).held.header
 pub is_kept-requires : goal.is_kept-requires
 is_kept-requires c = one (goal.at.is_kept-requires c).In-loop-i
 
+-- it lies below what is written
+below : (c : In-loop-i) → c.loop-i.left + match_length (get_or c.loop-i.mem c.loop-i.left 0) ≤ c.loop-i.q
+below c = (item (c.loop-i.invariant.1 c.requires.two_slots).0.going c.loop-i-test.true).one.below
+
 -- the answer for it
 answer : (c : After-is_kept) (w : TwoSlots c.args.mem.now c.args.l c.args.r)
     → KeptIs (item (c.loop-i.invariant.1 w).0.going c.loop-i-test.true).item w.rights c.loop-i.mem c.args.r c.is_kept.new.known c.is_kept.result
@@ -43,11 +48,11 @@ room c e =
     let w = c.requires.two_slots in
     omega (arith, kept-room w.rights (c.loop-i.invariant.1 w).0 c.loop-i-test.true (answer c w).kept e, c.match_end-end.ensures)
 
-pub copy_within-requires-clause-in_bounds : goal.copy_within-requires-clause-in_bounds
-copy_within-requires-clause-in_bounds c = omega (arith, one (goal.at.copy_within-requires-clause-in_bounds c).In-loop-i, c.match_end-end.ensures)
-
-pub copy_within-requires-clause-dest_in_bounds : goal.copy_within-requires-clause-dest_in_bounds
-copy_within-requires-clause-dest_in_bounds c = room (goal.at.copy_within-requires-clause-dest_in_bounds c).After-is_kept c.if-is_kept.true
+pub copy_up-requires : goal.copy_up-requires
+copy_up-requires c =
+    let p = (goal.at.copy_up-requires c).In-loop-i in
+    let fits = room (goal.at.copy_up-requires c).After-is_kept c.if-is_kept.true in
+    omega (arith, one p, fits, c.match_end-end.ensures, below p)
 
 pub overflow_add-q-then-is_kept : goal.overflow_add-q-then-is_kept
 overflow_add-q-then-is_kept c = omega (arith, room (goal.at.overflow_add-q-then-is_kept c).After-is_kept c.if-is_kept.true)
@@ -66,7 +71,7 @@ loop-i-preserved c =
         λ w.
             let g = c.loop-i.invariant.1 w in
             let a = answer (goal.at.loop-i-preserved c).After-is_kept w in
-            let put = kept-put w.rights g.0 c.loop-i-test.true a.kept c.match_end-end.ensures b.if-is_kept.true b.q-is (b.mem-is ∙ b.copy_within.ensures.after) in
+            let put = kept-put w.rights g.0 c.loop-i-test.true a.kept c.match_end-end.ensures b.if-is_kept.true b.q-is (b.mem-is ∙ b.copy_up.ensures) in
             let more = b.matches-is ∙ ap (λ t. c.loop-i.matches + cond t 1 0) (sym b.if-is_kept.true) in
             (keep-next w.rights g.0 c.loop-i-test.true a.kept c.match_end-end.ensures put more, known-below put c.args.r (omega (arith, g.0.going.rows.put.next_is)) w.rights _ a.candidates),
       )
