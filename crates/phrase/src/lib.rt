@@ -28,6 +28,8 @@ use store::{Built, Size, TooLong};
 use strings::{Packed, Run, Sort};
 
 // Is there any start, where some words are in the table? (It builds what the list's function below builds: a trait to share that is longer.)
+// A call of its own, so that what is inlined around it takes none of its stack.
+#[inline(never)]
 fn is_found_by_families<'a>(
     section: &'a [u32],
     families: &'a [u32],

@@ -70,7 +70,8 @@ fn answer_filter(inputs: &Inputs, work: &mut [u32], filter: Filter, hi: u32) -> 
 }
 
 // The answer of a part that the walk does not go into: "a phrase is yes if its list isn't empty", found at the first find; a filter is asked of its operand's
-// matches; any other part is built.
+// matches; any other part is built. A call of its own, so that a level of the walk's recursion takes little stack.
+#[inline(never)]
 fn answer_leaf(inputs: &Inputs, work: &mut [u32], hi: u32) -> Quick
     requires { Walkable inputs.now.section.now inputs.now.families.now inputs.now.selection.now work.old hi }
     ensures { (w : Walkable inputs.now.section.now inputs.now.families.now inputs.now.selection.now work.old hi) → goes_into (shape_at inputs.now.selection.now hi) ≡ false → result ≡ walk_of (searched_of inputs.now.section.now inputs.now.families.now) w.part.tree }
