@@ -39,7 +39,7 @@ fn any_yes<A: Asked>(asked: A, mem: &[u32], src: usize) -> bool
     store::matches_of(mem, src).any(|m| asked.gives_yes(m.includes, m.excludes))
 }
 
-// The same, by the filter of a code.
+// The same, by the filter of a code. As in `filters::filter_list`, each arm names the type by which its filter tests, so that each loop is compiled for one.
 pub fn is_yes(section: &[u32], filter: Filter, mem: &[u32], src: usize) -> bool
     requires by_index { (n : ℕ) → filter ≡ Window n → WindowSize n }
     requires slot_at { SlotAt mem.now src }

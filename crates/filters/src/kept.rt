@@ -16,6 +16,7 @@ pub fn kept_list<K: Keeper>(keeper: K, mem: &mut [u32], src: usize, at: usize) -
     requires slot_below { SlotBelow (length mem.old) src at }
     ensures { (w : SlotAt mem.old src) → Outcome (flat_map (kept (K.keeping keeper)) w.list) mem.old mem.new at result }
 {
+    // a loop of its own: the matches kept are counted, which `store::each_match` doesn't
     let n = store::size_at(mem, src).matches;
     let mut from = src + store::FIRST_MATCH;
     let mut q = at + store::FIRST_MATCH;
