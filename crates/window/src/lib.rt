@@ -19,7 +19,8 @@ ghost use Rattle.window.specs.Inside.{WindowSize};
 pub use inside::is_inside;
 use store::Built;
 
-// The windows of n positions of the list in a slot, in a slot above it.
+// The windows of n positions of the list in a slot, in a slot above it. What n must be is asked for here and in `inside` and `sizes`: n stands alone there, and
+// a struct around one number would be no plainer.
 pub fn window_list(mem: &mut [u32], n: u32, src: usize, at: usize) -> Built
     requires window_size { WindowSize n }
     requires slot_at { SlotAt mem.old src }
