@@ -28,8 +28,6 @@ use store::{Built, Size, TooLong};
 use strings::{Packed, Run, Sort};
 
 // Is there any start, where some words are in the table? (It builds what the list's function below builds: a trait to share that is longer.)
-// A call of its own, so that what is inlined around it takes none of its stack.
-#[inline(never)]
 fn is_found_by_families<'a>(
     section: &'a [u32],
     families: &'a [u32],
@@ -59,7 +57,8 @@ fn is_found_by_families<'a>(
     next_start(&rows, 1).is_some()
 }
 
-// Is there any start? Stops at the first.
+// Is there any start? Stops at the first. A call of its own, so that what the walk builds takes none of its stack.
+#[inline(never)]
 pub fn is_found<'a>(section: &'a [u32], families: &'a [u32], words: &'a [u32]) -> bool
     requires accepted_section { AcceptedSection section.now }
     requires accepted_families { AcceptedFamilies families.now }
