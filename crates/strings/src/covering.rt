@@ -17,7 +17,7 @@ pub enum Chosen {
 }
 
 // Does a string cover a position?
-fn covers(s: Packed, p: Position) -> bool
+pub fn covers(s: Packed, p: Position) -> bool
     ensures { result ≡ covers (str_packed s) p.0 }
 {
     s.run().has(p)

@@ -7,9 +7,9 @@ pub mod covering;
 pub mod halves;
 pub mod ordering;
 mod packed;
-mod positions;
-mod spans;
+pub mod positions;
+pub mod spans;
 
 pub use packed::{Packed, Sort, Strings, strings_in};
 pub use positions::Run;
-pub use spans::{end_of, start_of};
+pub use spans::{end_of, span_of, start_of};
