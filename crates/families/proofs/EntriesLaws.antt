@@ -2,7 +2,7 @@
 use Prim.Native.Nat.{ℕ, zero, suc, ◌+◌, ◌≤◌, ◌<◌}
 use native.Mathlib.Nat.{eq-or-lt_of_le}
 use native.Mathlib.Omega.{arith}
-use mathlib.Core.Path.{◌≡◌, refl, subst}
+use mathlib.Core.Path.{◌≡◌, refl, sym, ◌∙◌, subst}
 use mathlib.Core.List.{List}
 use mathlib.Core.Logic.{⊎_elim}
 use Rattle.std.specs.Prelude.{Option, Some, None, MatchOption, option_map}
@@ -10,7 +10,7 @@ use lib.ListN.{get_or}
 use Rattle.model.specs.Accepted.{RisingStrictly}
 use Rattle.model.specs.Families.{entry_of, family_of}
 use Rattle.model.specs.Section.{size, first_at, second_at}
-use Rattle.model.proofs.FamiliesLaws.{entry_some, entry_none, entry_at}
+use Rattle.model.proofs.FamiliesLaws.{entry_some, entry_at}
 use Rattle.slices.specs.Blocks.{Lacks, block_size}
 use Rattle.families.specs.Entries.{PassedBy, NextMember}
 use Rattle.model.proofs.TestsLaws.{lt-or-le}
@@ -26,9 +26,16 @@ pub record EntryHas (families : List ℕ) (word family : ℕ) : Type 0 where
   pub has_family : second_at families at ≡ family
 
 module _ (families : List ℕ) (word : ℕ) where
-  pub family_none : ((i : ℕ) → 1 ≤ i → i ≤ size families → first_at families i ≡ word → ⊥) → family_of families word ≡ None
+  pub family_missing : {entry : Option ℕ} → entry ≡ entry_of families word → entry ≡ None → family_of families word ≡ None
   unfolding family_of
-  family_none h = rw (entry_none families word h)
+  family_missing e h = rw (sym e ∙ h)
+
+  pub family_found : {entry : Option ℕ} → entry ≡ entry_of families word → (i : ℕ) → entry ≡ Some i → family_of families word ≡ Some (second_at families i)
+  unfolding family_of
+  family_found e i h = rw (sym e ∙ h)
+
+  pub entry_in : {entry : Option ℕ} → entry ≡ entry_of families word → (i : ℕ) → entry ≡ Some i → i ≤ size families
+  entry_in e i h = (entry_some families word i (sym e ∙ h)).1
 
   pub family_at : RisingStrictly (first_at families) (size families) → (i : ℕ) → 1 ≤ i → i ≤ size families → first_at families i ≡ word
       → family_of families word ≡ Some (second_at families i)

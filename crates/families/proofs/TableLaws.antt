@@ -1,4 +1,4 @@
--- What halving the words of a table tells of a word's family, and when a word fits.
+-- What halving the words of a table tells of the entry that has a word, and when a word fits.
 use Rattle.std.proofs.Common.{◌≡◌, ℕ, ◌+◌, ◌-◌, ◌≤◌, ◌<◌, true, false, eqb, List, length, get_or, take, drop, Option, Result, Some, None, Ok, Err, sym, refl, ap, ◌∙◌, arith, eq-eqb, ne_eqb}
 use Rattle.std.specs.Ordering.{nat_cmp}
 use Rattle.std.specs.Option.{is_some, option_eq}
@@ -10,11 +10,11 @@ use Rattle.std.proofs.lemmas.List.Sorted.{searched}
 use native.Mathlib.Nat.{eq-or-lt_of_le}
 use mathlib.Core.Logic.{⊎_elim}
 use Rattle.model.specs.Accepted.{AcceptedFamilies}
-use Rattle.model.specs.Families.{family_of, same_family, word_fits}
+use Rattle.model.specs.Families.{entry_of, family_of, same_family, word_fits}
 use Rattle.model.specs.Section.{size, first_at}
-use Rattle.families.proofs.EntriesLaws.{family_none, family_at}
+use Rattle.model.proofs.FamiliesLaws.{entry_none, entry_at}
 
--- ---- family_of, by a search among the words
+-- ---- entry_of, by a search among the words
 
 module _ {families : List ℕ} (a : AcceptedFamilies families) (word m : ℕ) (e : m ≡ size families) where
   words : List ℕ
@@ -39,24 +39,23 @@ module _ {families : List ℕ} (a : AcceptedFamilies families) (word m : ℕ) (e
       let g = at_place j (omega (arith, has_words)) in
       ⊎_elim (λ q. omega (arith, ap (λ (k : ℕ). get_or words k 0) q)) (λ k. omega (arith, f, g, a.rising (i + 1) (j + 1) (omega arith) (omega arith) (omega (arith, has_words)))) (eq-or-lt_of_le h)
 
-  pub family_missing : (r : Result ℕ ℕ) → Search r → result_ok r ≡ None → family_of families word ≡ None
+  pub entry_missing : (r : Result ℕ ℕ) → Search r → result_ok r ≡ None → entry_of families word ≡ None
   unfolding words
-  family_missing (Ok i) s f = absurd (cc)
-  family_missing (Err p) s f =
+  entry_missing (Ok i) s f = absurd (cc)
+  entry_missing (Err p) s f =
       let t = searched words word (Err p) s rise in
-      family_none families word (λ i h k has.
+      entry_none families word (λ i h k has.
       let q : i - 1 + 1 ≡ i = omega arith in
       let at : get_or words (i - 1) 0 ≡ word = at_place (i - 1) (omega arith) ∙ ap (first_at families) q ∙ has in
       grind (arith, t.1 (i - 1), t.2 (i - 1), at, has_words))
 
-  pub family_found : (r : Result ℕ ℕ) → Search r → (i : ℕ) → result_ok r ≡ Some i → family_of families word ≡ Some (get_or families (m + 1 + i) 0)
+  pub entry_found : (r : Result ℕ ℕ) → Search r → (i : ℕ) → result_ok r ≡ Some i → entry_of families word ≡ Some (i + 1)
   unfolding words
-  family_found (Ok j) s i f =
+  entry_found (Ok j) s i f =
       let q : j ≡ i = cc in
       let t = searched words word (Ok j) s rise in
-      let place : size families + (j + 1) ≡ m + 1 + i = omega arith in
-      family_at families word a.rising (j + 1) (omega arith) (omega (arith, t.0, has_words)) (sym (at_place j (omega (arith, t.0, has_words))) ∙ t.1) ∙ ap (λ (k : ℕ). Some (get_or families k 0)) place
-  family_found (Err p) s i f = absurd (cc)
+      entry_at families word a.rising (j + 1) (omega arith) (omega (arith, t.0, has_words)) (sym (at_place j (omega (arith, t.0, has_words))) ∙ t.1) ∙ ap (λ (k : ℕ). Some (k + 1)) q
+  entry_found (Err p) s i f = absurd (cc)
 
 -- ---- word_fits, by the two families
 

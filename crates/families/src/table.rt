@@ -1,7 +1,7 @@
 // An accepted family table: the words rise, so that one is looked for by halving.
 ghost use Rattle.std.specs.Prelude.{true, ◌≡◌, ◌+◌, ◌≤◌};
 ghost use Rattle.model.specs.Accepted.{AcceptedFamilies};
-ghost use Rattle.model.specs.Families.{family_of, word_fits};
+ghost use Rattle.model.specs.Families.{entry_of, family_of, word_fits};
 ghost use Rattle.model.specs.Limits.{max_entries};
 ghost use Rattle.model.specs.Section.{size};
 ghost use Rattle.families.specs.Entries.{NextMember};
@@ -26,12 +26,20 @@ impl<'a> Table<'a> {
         self.lent[0] as usize
     }
 
-    pub fn family_of(&self, word: u32) -> Option<u32>
-        ensures { result ≡ family_of self.now.lent.now word }
+    // The entry that has a word, counted from 1.
+    pub fn entry_of(&self, word: u32) -> Option<usize>
+        ensures { result ≡ entry_of self.now.lent.now word }
     {
         let m = self.size();
         let place = self.lent[1..m + 1].binary_search(&word).ok()?;
-        Some(self.lent[m + 1 + place])
+        Some(place + 1)
+    }
+
+    pub fn family_of(&self, word: u32) -> Option<u32>
+        ensures { result ≡ family_of self.now.lent.now word }
+    {
+        let entry = self.entry_of(word)?;
+        Some(self.lent[self.size() + entry])
     }
 
     // "each word equals its token or both are in the table with the same family": of a word whose family is known
