@@ -9,7 +9,7 @@ use model::Position;
 use strings::{Run, end_of, start_of};
 
 // How many matches of L a part of R is found for.
-const AHEAD: u32 = 16;
+const AHEAD: usize = 16;
 
 // The start of a match's first include, and the end of its last one.
 #[derive(Clone, Copy)]
@@ -95,7 +95,7 @@ impl Ranges {
 }
 
 // The ranges of these edges and those of the matches of L from `from` on: of sixteen, or of n if there are no more.
-pub fn ranges_ahead(mem: &[u32], from: usize, n: u32, edges: Edges) -> Ranges
+pub fn ranges_ahead(mem: &[u32], from: usize, n: usize, edges: Edges) -> Ranges
     requires { StreamAt mem.now from n }
     ensures { (w : StreamAt mem.now from n) → result ≡ with_matches (ranges_at edges) (take ahead w.list) }
 {

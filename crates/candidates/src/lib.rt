@@ -27,7 +27,7 @@ pub struct Candidates {
 pub fn candidates_for(
     mem: &[u32],
     left: usize,
-    n: u32,
+    n: usize,
     edges: Edges,
     r: usize,
     known: Option<Candidates>,

@@ -34,7 +34,7 @@ fn search(mem: &[u32], left: usize, edges: Edges, part: Candidates) -> bool
 }
 
 // "for every match of R", of the match of L at `left`, the first of the n that are left, and R in the slot at r. What is known of R is for the next match of L.
-pub fn is_kept(mem: &[u32], left: usize, n: u32, r: usize, known: &mut Option<Candidates>) -> bool
+pub fn is_kept(mem: &[u32], left: usize, n: usize, r: usize, known: &mut Option<Candidates>) -> bool
     requires { CandidatesAt mem.now left n r known.old }
     ensures { (w : CandidatesAt mem.now left n r known.old) → KeptIs w.item w.rights mem.now r known.new result }
 {

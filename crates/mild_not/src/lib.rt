@@ -29,7 +29,7 @@ pub fn mild_not_list(mem: &mut [u32], l: usize, r: usize, at: usize) -> Built
     // not by store::each_match: what is known of R goes on from match to match, and those kept are counted
     for i in 0..n {
         let end = store::match_end(mem, left);
-        if is_kept(mem, left, n - i, r, &mut known) {
+        if is_kept(mem, left, (n - i) as usize, r, &mut known) {
             store::copy_up(mem, left..end, q);
             q += end - left;
             matches += 1;
