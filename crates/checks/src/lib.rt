@@ -2,12 +2,27 @@
 
 #![tactic(auto)]
 
-ghost use Rattle.std.specs.Prelude.{◌≡◌};
+ghost use Rattle.std.specs.Prelude.{Err, ◌≡◌};
 ghost use Rattle.model.specs.Answers.{checked_of};
 ghost use Rattle.model.specs.Checks.{input_refusal, listing_checks, quick_checks};
 ghost use Rattle.model.specs.Section.{size};
+ghost use Rattle.model.specs.declared.Refusal.{Refusal};
 
 use model::{BUFFER_LENGTH, Inputs, Reason, Refusal, WORK_LENGTH};
+
+// The refusal that a check answers: for a caller that takes the answer apart by `let .. else`, whose `else` can't bind it. Where the check accepts there is none,
+// and nothing is promised of what this returns.
+pub fn refusal_of(checked: Result<u32, Refusal>) -> Refusal
+    ensures { (refusal : Refusal) → checked ≡ Err refusal → result ≡ refusal }
+{
+    match checked {
+        Err(refusal) => refusal,
+        Ok(_) => Refusal {
+            reason: Reason::WrongSection,
+            place: 0,
+        },
+    }
+}
 
 // Refusals 1 to 7, 12 and 13.
 #[tactic(auto, unfolding(model::specs::Checks::input_refusal))]
