@@ -2,3 +2,4 @@
 pub mod TokensLaws
 pub mod NumbersLaws
 pub mod WrittenLaws
+pub mod LentLaws

@@ -34,6 +34,12 @@ pub record Held (text : List ℕ) (token : Token) (count : ℕ) : Type 0 where
   pub scanned : Scanned text token.start token
   pub few : count + (length text - token.start) ≤ max_text
 
+-- a text is to be read on from a position, with the codes read before
+pub record Resumed (text : List ℕ) (at : ℕ) (codes : Codes) (s : State) : Type 0 where
+  pub stream_is : stream_of s ≡ stream_at text at
+  pub left_is : left s ≤ length text - at
+  pub codes_are : s.codes ≡ codes
+
 -- a text is to be read
 pub record Begins (text : List ℕ) (s : State) : Type 0 where
   pub stream_is : stream_of s ≡ stream_at text 0

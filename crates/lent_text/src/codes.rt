@@ -65,7 +65,7 @@ impl Codes {
     }
 
     // One code more. The first 64 are written, those past them are counted.
-    pub(crate) fn push(&mut self, code: Code)
+    pub fn push(&mut self, code: Code)
         requires fits { operand_of code < 2 ^ 32 }
         requires few { self.old.count < 2 ^ 32 - 1 }
         ensures { Written (code ∷ []) self.old self.new }

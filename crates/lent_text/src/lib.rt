@@ -4,6 +4,7 @@
 #![tactic(auto)]
 
 pub mod codes; // the codes, in numbers
+mod lent; // the text and a position alone
 
 ghost use Rattle.std.specs.Prelude.{◌≡◌, ◌+◌, ◌^◌, ◌≤◌, ◌<◌, length, true, MatchResult};
 ghost use Rattle.std.specs.Bool.{MatchBool};
@@ -14,9 +15,10 @@ ghost use Rattle.grammar.specs.Stream.{place_in, value_in};
 ghost use Rattle.grammar.specs.Symbols.{symbol_in};
 ghost use Rattle.scanner.specs.Scanned.{capped};
 ghost use Rattle.scanner.specs.Symbols.{is_token, named};
-ghost use Rattle.lent_text.specs.State.{Begins, Kept, Missed, Numbered, Passed, Pushed, Took, Unnumbered, left, stream_of};
+ghost use Rattle.lent_text.specs.State.{Begins, Kept, Missed, Numbered, Passed, Pushed, Resumed, Took, Unnumbered, left, stream_of};
 
 use codes::Codes;
+pub use lent::{Lent, copy_from, reader_of, rest_of, text_of};
 use model::{Code, Reason, Refusal};
 use scanner::Token;
 use scanner::symbols::Symbol;
@@ -40,16 +42,26 @@ impl<'a> Model for Reader<'a> {
 }
 
 impl<'a> Reader<'a> {
+    // A reader at a position of a text, with the codes read before it.
+    pub fn resumed(text: &'a [u8], at: usize, codes: Codes) -> Reader<'a>
+        requires short { length text.now ≤ max_text }
+        requires inside { at ≤ length text.now }
+        requires few { codes.count ≤ at }
+        ensures { Resumed text.entry.now at codes result }
+    {
+        Reader {
+            text,
+            token: scanner::token_at(text, at),
+            codes,
+        }
+    }
+
     // A reader at the start of a text.
     pub fn over(text: &'a [u8]) -> Reader<'a>
         requires { length text.now ≤ max_text }
         ensures { Begins text.entry.now result }
     {
-        Reader {
-            text,
-            token: scanner::token_at(text, 0),
-            codes: Codes::none(),
-        }
+        Reader::resumed(text, 0, Codes::none())
     }
 
     // The codes read.
