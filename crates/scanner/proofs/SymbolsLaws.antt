@@ -1,5 +1,5 @@
 -- Symbols and their numbers, and the table of keywords against the grammar's.
-use Rattle.std.proofs.Common.{◌≡◌, ℕ, ◌+◌, suc, Bool, true, false, cond, not, ◌&&◌, List, [], ◌∷◌, eqb, refl, sym, ap, ◌∙◌, arith, rules, Bor}
+use Rattle.std.proofs.Common.{◌≡◌, ℕ, ◌+◌, suc, Bool, true, false, cond, not, ◌&&◌, List, [], ◌∷◌, length, eqb, refl, sym, ap, ◌∙◌, arith, rules, Bor}
 use Rattle.std.proofs.lemmas.Bool.Decides.{nat_tests}
 use Rattle.std.specs.Str.{bytes_eq}
 use Prim.Native.String.{String}
@@ -99,27 +99,62 @@ spells [] (y ∷ ys) = refl
 spells (x ∷ xs) [] = refl
 spells (x ∷ xs) (y ∷ ys) = ap (λ t. eqb x y && t) (spells xs ys)
 
--- a table that has the keywords from a number on, each with the symbol of its number
-abbrev pub Aligned : ℕ → List (Bor (List ℕ) × Symbol) → List String → Type 0
-Aligned n [] [] = named n ≡ OtherWord
-Aligned n [] (w ∷ ws) = ⊥
-Aligned n (k ∷ ks) [] = ⊥
-Aligned n (k ∷ ks) (w ∷ ws) = (k.0.now ≡ bytes w) × (named n ≡ k.1) × Aligned (suc n) ks ws
+other_length : (w x : List ℕ) → ¬ (length w ≡ length x) → same_bytes w x ≡ false
+unfolding same_bytes
+other_length [] [] h = absurd (h refl)
+other_length [] (y ∷ ys) h = refl
+other_length (x ∷ xs) [] h = refl
+other_length (x ∷ xs) (y ∷ ys) h = rw (other_length xs ys (λ e. h (ap suc e))) (never (eqb x y)) where
+  never : (b : Bool) → (b && false) ≡ false
+  never true = refl
+  never false = refl
 
-pub spelled-named : (n : ℕ) (ks : List (Bor (List ℕ) × Symbol)) (ws : List String) (w : List ℕ) → Aligned n ks ws → first_spelled w ks ≡ named (number_among n ws w)
-unfolding number_among first_spelled
-spelled-named n [] [] w a = sym a
-spelled-named n [] (v ∷ vs) w a = absurd a
-spelled-named n (k ∷ ks) [] w a = absurd a
-spelled-named n (k ∷ ks) (v ∷ vs) w a =
-    rw (a.0, spells w (bytes v)) (at (same_bytes w (bytes v)) (spelled-named (suc n) ks vs w a.2)) where
-      at : (b : Bool) → first_spelled w ks ≡ named (number_among (suc n) vs w) → cond b k.1 (first_spelled w ks) ≡ named (cond b n (number_among (suc n) vs w))
-      at true e = sym a.1
-      at false e = e
+abbrev pub Where : Bool → Type 0 → Type 0 → Type 0
+Where true A B = A
+Where false A B = B
 
--- the table's word is the grammar's
-pub spelled_is : (r : Symbol) (w : List ℕ) (ks : List (Bor (List ℕ) × Symbol)) → r ≡ first_spelled w ks → Aligned 1 ks keywords → r ≡ named (number_among 1 keywords w)
-spelled_is r w ks e a = e ∙ spelled-named 1 ks keywords w a
+-- a table that has those of the keywords from a number on that are so long, each with the symbol of its number
+abbrev pub Aligned : (size n : ℕ) → List (Bor (List ℕ) × Symbol) → List String → Type 0
+Aligned size n [] [] = named n ≡ OtherWord
+Aligned size n (k ∷ ks) [] = ⊥
+Aligned size n [] (v ∷ vs) = Where (eqb (length (bytes v)) size) ⊥ (Aligned size (suc n) [] vs)
+Aligned size n (k ∷ ks) (v ∷ vs) = Where (eqb (length (bytes v)) size) ((k.0.now ≡ bytes v) × (named n ≡ k.1) × Aligned size (suc n) ks vs) (Aligned size (suc n) (k ∷ ks) vs)
+
+module _ (w : List ℕ) (size : ℕ) (long : length w ≡ size) where
+  other : (x : List ℕ) → eqb (length x) size ≡ false → same_bytes w x ≡ false
+  other x e = other_length w x (λ q. false≢true (sym e ∙ eq-eqb (length x) size (sym q ∙ long)))
+
+  spelled-named : (n : ℕ) (ks : List (Bor (List ℕ) × Symbol)) (ws : List String) → Aligned size n ks ws → first_spelled w ks ≡ named (number_among n ws w)
+  unfolding number_among first_spelled
+  spelled-named n [] [] a = sym a
+  spelled-named n (k ∷ ks) [] a = absurd a
+  spelled-named n [] (v ∷ vs) a = at (eqb (length (bytes v)) size) refl a (λ b. spelled-named (suc n) [] vs b) where
+    at : (t : Bool) → eqb (length (bytes v)) size ≡ t → Where t ⊥ (Aligned size (suc n) [] vs) → (Aligned size (suc n) [] vs → OtherWord ≡ named (number_among (suc n) vs w))
+        → OtherWord ≡ named (cond (same_bytes w (bytes v)) n (number_among (suc n) vs w))
+    at true e b rest = absurd b
+    at false e b rest = rw (other (bytes v) e) (rest b)
+  spelled-named n (k ∷ ks) (v ∷ vs) a = at (eqb (length (bytes v)) size) refl a (λ b. spelled-named (suc n) ks vs b) (λ b. spelled-named (suc n) (k ∷ ks) vs b) where
+    held : (b : Bool) → named n ≡ k.1 → first_spelled w ks ≡ named (number_among (suc n) vs w) → cond b k.1 (first_spelled w ks) ≡ named (cond b n (number_among (suc n) vs w))
+    held true f e = sym f
+    held false f e = e
+
+    at : (t : Bool) → eqb (length (bytes v)) size ≡ t → Where t ((k.0.now ≡ bytes v) × (named n ≡ k.1) × Aligned size (suc n) ks vs) (Aligned size (suc n) (k ∷ ks) vs)
+        → (Aligned size (suc n) ks vs → first_spelled w ks ≡ named (number_among (suc n) vs w))
+        → (Aligned size (suc n) (k ∷ ks) vs → cond (bytes_eq w k.0.now) k.1 (first_spelled w ks) ≡ named (number_among (suc n) vs w))
+        → cond (bytes_eq w k.0.now) k.1 (first_spelled w ks) ≡ named (cond (same_bytes w (bytes v)) n (number_among (suc n) vs w))
+    at true e b this rest = rw (b.0, spells w (bytes v)) (held (same_bytes w (bytes v)) b.1 (this b.2))
+    at false e b this rest = rw (other (bytes v) e) (rest b)
+
+  -- the table's word is the grammar's
+  pub spelled_is : (r : Symbol) (ks : List (Bor (List ℕ) × Symbol)) → r ≡ first_spelled w ks → Aligned size 1 ks keywords → r ≡ named (number_among 1 keywords w)
+  spelled_is r ks e a = e ∙ spelled-named 1 ks keywords a
+
+  -- no keyword is so long
+  pub other_word : ¬ (2 ≡ size) → ¬ (3 ≡ size) → ¬ (4 ≡ size) → ¬ (5 ≡ size) → ¬ (6 ≡ size) → ¬ (7 ≡ size) → ¬ (8 ≡ size) → ¬ (9 ≡ size)
+      → OtherWord ≡ named (number_among 1 keywords w)
+  unfolding named first_spelled
+  other_word b c d e f g h i =
+      spelled-named 1 [] keywords (rw (ne_eqb 2 size b, ne_eqb 3 size c, ne_eqb 4 size d, ne_eqb 5 size e, ne_eqb 6 size f, ne_eqb 7 size g, ne_eqb 8 size h, ne_eqb 9 size i) refl)
 
 -- ---- by the sort of a token
 

@@ -46,35 +46,55 @@ pub enum Symbol {
     OtherSign,
 }
 
-const KEYWORDS: [(&[u8], Symbol); 25] = [
+// The keywords, by how long they are: so that a word is held against those of its length alone.
+const TWO: [(&[u8], Symbol); 3] = [
+    (b"in", Symbol::In),
+    (b"at", Symbol::At),
+    (b"to", Symbol::To),
+];
+
+const THREE: [(&[u8], Symbol); 2] = [(b"not", Symbol::Not), (b"end", Symbol::End)];
+
+const FOUR: [(&[u8], Symbol); 4] = [
     (b"ftor", Symbol::Ftor),
+    (b"same", Symbol::Same),
+    (b"from", Symbol::From),
+    (b"most", Symbol::Most),
+];
+
+const FIVE: [(&[u8], Symbol); 6] = [
     (b"ftand", Symbol::Ftand),
     (b"ftnot", Symbol::Ftnot),
-    (b"not", Symbol::Not),
-    (b"in", Symbol::In),
-    (b"ordered", Symbol::Ordered),
-    (b"window", Symbol::Window),
-    (b"distance", Symbol::Distance),
-    (b"same", Symbol::Same),
-    (b"different", Symbol::Different),
-    (b"at", Symbol::At),
-    (b"entire", Symbol::Entire),
     (b"start", Symbol::Start),
-    (b"end", Symbol::End),
-    (b"sentence", Symbol::Sentence),
-    (b"paragraph", Symbol::Paragraph),
-    (b"content", Symbol::Content),
-    (b"occurs", Symbol::Occurs),
-    (b"exactly", Symbol::Exactly),
-    (b"from", Symbol::From),
-    (b"to", Symbol::To),
     (b"least", Symbol::Least),
-    (b"most", Symbol::Most),
     (b"words", Symbol::Words),
     (b"times", Symbol::Times),
 ];
 
+const SIX: [(&[u8], Symbol); 3] = [
+    (b"window", Symbol::Window),
+    (b"entire", Symbol::Entire),
+    (b"occurs", Symbol::Occurs),
+];
+
+const SEVEN: [(&[u8], Symbol); 3] = [
+    (b"ordered", Symbol::Ordered),
+    (b"content", Symbol::Content),
+    (b"exactly", Symbol::Exactly),
+];
+
+const EIGHT: [(&[u8], Symbol); 2] = [
+    (b"distance", Symbol::Distance),
+    (b"sentence", Symbol::Sentence),
+];
+
+const NINE: [(&[u8], Symbol); 2] = [
+    (b"different", Symbol::Different),
+    (b"paragraph", Symbol::Paragraph),
+];
+
 // The symbol of the first of some keywords that a word is.
+#[inline(always)]
 #[tactic(auto, unfolding(crate::specs::Symbols::first_spelled))]
 fn spelled(keywords: &[(&[u8], Symbol)], word: &[u8]) -> Symbol
     ensures { result ≡ first_spelled word.now keywords.now }
@@ -91,5 +111,15 @@ fn spelled(keywords: &[(&[u8], Symbol)], word: &[u8]) -> Symbol
 pub fn word_symbol(word: &[u8]) -> Symbol
     ensures { result ≡ named (number_among 1 keywords word.now) }
 {
-    spelled(&KEYWORDS, word)
+    match word.len() {
+        2 => spelled(&TWO, word),
+        3 => spelled(&THREE, word),
+        4 => spelled(&FOUR, word),
+        5 => spelled(&FIVE, word),
+        6 => spelled(&SIX, word),
+        7 => spelled(&SEVEN, word),
+        8 => spelled(&EIGHT, word),
+        9 => spelled(&NINE, word),
+        _ => Symbol::OtherWord,
+    }
 }
