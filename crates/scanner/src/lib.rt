@@ -73,7 +73,8 @@ fn symbol_of(sort: u8, bytes: &[u8]) -> Symbol
     }
 }
 
-// The first token from a position on.
+// The first token from a position on. In line: a reader keeps the token where it is made.
+#[inline(always)]
 pub fn token_at(text: &[u8], at: usize) -> Token
     requires { at ≤ length text.now }
     ensures { Scanned text.now at result }

@@ -1,5 +1,6 @@
 // The symbols that the grammar's rules ask for, and which of them a word is.
 ghost use Rattle.std.specs.Prelude.{◌≡◌};
+ghost use Rattle.std.specs.Str.{bytes_eq};
 ghost use Rattle.grammar.specs.Symbols.{keywords, number_among};
 ghost use Rattle.scanner.specs.Symbols.{first_spelled, named};
 
@@ -93,6 +94,14 @@ const NINE: [(&[u8], Symbol); 2] = [
     (b"paragraph", Symbol::Paragraph),
 ];
 
+// Is a word this one? Byte by byte: against a word of a table that is a few tests of single bytes, and no call.
+#[inline(always)]
+fn spells(word: &[u8], keyword: &[u8]) -> bool
+    ensures { result ≡ bytes_eq word.now keyword.now }
+{
+    word.len() == keyword.len() && word.iter().zip(keyword).all(|(a, b)| a == b)
+}
+
 // The symbol of the first of some keywords that a word is.
 #[inline(always)]
 #[tactic(auto, unfolding(crate::specs::Symbols::first_spelled))]
@@ -100,7 +109,7 @@ fn spelled(keywords: &[(&[u8], Symbol)], word: &[u8]) -> Symbol
     ensures { result ≡ first_spelled word.now keywords.now }
 {
     for (keyword, symbol) in keywords {
-        if word == *keyword {
+        if spells(word, keyword) {
             return *symbol;
         }
     }
