@@ -95,7 +95,11 @@ impl<'a> Reader<'a> {
         ensures passed { Passed self.old self.new }
         ensures few { self.old.codes.count + left self.old ≤ max_text }
     {
-        self.token = scanner::token_at(self.text, self.token.end);
+        let next = scanner::token_at(self.text, self.token.end);
+        // field by field: the gap behind the symbol would be copied too
+        self.token.symbol = next.symbol;
+        self.token.start = next.start;
+        self.token.end = next.end;
     }
 
     // Passes a token of this symbol, if one is next.
