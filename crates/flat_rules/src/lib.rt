@@ -36,7 +36,8 @@ fn coded(reader: &mut Reader, symbol: Symbol, code: Code) -> Result<(), Refusal>
     Ok(())
 }
 
-// One of two words, each with its code.
+// One of two words, each with its code. In line: the two codes are known there.
+#[inline(always)]
 fn either(
     reader: &mut Reader,
     first: Symbol,

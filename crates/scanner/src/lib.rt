@@ -60,6 +60,7 @@ fn run_length(bytes: &[u8], sort: u8) -> usize
 }
 
 // The symbol of a token of this sort and these bytes.
+#[inline(always)]
 fn symbol_of(sort: u8, bytes: &[u8]) -> Symbol
     ensures { result ≡ named (symbol_of (record { sort = sort; place = 0; bytes = bytes.now })) }
 {
