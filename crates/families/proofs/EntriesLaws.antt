@@ -10,7 +10,7 @@ use lib.ListN.{get_or}
 use Rattle.model.specs.Accepted.{RisingStrictly}
 use Rattle.model.specs.Families.{entry_of, family_of}
 use Rattle.model.specs.Section.{size, first_at, second_at}
-use Rattle.model.proofs.FamiliesLaws.{entry_some, entry_at}
+use Rattle.model.proofs.FamiliesLaws.{entry_some, entry_none, entry_at}
 use Rattle.slices.specs.Blocks.{Lacks, block_size}
 use Rattle.families.specs.Entries.{PassedBy, NextMember}
 use Rattle.model.proofs.TestsLaws.{lt-or-le}
@@ -26,6 +26,10 @@ pub record EntryHas (families : List ℕ) (word family : ℕ) : Type 0 where
   pub has_family : second_at families at ≡ family
 
 module _ (families : List ℕ) (word : ℕ) where
+  pub family_none : ((i : ℕ) → 1 ≤ i → i ≤ size families → first_at families i ≡ word → ⊥) → family_of families word ≡ None
+  unfolding family_of
+  family_none h = rw (entry_none families word h)
+
   pub family_missing : {entry : Option ℕ} → entry ≡ entry_of families word → entry ≡ None → family_of families word ≡ None
   unfolding family_of
   family_missing e h = rw (sym e ∙ h)

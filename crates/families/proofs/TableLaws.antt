@@ -1,6 +1,7 @@
--- What halving the words of a table tells of the entry that has a word, and when a word fits.
+-- What halving the words of a table tells of the entry that has a word and of its family, and when a word fits.
 use Rattle.std.proofs.Common.{◌≡◌, ℕ, ◌+◌, ◌-◌, ◌≤◌, ◌<◌, true, false, eqb, List, length, get_or, take, drop, Option, Result, Some, None, Ok, Err, sym, refl, ap, ◌∙◌, arith, eq-eqb, ne_eqb}
 use Rattle.std.specs.Ordering.{nat_cmp}
+use Rattle.std.specs.Prelude.{option_map}
 use Rattle.std.specs.Option.{is_some, option_eq}
 use Rattle.std.specs.Result.{result_ok}
 use Rattle.std.specs.List.Sorted.{IsBinarySearchResult}
@@ -11,10 +12,10 @@ use native.Mathlib.Nat.{eq-or-lt_of_le}
 use mathlib.Core.Logic.{⊎_elim}
 use Rattle.model.specs.Accepted.{AcceptedFamilies}
 use Rattle.model.specs.Families.{entry_of, family_of, same_family, word_fits}
-use Rattle.model.specs.Section.{size, first_at}
+use Rattle.model.specs.Section.{size, first_at, second_at}
 use Rattle.model.proofs.FamiliesLaws.{entry_none, entry_at}
 
--- ---- entry_of, by a search among the words
+-- ---- entry_of and family_of, by a search among the words
 
 module _ {families : List ℕ} (a : AcceptedFamilies families) (word m : ℕ) (e : m ≡ size families) where
   words : List ℕ
@@ -56,6 +57,16 @@ module _ {families : List ℕ} (a : AcceptedFamilies families) (word m : ℕ) (e
       let t = searched words word (Ok j) s rise in
       entry_at families word a.rising (j + 1) (omega arith) (omega (arith, t.0, has_words)) (sym (at_place j (omega (arith, t.0, has_words))) ∙ t.1) ∙ ap (λ (k : ℕ). Some (k + 1)) q
   entry_found (Err p) s i f = absurd (cc)
+
+  pub family_missing : (r : Result ℕ ℕ) → Search r → result_ok r ≡ None → family_of families word ≡ None
+  unfolding family_of
+  family_missing r s f = ap (option_map (second_at families)) (entry_missing r s f)
+
+  pub family_found : (r : Result ℕ ℕ) → Search r → (i : ℕ) → result_ok r ≡ Some i → family_of families word ≡ Some (get_or families (m + 1 + i) 0)
+  unfolding family_of
+  family_found r s i f =
+      let place : size families + (i + 1) ≡ m + 1 + i = omega (arith, e) in
+      ap (option_map (second_at families)) (entry_found r s i f) ∙ ap (λ (k : ℕ). Some (get_or families k 0)) place
 
 -- ---- word_fits, by the two families
 
