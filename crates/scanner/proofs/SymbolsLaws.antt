@@ -113,48 +113,68 @@ abbrev pub Where : Bool → Type 0 → Type 0 → Type 0
 Where true A B = A
 Where false A B = B
 
--- a table that has those of the keywords from a number on that are so long, each with the symbol of its number
-abbrev pub Aligned : (size n : ℕ) → List (Bor (List ℕ) × Symbol) → List String → Type 0
-Aligned size n [] [] = named n ≡ OtherWord
-Aligned size n (k ∷ ks) [] = ⊥
-Aligned size n [] (v ∷ vs) = Where (eqb (length (bytes v)) size) ⊥ (Aligned size (suc n) [] vs)
-Aligned size n (k ∷ ks) (v ∷ vs) = Where (eqb (length (bytes v)) size) ((k.0.now ≡ bytes v) × (named n ≡ k.1) × Aligned size (suc n) ks vs) (Aligned size (suc n) (k ∷ ks) vs)
+-- a table that has those of the keywords from a number on that are picked, each with the symbol of its number
+abbrev pub AlignedOf : (picked : String → Bool) (n : ℕ) → List (Bor (List ℕ) × Symbol) → List String → Type 0
+AlignedOf picked n [] [] = named n ≡ OtherWord
+AlignedOf picked n (k ∷ ks) [] = ⊥
+AlignedOf picked n [] (v ∷ vs) = Where (picked v) ⊥ (AlignedOf picked (suc n) [] vs)
+AlignedOf picked n (k ∷ ks) (v ∷ vs) = Where (picked v) ((k.0.now ≡ bytes v) × (named n ≡ k.1) × AlignedOf picked (suc n) ks vs) (AlignedOf picked (suc n) (k ∷ ks) vs)
+
+-- a word that is none of the keywords that aren't picked
+module _ (w : List ℕ) (picked : String → Bool) (none : (v : String) → picked v ≡ false → same_bytes w (bytes v) ≡ false) where
+  spelled-named-of : (n : ℕ) (ks : List (Bor (List ℕ) × Symbol)) (ws : List String) → AlignedOf picked n ks ws → first_spelled w ks ≡ named (number_among n ws w)
+  unfolding number_among first_spelled
+  spelled-named-of n [] [] a = sym a
+  spelled-named-of n (k ∷ ks) [] a = absurd a
+  spelled-named-of n [] (v ∷ vs) a = at (picked v) refl a (λ b. spelled-named-of (suc n) [] vs b) where
+    at : (t : Bool) → picked v ≡ t → Where t ⊥ (AlignedOf picked (suc n) [] vs) → (AlignedOf picked (suc n) [] vs → OtherWord ≡ named (number_among (suc n) vs w))
+        → OtherWord ≡ named (cond (same_bytes w (bytes v)) n (number_among (suc n) vs w))
+    at true e b rest = absurd b
+    at false e b rest = rw (none v e) (rest b)
+  spelled-named-of n (k ∷ ks) (v ∷ vs) a = at (picked v) refl a (λ b. spelled-named-of (suc n) ks vs b) (λ b. spelled-named-of (suc n) (k ∷ ks) vs b) where
+    held : (b : Bool) → named n ≡ k.1 → first_spelled w ks ≡ named (number_among (suc n) vs w) → cond b k.1 (first_spelled w ks) ≡ named (cond b n (number_among (suc n) vs w))
+    held true f e = sym f
+    held false f e = e
+
+    at : (t : Bool) → picked v ≡ t → Where t ((k.0.now ≡ bytes v) × (named n ≡ k.1) × AlignedOf picked (suc n) ks vs) (AlignedOf picked (suc n) (k ∷ ks) vs)
+        → (AlignedOf picked (suc n) ks vs → first_spelled w ks ≡ named (number_among (suc n) vs w))
+        → (AlignedOf picked (suc n) (k ∷ ks) vs → cond (bytes_eq w k.0.now) k.1 (first_spelled w ks) ≡ named (number_among (suc n) vs w))
+        → cond (bytes_eq w k.0.now) k.1 (first_spelled w ks) ≡ named (cond (same_bytes w (bytes v)) n (number_among (suc n) vs w))
+    at true e b this rest = rw (b.0, spells w (bytes v)) (held (same_bytes w (bytes v)) b.1 (this b.2))
+    at false e b this rest = rw (none v e) (rest b)
+
+-- a table that has all of the keywords from a number on
+abbrev pub Aligned : ℕ → List (Bor (List ℕ) × Symbol) → List String → Type 0
+Aligned n ks ws = AlignedOf (λ v. true) n ks ws
+
+pub spelled-named : (n : ℕ) (ks : List (Bor (List ℕ) × Symbol)) (ws : List String) (w : List ℕ) → Aligned n ks ws → first_spelled w ks ≡ named (number_among n ws w)
+spelled-named n ks ws w a = spelled-named-of w (λ v. true) (λ v e. absurd (false≢true (sym e))) n ks ws a
+
+-- the table's word is the grammar's
+pub spelled_is : (r : Symbol) (w : List ℕ) (ks : List (Bor (List ℕ) × Symbol)) → r ≡ first_spelled w ks → Aligned 1 ks keywords → r ≡ named (number_among 1 keywords w)
+spelled_is r w ks e a = e ∙ spelled-named 1 ks keywords w a
+
+-- a table that has those of the keywords from a number on that are so long
+abbrev pub AlignedOfLength : (size n : ℕ) → List (Bor (List ℕ) × Symbol) → List String → Type 0
+AlignedOfLength size n ks ws = AlignedOf (λ v. eqb (length (bytes v)) size) n ks ws
 
 module _ (w : List ℕ) (size : ℕ) (long : length w ≡ size) where
   other : (x : List ℕ) → eqb (length x) size ≡ false → same_bytes w x ≡ false
   other x e = other_length w x (λ q. false≢true (sym e ∙ eq-eqb (length x) size (sym q ∙ long)))
 
-  spelled-named : (n : ℕ) (ks : List (Bor (List ℕ) × Symbol)) (ws : List String) → Aligned size n ks ws → first_spelled w ks ≡ named (number_among n ws w)
-  unfolding number_among first_spelled
-  spelled-named n [] [] a = sym a
-  spelled-named n (k ∷ ks) [] a = absurd a
-  spelled-named n [] (v ∷ vs) a = at (eqb (length (bytes v)) size) refl a (λ b. spelled-named (suc n) [] vs b) where
-    at : (t : Bool) → eqb (length (bytes v)) size ≡ t → Where t ⊥ (Aligned size (suc n) [] vs) → (Aligned size (suc n) [] vs → OtherWord ≡ named (number_among (suc n) vs w))
-        → OtherWord ≡ named (cond (same_bytes w (bytes v)) n (number_among (suc n) vs w))
-    at true e b rest = absurd b
-    at false e b rest = rw (other (bytes v) e) (rest b)
-  spelled-named n (k ∷ ks) (v ∷ vs) a = at (eqb (length (bytes v)) size) refl a (λ b. spelled-named (suc n) ks vs b) (λ b. spelled-named (suc n) (k ∷ ks) vs b) where
-    held : (b : Bool) → named n ≡ k.1 → first_spelled w ks ≡ named (number_among (suc n) vs w) → cond b k.1 (first_spelled w ks) ≡ named (cond b n (number_among (suc n) vs w))
-    held true f e = sym f
-    held false f e = e
-
-    at : (t : Bool) → eqb (length (bytes v)) size ≡ t → Where t ((k.0.now ≡ bytes v) × (named n ≡ k.1) × Aligned size (suc n) ks vs) (Aligned size (suc n) (k ∷ ks) vs)
-        → (Aligned size (suc n) ks vs → first_spelled w ks ≡ named (number_among (suc n) vs w))
-        → (Aligned size (suc n) (k ∷ ks) vs → cond (bytes_eq w k.0.now) k.1 (first_spelled w ks) ≡ named (number_among (suc n) vs w))
-        → cond (bytes_eq w k.0.now) k.1 (first_spelled w ks) ≡ named (cond (same_bytes w (bytes v)) n (number_among (suc n) vs w))
-    at true e b this rest = rw (b.0, spells w (bytes v)) (held (same_bytes w (bytes v)) b.1 (this b.2))
-    at false e b this rest = rw (other (bytes v) e) (rest b)
+  spelled-named-of-length : (n : ℕ) (ks : List (Bor (List ℕ) × Symbol)) (ws : List String) → AlignedOfLength size n ks ws → first_spelled w ks ≡ named (number_among n ws w)
+  spelled-named-of-length n ks ws a = spelled-named-of w (λ v. eqb (length (bytes v)) size) (λ v. other (bytes v)) n ks ws a
 
   -- the table's word is the grammar's
-  pub spelled_is : (r : Symbol) (ks : List (Bor (List ℕ) × Symbol)) → r ≡ first_spelled w ks → Aligned size 1 ks keywords → r ≡ named (number_among 1 keywords w)
-  spelled_is r ks e a = e ∙ spelled-named 1 ks keywords a
+  pub spelled_is_of_length : (r : Symbol) (ks : List (Bor (List ℕ) × Symbol)) → r ≡ first_spelled w ks → AlignedOfLength size 1 ks keywords → r ≡ named (number_among 1 keywords w)
+  spelled_is_of_length r ks e a = e ∙ spelled-named-of-length 1 ks keywords a
 
   -- no keyword is so long
   pub other_word : ¬ (2 ≡ size) → ¬ (3 ≡ size) → ¬ (4 ≡ size) → ¬ (5 ≡ size) → ¬ (6 ≡ size) → ¬ (7 ≡ size) → ¬ (8 ≡ size) → ¬ (9 ≡ size)
       → OtherWord ≡ named (number_among 1 keywords w)
   unfolding named first_spelled
   other_word b c d e f g h i =
-      spelled-named 1 [] keywords (rw (ne_eqb 2 size b, ne_eqb 3 size c, ne_eqb 4 size d, ne_eqb 5 size e, ne_eqb 6 size f, ne_eqb 7 size g, ne_eqb 8 size h, ne_eqb 9 size i) refl)
+      spelled-named-of-length 1 [] keywords (rw (ne_eqb 2 size b, ne_eqb 3 size c, ne_eqb 4 size d, ne_eqb 5 size e, ne_eqb 6 size f, ne_eqb 7 size g, ne_eqb 8 size h, ne_eqb 9 size i) refl)
 
 -- ---- by the sort of a token
 
